@@ -1,4 +1,4 @@
-//! A path of fifty thousand directories, of which every inode number is walked without a deep stack.
+//! A test that the walk along a path of fifty thousand inode numbers needs no deep stack.
 #![tactic(auto)]
 
 #[cfg(test)]

@@ -8,7 +8,7 @@ use std::test::Fail;
 
 const DEPTH: u64 = 50_000;
 
-/// Gives the number of a name, and gives it again where memory was short.
+/// Gives a number to `name` in `parent`, and tries once more if memory was refused.
 fn given(alloc: Global, map: &mut InodeMap, parent: Number, name: &Name) -> Option<Number> {
     match map.give(alloc, parent, name) {
         Ok(number) => Some(number),
@@ -17,7 +17,7 @@ fn given(alloc: Global, map: &mut InodeMap, parent: Number, name: &Name) -> Opti
     }
 }
 
-/// Gives a number to each directory of the path, and returns the last.
+/// Gives 50,000 numbers to `name`, each in the directory of the one before, and returns the last.
 fn last_given(alloc: Global, map: &mut InodeMap, name: &Name) -> Number {
     let mut last = Number::ROOT;
     for _step in 0..DEPTH {
@@ -37,7 +37,7 @@ fn tree_of_two(alloc: Global) -> Result<Tree, Fail> {
     Ok(tree?)
 }
 
-/// Returns the files of number 3, of the last number and of number 2 in such a tree.
+/// Returns the files of number 3, of the number `last` and of number 2, in the tree of two directories.
 fn located(alloc: Global, map: &mut InodeMap, last: Number) -> Result<[Option<FileId>; 3], Fail> {
     let tree = tree_of_two(alloc)?;
     let third = map.locate(&tree, Number(3));

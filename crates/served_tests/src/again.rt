@@ -1,4 +1,4 @@
-//! Calls that take memory, each made once more where it was refused.
+//! Calls that take memory, each made once more if memory was refused.
 ghost use Rattle.std.specs.Prelude.{◌≡◌, IfOk};
 ghost use Rattle.fuse_ops.specs.Served.{new_served};
 
@@ -9,7 +9,7 @@ use fuse_wire::{Answer, Request};
 use manifest::{Manifest, ManifestFault};
 use std::alloc::Global;
 
-/// Reads a manifest, and once more where memory was refused.
+/// Reads the manifest in `text`, and tries once more if the first call failed.
 pub(crate) fn manifest_of(alloc: Global, text: &[u8]) -> Result<Manifest, ManifestFault> {
     match Manifest::read(alloc, text) {
         Ok(manifest) => Ok(manifest),
@@ -17,7 +17,7 @@ pub(crate) fn manifest_of(alloc: Global, text: &[u8]) -> Result<Manifest, Manife
     }
 }
 
-/// Begins to serve, and once more where memory was refused.
+/// Begins to serve `manifest`, and tries once more if memory was refused.
 pub(crate) fn served_of(
     alloc: Global,
     manifest: &Manifest,
@@ -31,7 +31,7 @@ pub(crate) fn served_of(
     }
 }
 
-/// Parses a name, and once more where memory was refused.
+/// Parses `bytes` as a name, and tries once more if the first call failed.
 pub(crate) fn name_of(alloc: Global, bytes: &[u8]) -> Result<Name, NameFault> {
     match Name::parse(alloc, bytes) {
         Ok(name) => Ok(name),
@@ -39,7 +39,7 @@ pub(crate) fn name_of(alloc: Global, bytes: &[u8]) -> Result<Name, NameFault> {
     }
 }
 
-/// Answers a request from a manifest, and once more where memory was refused.
+/// Answers `request` with `manifest` as the backing, and once more if memory was refused.
 pub(crate) fn answer_to(
     alloc: Global,
     served: &mut Served,

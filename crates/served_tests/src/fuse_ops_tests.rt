@@ -33,7 +33,7 @@ fn gives_each_name_one_number(rt: HostRuntime) {
     assert!(rt; all_go_so(rt.alloc(), &LOOKED_UP_AGAIN));
 }
 
-/// Of these, the second, third and fourth are bad, and the fifth is the root's.
+/// Six items: the second, third and fourth are bad, and the fifth is of the root.
 const ITEMS: [Item; 6] = [
     Item {
         node: Number(2),
@@ -163,7 +163,7 @@ fn keeps_an_unlinked_file_that_is_held(rt: HostRuntime) {
     assert!(rt; all_go_so(rt.alloc(), &UNLINKED_AND_MADE));
 }
 
-/// Number 2 is the directory `src`, and 3 is the file `a` in it.
+/// Requests with their errors. Number 2 is the directory `src`, and number 3 is the file `a` in it.
 static REFUSED: [Deed; 18] = [
     Deed::Enter(Asks::LookUp, 1, b"src", 2, Is::Directory),
     Deed::Enter(Asks::LookUp, 2, b"a", 3, Is::File),
@@ -190,8 +190,8 @@ fn answers_each_error_and_changes_nothing(rt: HostRuntime) {
     assert!(rt; all_go_so(rt.alloc(), &REFUSED));
 }
 
-/// Number 3 is the file `a`, before and after it lost its name. A file has no names in it, so that a name is missing there
-/// too, and nothing can be made in what is unlinked.
+/// Requests for a name in number 3, the file `a`, before and after `a` is unlinked. Number 3 is no directory, and the
+/// name in it is missing or can't be made. The first of these two errors is answered.
 static ASKED_OF_A_FILE: [Deed; 9] = [
     Deed::Enter(Asks::LookUp, 1, b"src", 2, Is::Directory),
     Deed::Enter(Asks::LookUp, 2, b"a", 3, Is::File),

@@ -1,6 +1,5 @@
-//! The image that a daemon hands over after a few requests, and the daemon that is restored from it. A call that is
-//! refused memory says so, and is made once more: so each allocation can be refused, one in a run (`rt try --test
-//! --fail-alloc N`).
+//! The image that a daemon hands over after a few requests, and the daemon that is restored from it. A call that was
+//! refused memory is made once more. So each allocation can be refused, one in a run (`rt try --test --fail-alloc N`).
 ghost use Rattle.std.specs.Prelude.{◌≡◌};
 
 use crate::again::{answer_to, manifest_of, name_of, served_of};
@@ -12,7 +11,7 @@ use manifest::Manifest;
 use map_codec::{HandoverFault, hand_over, take_over};
 use std::alloc::Global;
 
-/// What the kernel asks for: an operation, a directory's number, and a name in it.
+/// A request as data: an operation, a directory's number, and a name in that directory.
 type Wish = (Operation, u64, &'static [u8]);
 
 #[derive(Clone, Copy)]
@@ -22,7 +21,7 @@ enum Operation {
     Unlink,
 }
 
-/// `lib` gets number 2 and is held twice, `y` is made with number 3, and `x` of `lib` goes without a number.
+/// Requests after which `lib` has number 2 and count 2, the made file `y` has number 3, and `x` of `lib` is unlinked.
 static WISHES: [Wish; 4] = [
     (Operation::Lookup, 1, b"lib"),
     (Operation::Lookup, 1, b"lib"),
@@ -30,7 +29,7 @@ static WISHES: [Wish; 4] = [
     (Operation::Unlink, 2, b"x"),
 ];
 
-/// Makes the request of a wish.
+/// Makes the request of `wish`.
 fn request(alloc: Global, wish: Wish) -> Result<Request, NameFault> {
     let name = name_of(alloc, wish.2)?;
     let dir = Number(wish.1);
@@ -45,7 +44,7 @@ fn request(alloc: Global, wish: Wish) -> Result<Request, NameFault> {
     })
 }
 
-/// Answers each wish.
+/// Answers the requests of `wishes` one after another.
 fn answer_all(alloc: Global, served: &mut Served, manifest: &Manifest, wishes: &[Wish])
     requires over { served.old.tree.manifest ≡ manifest.now }
 {
@@ -57,7 +56,7 @@ fn answer_all(alloc: Global, served: &mut Served, manifest: &Manifest, wishes: &
     }
 }
 
-/// Hands over.
+/// Hands `served` over at `generation` in `version`, and once more if memory was refused.
 fn handed(
     alloc: Global,
     served: &Served,
@@ -70,7 +69,7 @@ fn handed(
     }
 }
 
-/// Takes over.
+/// Takes `bytes` over at `generation`, and once more if memory was refused.
 fn taken(
     alloc: Global,
     bytes: &[u8],
@@ -83,7 +82,8 @@ fn taken(
     }
 }
 
-/// Returns whether what is served hands over these bytes at generation 6, and has the numbers that the wishes gave.
+/// Returns whether `served` is handed over as `bytes` at generation 6, and has the counts and the next number that
+/// `WISHES` leave.
 fn is_as_wished(alloc: Global, served: &Served, bytes: &[u8], version: u16) -> bool {
     let map = served.map();
     let counts = map.count(Number(2)) == 2 && map.count(Number(3)) == 1;
@@ -93,7 +93,7 @@ fn is_as_wished(alloc: Global, served: &Served, bytes: &[u8], version: u16) -> b
     }
 }
 
-/// Returns whether taking over at a generation is refused.
+/// Returns whether taking `bytes` over at `generation` is refused.
 fn refuses(alloc: Global, bytes: &[u8], manifest: &Manifest, generation: u64) -> bool {
     match taken(alloc, bytes, manifest, generation) {
         Ok(served) => {
@@ -104,7 +104,7 @@ fn refuses(alloc: Global, bytes: &[u8], manifest: &Manifest, generation: u64) ->
     }
 }
 
-/// Returns whether each cut is refused.
+/// Returns whether taking over each shorter prefix of `bytes` is refused.
 fn refuses_cuts(alloc: Global, bytes: &[u8], manifest: &Manifest) -> bool {
     for len in 0..bytes.len() {
         let (front, _) = bytes.split_at(len);
@@ -115,7 +115,7 @@ fn refuses_cuts(alloc: Global, bytes: &[u8], manifest: &Manifest) -> bool {
     true
 }
 
-/// Returns whether what is served again is as it was.
+/// Takes `bytes` over, and calls `is_as_wished` with what is served then.
 fn keeps(alloc: Global, bytes: &[u8], manifest: &Manifest, version: u16) -> bool {
     match taken(alloc, bytes, manifest, 6) {
         Ok(served) => {
@@ -127,22 +127,22 @@ fn keeps(alloc: Global, bytes: &[u8], manifest: &Manifest, version: u16) -> bool
     }
 }
 
-/// The fact that a test looks at.
+/// What a test checks of a handover.
 #[derive(Clone, Copy)]
 enum Fact {
-    /// The next daemon serves the same.
+    /// The next daemon serves the same, by an image of version 1.
     Keeps,
-    /// So it does in version 2.
+    /// The next daemon serves the same, by an image of version 2.
     KeepsInSecond,
-    /// Another generation is refused.
+    /// Taking over at another generation is refused.
     Generation,
-    /// Each cut is refused.
+    /// Taking over a cut image is refused, for each cut.
     Cuts,
-    /// Another version is refused.
+    /// Handing over in a version that does not exist is refused.
     Version,
 }
 
-/// Returns whether a fact holds of what was handed over at generation 6.
+/// Returns whether `fact` holds of `bytes`, which were handed over at generation 6.
 fn holds_of(alloc: Global, bytes: &[u8], manifest: &Manifest, fact: Fact) -> bool {
     match fact {
         Fact::Keeps => keeps(alloc, bytes, manifest, 1),
@@ -154,7 +154,7 @@ fn holds_of(alloc: Global, bytes: &[u8], manifest: &Manifest, fact: Fact) -> boo
     }
 }
 
-/// Returns whether a fact holds of what is served.
+/// Hands `served` over in the version of `fact`, and returns whether `fact` holds of that.
 fn holds_for(alloc: Global, served: &Served, manifest: &Manifest, fact: Fact) -> bool {
     let version = match fact {
         Fact::KeepsInSecond => 2,
@@ -167,7 +167,7 @@ fn holds_for(alloc: Global, served: &Served, manifest: &Manifest, fact: Fact) ->
     }
 }
 
-/// Returns whether a fact holds of a daemon that answered the wishes.
+/// Returns whether `fact` holds of a new daemon that answered `WISHES`.
 fn holds_after(alloc: Global, manifest: &Manifest, fact: Fact) -> bool {
     match served_of(alloc, manifest, 4) {
         Ok(mut served) => {
@@ -180,7 +180,7 @@ fn holds_after(alloc: Global, manifest: &Manifest, fact: Fact) -> bool {
     }
 }
 
-/// Returns whether a fact holds.
+/// Calls `holds_after` with the manifest `LISTED`.
 fn holds(alloc: Global, fact: Fact) -> bool {
     match manifest_of(alloc, LISTED) {
         Ok(manifest) => {

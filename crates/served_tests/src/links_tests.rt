@@ -9,20 +9,20 @@ use std::alloc::Global;
 use std::io::BufReader;
 use std::test::Fail;
 
-/// The claim of generation 1.
+/// The text of a Claim from generation 1.
 static CLAIM: [u8; 13] = [0, 0, 0, 8, 9, 0, 0, 0, 0, 0, 0, 0, 1];
 
-/// That claim, and a frame that has nothing behind its kind.
+/// `CLAIM`, and after it the text of an Empty, which has no body.
 static TWO: [u8; 18] = [0, 0, 0, 8, 9, 0, 0, 0, 0, 0, 0, 0, 1, 0, 0, 0, 0, 3];
 
-/// Streams with a faulty frame in front, each cut where the fault shows.
+/// Streams that begin with a faulty frame, and end with the byte that shows its fault.
 static FAULTS: [(&[u8], FrameFault); 3] = [
     (&[0, 1, 0, 1], FrameFault::TooLong),
     (&[0, 0, 0, 0, 200], FrameFault::BadKind),
     (&[0, 0, 0, 7, 9, 0, 0, 0, 0, 0, 0, 1], FrameFault::BadBody),
 ];
 
-/// Reads a frame, and once more from the same place where memory was refused.
+/// Reads a frame from `bytes`, and once more from the same byte on if memory was refused.
 fn read_slice(alloc: Global, bytes: &mut &[u8]) -> Result<Option<Frame>, FrameFault> {
     let all: &[u8] = *bytes;
     match read_frame(alloc, bytes) {
@@ -34,12 +34,13 @@ fn read_slice(alloc: Global, bytes: &mut &[u8]) -> Result<Option<Frame>, FrameFa
     }
 }
 
-/// Returns whether this is the claim of generation 1.
+/// Returns whether `read` is a Claim from generation 1.
 fn is_claim(read: Result<Option<Frame>, FrameFault>) -> bool {
     matches!(read, Ok(Some(Frame::Claim { generation: 1 })))
 }
 
-/// Returns whether the claim comes by reads of these sizes, and then nothing.
+/// Reads `CLAIM` by a first read of `first` bytes and later reads of `later` bytes. Returns whether the Claim comes,
+/// and then the end.
 fn comes_by(alloc: Global, first: usize, later: usize) -> bool {
     let mut reader = Pieces {
         rest: &CLAIM,
@@ -51,7 +52,7 @@ fn comes_by(alloc: Global, first: usize, later: usize) -> bool {
     is_claim(read_frame(alloc, &mut reader)) && matches!(read_frame(alloc, &mut reader), Ok(None))
 }
 
-/// Returns whether the claim comes by reads of each two sizes.
+/// Calls `comes_by` with each two sizes from 1 to 13, and once more if the first call returned false.
 fn comes_by_all(alloc: Global) -> bool {
     for first in 1..14 {
         for later in 1..14 {
@@ -68,7 +69,7 @@ fn a_claim_comes_by_reads_of_every_size(rt: HostRuntime) {
     assert!(rt; comes_by_all(rt.alloc()));
 }
 
-/// Returns what the front of the claim's text gives.
+/// Reads a frame from the first `len` bytes of `CLAIM`.
 fn front_gives(alloc: Global, len: usize) -> Result<Option<Frame>, FrameFault> {
     if len > CLAIM.len() {
         return Ok(None);
@@ -77,7 +78,7 @@ fn front_gives(alloc: Global, len: usize) -> Result<Option<Frame>, FrameFault> {
     read_slice(alloc, &mut bytes)
 }
 
-/// Returns whether each front of the claim's text is torn.
+/// Returns whether each prefix of `CLAIM` of 1 to 12 bytes is `Torn`.
 fn fronts_are_torn(alloc: Global) -> bool {
     for len in 1..13 {
         if !matches!(front_gives(alloc, len), Err(FrameFault::Torn)) {
@@ -97,7 +98,7 @@ fn an_end_between_frames_gives_none(rt: HostRuntime) {
     assert!(rt; matches!(front_gives(rt.alloc(), 0), Ok(None)));
 }
 
-/// Returns whether a faulty frame is told as soon as it shows, though nothing follows.
+/// Returns whether a frame of each stream has its fault, though no byte follows the one that shows it.
 fn faults_are_told(alloc: Global, faults: &[(&[u8], FrameFault)]) -> bool {
     for (stream, fault) in faults {
         let mut bytes = *stream;
@@ -114,7 +115,8 @@ fn a_faulty_frame_is_told_where_it_shows(rt: HostRuntime) {
     assert!(rt; faults_are_told(rt.alloc(), &FAULTS));
 }
 
-/// Returns whether a read that fails, of one byte each, ends the frame at once.
+/// Reads `CLAIM` byte by byte, while the read at the position `fails` fails. Returns whether the fault is `Read`, and
+/// no read follows.
 fn read_fails(alloc: Global, fails: usize) -> bool {
     let mut reader = Pieces {
         rest: &CLAIM,
@@ -126,7 +128,7 @@ fn read_fails(alloc: Global, fails: usize) -> bool {
     matches!(read_frame(alloc, &mut reader), Err(FrameFault::Read)) && reader.reads == fails
 }
 
-/// Returns whether a failure of any of the reads ends the frame at once.
+/// Calls `read_fails` with each position, and once more if the first call returned false.
 fn each_read_fails(alloc: Global) -> bool {
     for fails in 1..14 {
         if !read_fails(alloc, fails) && !read_fails(alloc, fails) {
@@ -141,7 +143,7 @@ fn a_read_that_fails_is_told(rt: HostRuntime) {
     assert!(rt; each_read_fails(rt.alloc()));
 }
 
-/// Returns how often a reader is read whose every read is interrupted, where that is told as Read.
+/// Reads from a reader of which each read is interrupted. Returns how many reads are made, if the fault is `Read`.
 fn interrupted_reads(alloc: Global) -> Option<usize> {
     let mut reader = Interrupted { reads: 0 };
     match read_frame(alloc, &mut reader) {
@@ -155,7 +157,7 @@ fn an_interrupted_read_is_made_again_131072_times(rt: HostRuntime) {
     assert!(rt; interrupted_reads(rt.alloc()) == Some(131_072));
 }
 
-/// Returns whether a frame is read, and what stands behind it is left.
+/// Reads the Claim of `TWO`, and returns whether the bytes after it are left.
 fn leaves_the_rest(alloc: Global) -> bool {
     let mut bytes: &[u8] = &TWO;
     is_claim(read_slice(alloc, &mut bytes)) && bytes == &TWO[13..]
@@ -166,7 +168,7 @@ fn what_stands_behind_a_frame_is_left(rt: HostRuntime) {
     assert!(rt; leaves_the_rest(rt.alloc()));
 }
 
-/// Returns whether both frames are read by one read of the reader behind the buffer.
+/// Reads both frames of `TWO` through a buffer. Returns whether one read of the reader below the buffer suffices.
 fn is_read_once(alloc: Global) -> bool {
     let pieces = Pieces {
         rest: &TWO,
@@ -187,7 +189,7 @@ fn small_frames_cost_one_read_behind_a_buffer(rt: HostRuntime) {
     assert!(rt; is_read_once(rt.alloc()) || is_read_once(rt.alloc()));
 }
 
-/// Returns a writer that takes this count of bytes at a time.
+/// Makes a writer that takes `most` bytes at a time.
 fn sink(alloc: Global, most: usize, fails: usize, stutters: bool) -> Option<Sink> {
     match Vec::with_capacity(alloc, 16) {
         Ok(held) => Some(Sink {
@@ -201,8 +203,8 @@ fn sink(alloc: Global, most: usize, fails: usize, stutters: bool) -> Option<Sink
     }
 }
 
-/// Returns whether the writing of a claim comes to this fault, if any, with this count of bytes of its text written by
-/// this count of writes.
+/// Writes a Claim to `writer`. Returns whether that comes to `fault`, and `writes` writes took just the first `len`
+/// bytes of its text.
 fn writes_claim(
     alloc: Global,
     writer: Option<Sink>,
@@ -220,8 +222,8 @@ fn writes_claim(
     told == fault && writer.writes == writes && len <= 13 && writer.held.as_slice() == &CLAIM[..len]
 }
 
-/// Returns whether a claim is written whole, by one write where none is interrupted, and nothing by a writer that takes
-/// nothing.
+/// Returns whether a Claim is written by one write, by two if the first is interrupted, and by 13 of a byte each. With
+/// a writer that takes nothing, a fault has to come.
 fn writes(alloc: Global) -> bool {
     writes_claim(alloc, sink(alloc, 64, 0, false), None, 13, 1)
         && writes_claim(alloc, sink(alloc, 64, 0, true), None, 13, 2)
@@ -240,7 +242,8 @@ fn a_frame_is_one_write(rt: HostRuntime) {
     assert!(rt; writes(rt.alloc()) || writes(rt.alloc()));
 }
 
-/// Returns whether each write that fails, of one byte each, ends the frame at once.
+/// Writes a Claim byte by byte, while one of the 13 writes fails. Returns whether that is a fault, and no write
+/// follows.
 fn each_write_fails(alloc: Global) -> bool {
     for fails in 1..14 {
         let writer = sink(alloc, 1, fails, false);
@@ -256,7 +259,7 @@ fn a_write_that_fails_is_told(rt: HostRuntime) {
     assert!(rt; each_write_fails(rt.alloc()) || each_write_fails(rt.alloc()));
 }
 
-/// Returns whether the writing of an Ask of this length comes to this fault, if any, with this count of bytes written.
+/// Writes an Ask of `len` bytes. Returns whether that comes to `fault`, and `written` bytes are written.
 fn writes_ask(alloc: Global, len: usize, fault: Option<FrameFault>, written: usize) -> bool {
     let mut writer = Vec::new(alloc);
     let Ok(bytes) = Vec::from_elem(alloc, 7, len) else {
@@ -269,7 +272,7 @@ fn writes_ask(alloc: Global, len: usize, fault: Option<FrameFault>, written: usi
     told == fault && writer.len() == written
 }
 
-/// Returns whether the longest body is written, and nothing of one that is longer.
+/// Returns whether an Ask of the longest body is written, and nothing of one whose body is longer.
 fn writes_long(alloc: Global) -> bool {
     writes_ask(alloc, 65_536, None, 65_541)
         && writes_ask(alloc, 65_537, Some(FrameFault::TooLong), 0)

@@ -1,5 +1,5 @@
-//! Images from outside, each of their cuts and changes, and limits. Where one allocation is refused, the calls that
-//! take memory tell so, and succeed when they are made once more, as under `rt try --test --fail-alloc N`.
+//! Images from outside, each of their cuts and changes, and limits. A call that was refused memory says so, and
+//! succeeds when it is made once more, as under `rt try --test --fail-alloc N`.
 mod asking;
 mod deeds;
 mod deep_tests;
@@ -25,7 +25,7 @@ fn writes_what_it_reads(rt: HostRuntime) {
     assert!(rt; is_written_again(rt.alloc(), &CHANGED));
 }
 
-/// Returns whether each cut of bytes is refused.
+/// Returns whether each shorter prefix of `bytes` is refused as `Short`.
 fn is_each_cut_refused(alloc: Global, bytes: &[u8]) -> bool {
     for len in 0..bytes.len() {
         let (front, _) = bytes.split_at(len);
@@ -41,12 +41,13 @@ fn refuses_each_cut(rt: HostRuntime) {
     assert!(rt; is_each_cut_refused(rt.alloc(), &CHANGED));
 }
 
-/// Returns the fault of the changed image with one byte set.
+/// Returns the fault of `CHANGED` with `byte` at the index `at`, or none if that is an image.
 fn fault_with(alloc: Global, at: usize, byte: u8) -> Option<ImageFault> {
     fault_of(alloc, changed_with(at, byte).as_slice())
 }
 
-/// The first byte of the magic, the version, the first entry's mark, and its count.
+/// An index, a byte, and the fault of `CHANGED` with that byte there: in the magic, in the version, and in the mark and
+/// the count of the first entry.
 static FIRST_FAULTS: [(usize, u8, ImageFault); 4] = [
     (0, 0x46, ImageFault::BadMagic),
     (5, 9, ImageFault::BadVersion),
@@ -54,7 +55,7 @@ static FIRST_FAULTS: [(usize, u8, ImageFault); 4] = [
     (66, 0, ImageFault::ZeroUse),
 ];
 
-/// Returns whether each of these faults is told.
+/// Returns whether `CHANGED` with the byte of each row has the fault of that row.
 fn are_told(alloc: Global, faults: &[(usize, u8, ImageFault)]) -> bool {
     for (at, byte, fault) in faults {
         if fault_with(alloc, *at, *byte) != Some(*fault) {
@@ -69,7 +70,7 @@ fn tells_the_first_fault(rt: HostRuntime) {
     assert!(rt; are_told(rt.alloc(), &FIRST_FAULTS));
 }
 
-/// Returns whether these bytes, one behind the other, are no image, for this cause.
+/// Returns whether the bytes of `parts`, joined, are refused with `fault`.
 fn is_refused(alloc: Global, parts: &[&[u8]], fault: ImageFault) -> bool {
     match all(alloc, parts) {
         Ok(bytes) => fault_of(alloc, bytes.as_slice()) == Some(fault),
@@ -77,14 +78,14 @@ fn is_refused(alloc: Global, parts: &[&[u8]], fault: ImageFault) -> bool {
     }
 }
 
-/// Returns whether a byte more is refused.
+/// Returns whether `CHANGED` with a byte after it is refused.
 fn refuses_a_byte_more(alloc: Global) -> bool {
     let (whole, _) = CHANGED.split_at(147);
     is_refused(alloc, &[whole, b"\0".as_slice()], ImageFault::Rest)
 }
 
-/// Returns whether the first two entries are refused in the other order: the first has 25 bytes behind the first 54,
-/// and the second has 28.
+/// Returns whether `CHANGED` is refused once its first two entries are exchanged. After the header of 54 bytes, the
+/// first entry has 25 bytes and the second 28.
 fn refuses_exchanged(alloc: Global) -> bool {
     let (head, rest) = CHANGED.split_at(54);
     let (first, rest) = rest.split_at(25);
@@ -98,7 +99,7 @@ fn refuses_what_follows_and_what_is_exchanged(rt: HostRuntime) {
     assert!(rt; refuses_exchanged(rt.alloc()));
 }
 
-/// Returns whether bytes are refused, or are the one spelling of the image that they are read as.
+/// Returns whether `bytes` are refused, or the image read from them is written as `bytes` again.
 fn is_refused_or_spelled_so(alloc: Global, bytes: &[u8]) -> bool {
     match image_of_bytes(alloc, bytes) {
         Ok(image) => {
@@ -110,12 +111,12 @@ fn is_refused_or_spelled_so(alloc: Global, bytes: &[u8]) -> bool {
     }
 }
 
-/// Returns whether the changed image with one byte set is refused, or is the one spelling of what is read.
+/// Calls `is_refused_or_spelled_so` with `CHANGED`, in which the byte at the index `at` is `byte`.
 fn is_refused_or_spelled_with(alloc: Global, at: usize, byte: u8) -> bool {
     is_refused_or_spelled_so(alloc, changed_with(at, byte).as_slice())
 }
 
-/// Calls `is_refused_or_spelled_with` for each byte: set to 00, set to ff, and with its lowest bit turned.
+/// Calls `is_refused_or_spelled_with` for each index of `bytes`: with 0, with 0xff, and with the lowest bit turned.
 fn are_refused_or_spelled(alloc: Global, bytes: &[u8]) -> bool {
     for at in 0..bytes.len() {
         if !is_refused_or_spelled_with(alloc, at, 0)

@@ -1,5 +1,5 @@
-//! Sizes up to the limits, with ample memory. No clause can say that memory suffices: so a call that tells out of memory
-//! from some size on is found here alone.
+//! Sizes up to the limits, with ample memory. No clause can say that memory suffices. So only these tests find a call
+//! that says it is out of memory from some size on.
 mod cutting;
 mod handing;
 mod longest;
@@ -13,8 +13,8 @@ use crate::sweep_tests::making::{Making, goes_so_in_new};
 use manifest::Manifest;
 use std::alloc::Global;
 
-/// Each file up to 150 is handed on, then as many as a text of version 1 has room for, in tens, and 5,000 in version 2;
-/// and names of each length. Files are made alone too, and the limit of what is loaded goes up to 65,536.
+/// 150 files, handed on after each; 1,130, the most for a text of version 1, handed on after each ten; 5,000 in version
+/// 2, handed on after each 500. Then names of each length, 5,000 files that are not handed on, and limits up to 65,536.
 static SWEEPS: [Making; 6] = [
     Making::Handed(1, 150, 1),
     Making::Handed(1, 113, 10),
@@ -24,7 +24,7 @@ static SWEEPS: [Making; 6] = [
     Making::Limits,
 ];
 
-/// Returns the index of the first sweep that fails.
+/// Returns the index of the first of `sweeps` that fails over `manifest`, or none if all succeed.
 fn first_failed_over(alloc: Global, manifest: &Manifest, sweeps: &[Making]) -> Option<usize> {
     for index in 0..sweeps.len() {
         if !goes_so_in_new(alloc, manifest, sweeps[index]) {
@@ -34,7 +34,7 @@ fn first_failed_over(alloc: Global, manifest: &Manifest, sweeps: &[Making]) -> O
     None
 }
 
-/// Returns whether each sweep succeeds over a manifest of one file.
+/// Returns whether each of `sweeps` succeeds over the manifest `LISTED`.
 fn all_succeed(alloc: Global, sweeps: &[Making]) -> bool {
     match manifest_of(alloc, LISTED) {
         Ok(manifest) => {
@@ -51,7 +51,7 @@ fn succeeds_at_all_sizes(rt: HostRuntime) {
     assert!(rt; all_succeed(rt.alloc(), &SWEEPS));
 }
 
-/// Texts of each length up to two parts, and then up to 100 parts, in which the last part has other lengths.
+/// Each length up to 8,199, and then every 4,093rd length up to 100 parts, so that last parts of many lengths are made.
 static LENGTHS: [Lengths; 2] = [(1, 8_200, 1), (8_200, 410_000, 4_093)];
 
 #[test]

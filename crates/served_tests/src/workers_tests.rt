@@ -1,4 +1,4 @@
-//! Rounds over channels that hold a few asks, and what they leave.
+//! Rounds over channels that have a few asks, and what these rounds leave.
 mod ending_tests;
 mod full_tests;
 mod hooks;
@@ -16,8 +16,8 @@ use std::sync::atomic::Ordering;
 use std::thread::Threads;
 use workers::Stop;
 
-/// Returns whether a round of one ask each, of these uniques, has the ask of unique 2 first in its journal, and is
-/// settled exactly where no receipt is taken out of it.
+/// Serves a round of two channels with one ask each, of the uniques `first` and `second`. Returns whether the ask of
+/// unique 2 is first in the journal, and the round is settled if and only if `change` takes out no receipt.
 fn serves_second_first<R: Threads + Wait + Clock + Sync>(
     rt: &R,
     alloc: Global,
@@ -48,7 +48,7 @@ fn serves_second_first<R: Threads + Wait + Clock + Sync>(
     left == Some(wanted) && !hook.gave_up.load(Ordering::SeqCst)
 }
 
-/// Each worker has a thread of its own: where the channels were served one by one, a hook would give up.
+/// Each worker has a thread of its own. If the channels were served one by one, the hook would give up.
 #[test]
 fn channels_are_served_side_by_side(rt: HostRuntime) {
     let served = serves_second_first(&rt, rt.alloc(), 1, 2, Change::None);
@@ -67,7 +67,7 @@ fn a_receipt_that_is_taken_out_unsettles_a_round(rt: HostRuntime) {
     assert!(rt; served);
 }
 
-/// Each worker's asks stand in the journal in the order in which it took them.
+/// The journal has the asks of each worker in the order in which that worker took them.
 #[test]
 fn receipts_that_are_exchanged_unsettle_a_round(rt: HostRuntime) {
     let wanted = Left {
@@ -91,7 +91,7 @@ fn receipts_that_are_exchanged_unsettle_a_round(rt: HostRuntime) {
     assert!(rt; as_wanted);
 }
 
-/// Passes also where one allocation is refused: a round gives back what it was handed, and is served again.
+/// Passes also if one allocation is refused: the round gives back what it was handed, and is served again.
 #[test]
 fn one_turn_takes_one_ask_of_three(rt: HostRuntime) {
     let wanted = Left {
@@ -115,7 +115,7 @@ fn one_turn_takes_one_ask_of_three(rt: HostRuntime) {
     assert!(rt; as_wanted);
 }
 
-/// Passes also where one allocation is refused. A stop that is asked for once more stays asked for.
+/// Passes also if one allocation is refused. A stop that is asked for twice stays asked for.
 #[test]
 fn a_stop_that_was_asked_for_takes_nothing(rt: HostRuntime) {
     let wanted = Left {

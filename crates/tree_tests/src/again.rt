@@ -1,10 +1,10 @@
-//! Calls that take memory, each made once more where it was refused.
+//! Calls that take memory, each made once more if memory was refused.
 use checkout::Tree;
 use eden_base::{Name, NoMemory};
 use manifest::{Manifest, ManifestFault};
 use std::alloc::Global;
 
-/// Reads a text, once more where it was refused: a text that is read was refused for memory alone.
+/// Reads `text`, and once more if the first call failed. A `text` that is a manifest fails for memory alone.
 pub(crate) fn read_again(alloc: Global, text: &[u8]) -> Result<Manifest, ManifestFault> {
     match Manifest::read(alloc, text) {
         Ok(manifest) => Ok(manifest),
@@ -12,7 +12,7 @@ pub(crate) fn read_again(alloc: Global, text: &[u8]) -> Result<Manifest, Manifes
     }
 }
 
-/// Makes the tree of a manifest, again where memory was refused.
+/// Makes the tree of `manifest`, and tries once more if memory was refused.
 fn tree_again(alloc: Global, manifest: &Manifest) -> Option<Tree> {
     match Tree::of(alloc, manifest) {
         Ok(tree) => Some(tree),
@@ -20,7 +20,7 @@ fn tree_again(alloc: Global, manifest: &Manifest) -> Option<Tree> {
     }
 }
 
-/// Makes the tree of a text, again where memory was refused.
+/// Makes the tree of the manifest in `text`. Each call is made once more if memory was refused.
 pub(crate) fn tree_of(alloc: Global, text: &[u8]) -> Option<Tree> {
     match read_again(alloc, text) {
         Ok(manifest) => {
@@ -32,7 +32,7 @@ pub(crate) fn tree_of(alloc: Global, text: &[u8]) -> Option<Tree> {
     }
 }
 
-/// Returns a name, which it makes once more where memory was refused.
+/// Makes a name of the bytes `name`, and tries once more if memory was refused.
 pub(crate) fn parsed(alloc: Global, name: &[u8]) -> Option<Name> {
     match Name::parse(alloc, name) {
         Ok(name) => Some(name),

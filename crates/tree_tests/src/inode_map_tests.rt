@@ -1,4 +1,4 @@
-//! Which numbers an inode map gives, and what each of its calls tells of them.
+//! The numbers that an inode map gives, and what each call says of them.
 pub(crate) mod deeds;
 mod deep_tests;
 mod one_entry_tests;

@@ -1,4 +1,4 @@
-//! What a small manifest says, and the first fault of lines that are none.
+//! What a small manifest says, and the first fault of texts that are no manifests.
 use crate::again::read_again;
 use crate::small::SMALL;
 use eden_base::{FileId, Kind, NoMemory};
@@ -7,13 +7,13 @@ use std::alloc::{AllocError, Global};
 
 const HEAD: &[u8] = b"commit 0123456789abcdef0123456789abcdef01234567\n";
 
-/// A commit as in the others, in upper case.
+/// A line like `HEAD`, with capitals in its commit.
 const UPPER: &[u8] = b"commit 0123456789ABCDEF0123456789abcdef01234567\n";
 
 const ODD: &[u8] =
     b"commit 0123456789abcdef0123456789abcdef01234567\nfile 0644 9223372036854775807 z\nfile 7777 0 a b  c\nfile 0000 0 \xff\x01\xe9\ndir z\r\ndir ...\ndir  \ndir a\ndir a/a\ndir a/a/a\nfile 0644 1 a/a/a/a\n";
 
-/// A manifest up to the name of a directory.
+/// The text of a manifest up to the name of a directory.
 const DIR_LINE: &[u8] = b"commit 0123456789abcdef0123456789abcdef01234567\ndir ";
 
 const BAD_LINES: &[u8] = b";dir; dir z;Dir z;link z;commit z;file;file 0644;file 0644 1";
@@ -34,8 +34,8 @@ const TWICE: &[u8] = b"dir src;dir src/a;file 0644 1 src;file 0644 1 src/b;dir R
 const NO_COMMITS: &[u8] =
     b";commit ;commit 0123456789abcdef0123456789abcdef0123456;commit 0123456789abcdef0123456789abcdef012345678;commit 0123456789abcdefg123456789abcdef01234567;commit 0123456789abcdef0123456789abcdef01234567\r;commit  123456789abcdef0123456789abcdef01234567;Commit 0123456789abcdef0123456789abcdef01234567;dir src";
 
-/// Texts: what stands above a line, the lines that are tried there, parted by semicolons, and what ends each; then the
-/// line and the kind of their fault.
+/// A table of texts that are refused: what stands above a line, the lines to try there, parted by semicolons, and what
+/// ends each line. Then the line and the kind of the fault.
 type Row = (
     &'static [u8],
     &'static [u8],
@@ -44,7 +44,7 @@ type Row = (
     ManifestFaultKind,
 );
 
-/// Lines behind those of `SMALL`, first lines, lines that are not ended, and a name that is too long.
+/// Rows of bad texts: lines after those of `SMALL`, first lines, lines without an end, and a name that is too long.
 static ROWS: [Row; 11] = [
     (SMALL, BAD_LINES, b"\n", 6, ManifestFaultKind::BadLine),
     (SMALL, BAD_MODES, b"\n", 6, ManifestFaultKind::BadMode),
@@ -65,14 +65,14 @@ static ROWS: [Row; 11] = [
     (DIR_LINE, &[b'x'; 256], b"\n", 2, ManifestFaultKind::BadPath),
 ];
 
-/// Puts a line behind what stands above it, and an end behind the line.
+/// Appends `above`, `line` and `end` to `text`.
 fn put_text(text: &mut Vec<u8>, above: &[u8], line: &[u8], end: &[u8]) -> Result<(), AllocError> {
     text.extend_from_slice(above)?;
     text.extend_from_slice(line)?;
     text.extend_from_slice(end)
 }
 
-/// Returns whether a text is refused for this fault.
+/// Returns whether `text` is refused with `fault`.
 fn is_fault(alloc: Global, text: &[u8], fault: ManifestFault) -> bool {
     match Manifest::read(alloc, text) {
         Ok(manifest) => {
@@ -83,7 +83,7 @@ fn is_fault(alloc: Global, text: &[u8], fault: ManifestFault) -> bool {
     }
 }
 
-/// Returns whether a text of three parts is refused for this fault.
+/// Returns whether the text of `above`, `line` and `end` is refused with `fault`.
 fn is_bad_line(alloc: Global, above: &[u8], line: &[u8], end: &[u8], fault: ManifestFault) -> bool {
     let mut text = Vec::new(alloc);
     let is_put = put_text(&mut text, above, line, end).is_ok();
@@ -92,7 +92,7 @@ fn is_bad_line(alloc: Global, above: &[u8], line: &[u8], end: &[u8], fault: Mani
     is_refused
 }
 
-/// Returns whether each line of a row is refused as the row says.
+/// Returns whether each line of `row` is refused with the fault of `row`.
 fn are_bad_lines(alloc: Global, row: Row) -> bool {
     let (above, lines, end, line, kind) = row;
     for bytes in lines.split(|byte| *byte == b';') {
@@ -103,7 +103,7 @@ fn are_bad_lines(alloc: Global, row: Row) -> bool {
     true
 }
 
-/// Returns the index of the first row with another fault.
+/// Returns the index of the first row of `ROWS` that has another fault, or none.
 fn first_untold(alloc: Global) -> Option<usize> {
     for place in 0..ROWS.len() {
         if !are_bad_lines(alloc, ROWS[place]) {
@@ -118,18 +118,18 @@ fn tells_the_first_fault(rt: HostRuntime) {
     assert!(rt; first_untold(rt.alloc()).is_none());
 }
 
-/// The commit of each of these texts.
+/// The commit that each text of these tests names.
 static COMMIT: [u8; 20] = [
     0x01, 0x23, 0x45, 0x67, 0x89, 0xab, 0xcd, 0xef, 0x01, 0x23, 0x45, 0x67, 0x89, 0xab, 0xcd, 0xef,
     0x01, 0x23, 0x45, 0x67,
 ];
 
-/// Returns whether a manifest has that commit.
+/// Returns whether `manifest` has the commit `COMMIT`.
 fn has_commit(manifest: &Manifest) -> bool {
     manifest.commit() == COMMIT
 }
 
-/// Returns whether a text is a manifest of that commit with `lines` lines below it.
+/// Returns whether `text` is a manifest of `COMMIT` with `lines` lines after the commit.
 fn is_read(alloc: Global, text: &[u8], lines: usize) -> bool {
     match Manifest::read(alloc, text) {
         Ok(manifest) => {
@@ -144,10 +144,11 @@ fn is_read(alloc: Global, text: &[u8], lines: usize) -> bool {
 const LONGEST: &[u8] =
     b"commit 0123456789abcdef0123456789abcdef01234567\ndir xxxxxxxxxxxxxxxxxxxxxxxxxxxxxxxxxxxxxxxxxxxxxxxxxxxxxxxxxxxxxxxxxxxxxxxxxxxxxxxxxxxxxxxxxxxxxxxxxxxxxxxxxxxxxxxxxxxxxxxxxxxxxxxxxxxxxxxxxxxxxxxxxxxxxxxxxxxxxxxxxxxxxxxxxxxxxxxxxxxxxxxxxxxxxxxxxxxxxxxxxxxxxxxxxxxxxxxxxxxxxxxxxxxxxxxxxxxxxxxxxxxxxxxxxxxxxxx\n";
 
-/// Odd names and great sizes, no line, a commit in upper case, and a name of 255 bytes; and how many lines each has.
+/// Texts that are read, each with its count of lines: odd names and great sizes, no line, a commit in capitals, and a
+/// name of 255 bytes.
 static TAKEN: [(&[u8], usize); 4] = [(ODD, 10), (HEAD, 0), (UPPER, 0), (LONGEST, 1)];
 
-/// Returns whether each of those is read.
+/// Returns whether each text of `TAKEN` is read, with its count of lines.
 fn are_read(alloc: Global) -> bool {
     for (text, lines) in &TAKEN {
         if !is_read(alloc, text, *lines) {
@@ -162,7 +163,7 @@ fn takes_odd_names_and_a_commit_in_either_case(rt: HostRuntime) {
     assert!(rt; are_read(rt.alloc()));
 }
 
-/// Returns whether a fault is told in these words.
+/// Returns whether `fault` is written in `words`.
 fn is_worded(alloc: Global, fault: ManifestFault, words: &str) -> bool {
     let mut text = String::new(alloc);
     write!(text, "fault: {fault}").is_ok() && text.as_str() == words
@@ -175,7 +176,7 @@ fn tells_a_fault_as_a_script_does(rt: HostRuntime) {
     assert!(rt; is_worded(rt.alloc(), fault, "fault: line 1: NoCommit"));
 }
 
-/// Puts a commit and as many files as there may be.
+/// Appends a commit and 65,535 files, the most that a manifest can have.
 fn put_files(text: &mut String) -> Result<(), AllocError> {
     text.push_str("commit 0123456789abcdef0123456789abcdef01234567\n")?;
     for i in 0..65535u32 {
@@ -184,7 +185,7 @@ fn put_files(text: &mut String) -> Result<(), AllocError> {
     Ok(())
 }
 
-/// Returns whether the root of a manifest has the last of them.
+/// Returns whether `text` is a manifest with the last file of `put_files` in its root.
 fn has_last_file(alloc: Global, text: &[u8]) -> bool {
     match Manifest::read(alloc, text) {
         Ok(manifest) => {
@@ -196,12 +197,12 @@ fn has_last_file(alloc: Global, text: &[u8]) -> bool {
     }
 }
 
-/// Returns a fault of line 65,537.
+/// Returns a fault of this `kind` at line 65,537.
 fn last_fault(kind: ManifestFaultKind) -> ManifestFault {
     ManifestFault { line: 65537, kind }
 }
 
-/// Returns whether as many files as there may be are taken.
+/// Returns whether a manifest with the most files is read.
 fn takes_65536(alloc: Global) -> bool {
     let mut full = String::new(alloc);
     put_files(&mut full).is_ok() && has_last_file(alloc, full.as_bytes())
@@ -212,7 +213,7 @@ fn takes_65536_lines(rt: HostRuntime) {
     assert!(rt; takes_65536(rt.alloc()));
 }
 
-/// Returns whether a line behind those files is refused for its first fault.
+/// Returns whether each of three lines after those of `full` is refused, for the first of its faults.
 fn are_too_many(alloc: Global, full: &[u8]) -> bool {
     use ManifestFaultKind::{BadLine, TooManyLines, Twice};
     is_bad_line(
@@ -225,7 +226,7 @@ fn are_too_many(alloc: Global, full: &[u8]) -> bool {
         && is_bad_line(alloc, full, b"dir f0", b"\n", last_fault(Twice))
 }
 
-/// Returns whether a manifest with the most files is refused once it has a line more.
+/// Makes the text with the most files, and calls `are_too_many` with it.
 fn refuses_a_line_more(alloc: Global) -> bool {
     let mut full = String::new(alloc);
     put_files(&mut full).is_ok() && are_too_many(alloc, full.as_bytes())
@@ -236,7 +237,7 @@ fn tells_each_fault_of_line_65537(rt: HostRuntime) {
     assert!(rt; refuses_a_line_more(rt.alloc()));
 }
 
-/// Puts a commit, then `directories` directories, each in the one before, and then one that stands below two more.
+/// Appends a commit and `directories` directories, each in the one before, and then one whose parent is missing.
 fn put_paths(text: &mut String, path: &mut String, directories: u32) -> Result<(), AllocError> {
     text.push_str("commit 0123456789abcdef0123456789abcdef01234567\n")?;
     path.push_str("d")?;
@@ -247,7 +248,8 @@ fn put_paths(text: &mut String, path: &mut String, directories: u32) -> Result<(
     writeln!(text, "dir {path}/d")
 }
 
-/// Returns whether the directory behind 200 is told to have no parent.
+/// Returns whether 200 directories, one below the other, are read, and the directory after them is refused for its
+/// missing parent.
 fn takes_200_deep(alloc: Global) -> bool {
     let mut text = String::new(alloc);
     let mut path = String::new(alloc);
@@ -272,7 +274,7 @@ static SMALL_LINES: [Listed; 4] = [
     (1, b"README", Kind::File, 0o644, 7),
 ];
 
-/// Returns whether a line has the values of a row.
+/// Returns whether `line` has the values of `row`.
 fn says(line: &Line, row: Listed) -> bool {
     let (dir, name, kind, perm, size) = row;
     line.dir.0 == dir
@@ -282,7 +284,7 @@ fn says(line: &Line, row: Listed) -> bool {
         && line.size == size
 }
 
-/// Returns whether the lines have the values of these rows. It takes no memory.
+/// Returns whether `lines` have the values of `rows`. Takes no memory.
 fn say(lines: &[Line], rows: &[Listed]) -> bool {
     if lines.len() != rows.len() {
         return false;
@@ -295,12 +297,12 @@ fn say(lines: &[Line], rows: &[Listed]) -> bool {
     true
 }
 
-/// Returns whether the manifest is what `SMALL` says; takes no memory.
+/// Returns whether `manifest` says what `SMALL` does. Takes no memory.
 fn is_small(manifest: &Manifest) -> bool {
     has_commit(manifest) && say(manifest.lines(), &SMALL_LINES)
 }
 
-/// Returns whether what a manifest shares is what `SMALL` says.
+/// Shares `manifest`, and returns whether what is shared says what `SMALL` does.
 fn shares_small(manifest: &Manifest) -> bool {
     match manifest.share() {
         Ok(shared) => is_small(&shared),
@@ -308,7 +310,7 @@ fn shares_small(manifest: &Manifest) -> bool {
     }
 }
 
-/// Returns whether `SMALL` is read and shared as what it says.
+/// Reads and shares `SMALL`, and returns whether both say what `SMALL` does.
 fn reads_small(alloc: Global) -> bool {
     match read_again(alloc, SMALL) {
         Ok(manifest) => is_small(&manifest) && shares_small(&manifest),
@@ -316,8 +318,7 @@ fn reads_small(alloc: Global) -> bool {
     }
 }
 
-/// Passes also where one allocation is refused, as the next one does:
-/// `rt try --test --fail-alloc N -- again_after_memory_was_refused`.
+/// Passes also if one allocation is refused: `rt try --test --fail-alloc N -- again_after_memory_was_refused`.
 #[test]
 fn reads_and_shares_again_after_memory_was_refused(rt: HostRuntime) {
     assert!(rt; reads_small(rt.alloc()));

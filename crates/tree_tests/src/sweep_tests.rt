@@ -1,5 +1,5 @@
-//! Sizes up to the limits, with ample memory. No clause can say that memory suffices: so a call that tells out of
-//! memory from some size on is found here alone.
+//! Sizes up to the limits, with ample memory. No clause can say that memory suffices. So only these tests find a call
+//! that says it is out of memory from some size on.
 mod maps;
 mod texts;
 mod trees;
@@ -9,29 +9,30 @@ use crate::sweep_tests::texts::{are_names_read, is_each_count_read};
 use crate::sweep_tests::trees::{are_made, are_names_made};
 use std::alloc::Global;
 
-/// A subject that is made in many sizes.
+/// What a sweep makes in many sizes.
 #[derive(Clone, Copy)]
 enum Sweep {
-    /// Manifests of ever more lines.
+    /// Manifests, each with one line more than the one before.
     Lines,
-    /// A manifest with names of each length.
+    /// A manifest with a name of each length.
     ListedNames,
-    /// A tree in which `count` files are made, each in the directory made before or all in the root.
+    /// A tree in which `count` directories are made: each in the one before if `deep`, else all in the root.
     Files {
         count: u64,
         deep: bool,
     },
-    /// A tree in which names of each length are made.
+    /// A tree in which a name of each length is made.
     MadeNames,
-    /// A map in which `count` numbers are given, each in the directory of the one before or all in the root.
+    /// A map in which `count` numbers are given: each in the directory of the one before if `deep`, else all in the
+    /// root.
     Numbers {
         count: u64,
         deep: bool,
         giving: Giving,
     },
-    /// A map in which names of each length get a number.
+    /// A map in which a name of each length gets a number.
     GivenNames,
-    /// Maps with ever higher limits of what is loaded.
+    /// Maps that may keep ever more attributes loaded.
     Limits,
 }
 
@@ -71,7 +72,7 @@ static SWEEPS: [Sweep; 11] = [
     Sweep::Limits,
 ];
 
-/// Returns whether each call of a sweep succeeds.
+/// Returns whether each call of `sweep` succeeds.
 fn succeeds(alloc: Global, sweep: Sweep) -> bool {
     match sweep {
         Sweep::Lines => is_each_count_read(alloc),
@@ -88,7 +89,7 @@ fn succeeds(alloc: Global, sweep: Sweep) -> bool {
     }
 }
 
-/// Returns the index of the first sweep that fails.
+/// Returns the index of the first of `sweeps` that fails, or none if all succeed.
 fn first_failed(alloc: Global, sweeps: &[Sweep]) -> Option<usize> {
     for index in 0..sweeps.len() {
         if !succeeds(alloc, sweeps[index]) {
@@ -103,5 +104,5 @@ fn succeeds_at_all_sizes(rt: HostRuntime) {
     assert!(rt; first_failed(rt.alloc(), &SWEEPS).is_none());
 }
 
-/// As many bytes as a name can have.
+/// A name of the greatest length.
 static LONGEST_NAME: [u8; 255] = [b'n'; 255];

@@ -1,4 +1,4 @@
-//! Worked examples: what the kernel may ask and when, and the way of an ask, an item and a reply.
+//! Worked examples: what the kernel may ask and when, and how asks, items and replies pass through the broker.
 pub(crate) mod deeds;
 
 use crate::broker_core_tests::deeds::{Deed, Said, Wish, all_go_so};
@@ -7,7 +7,7 @@ use eden_base::{ClaimFault, DaemonId, Errno, Number};
 use fuse_wire::Item;
 use std::alloc::Global;
 
-/// Daemon 1 serves at generation 1.
+/// Daemon 1 mounts, at generation 1.
 const SERVE: Deed = Deed::TryMount(1, Ok(1));
 
 const SEAT: Seat = Seat {
@@ -134,8 +134,8 @@ fn refuses_who_has_not_the_seat(rt: HostRuntime) {
     assert!(rt; all_go_so(rt.alloc(), &WITHOUT_THE_SEAT));
 }
 
-/// Posts a reply twice while the look-up of unique 1 is taken and that of unique 2 waits. Returns whether the first
-/// post has this outcome, and the second is NotAsked.
+/// Posts `said` for `unique` twice, while the lookup of unique 1 is taken and that of unique 2 waits. Returns whether
+/// the first post comes to `posted`, and the second to NotAsked.
 fn is_posted_so(alloc: Global, unique: u64, said: Said, posted: Result<(), PostFault>) -> bool {
     let deeds = [
         SERVE,
@@ -161,7 +161,7 @@ static REPLIES: [(u64, Said, Result<(), PostFault>); 9] = [
     (3, Said::Error(Errno::EIO), NOT_ASKED),
 ];
 
-/// Calls `is_posted_so` with each of these replies.
+/// Calls `is_posted_so` with each row of `replies`.
 fn are_posted_so(alloc: Global, replies: &[(u64, Said, Result<(), PostFault>)]) -> bool {
     for (unique, said, posted) in replies {
         if !is_posted_so(alloc, *unique, *said, *posted) {
@@ -210,7 +210,8 @@ fn gives_what_came_first_first(rt: HostRuntime) {
     assert!(rt; all_go_so(rt.alloc(), &FIRST_FIRST));
 }
 
-/// Lets `items` items wait, and returns whether takes give `first` items, then `second` items, and then none.
+/// Lets one ask and `items` items wait. Returns whether two takes give `first` items and then `second`, and a third
+/// gives nothing. An ask counts as 0 items.
 fn are_taken(alloc: Global, items: u64, first: usize, second: usize) -> bool {
     let deeds = [
         SERVE,
@@ -226,7 +227,7 @@ fn are_taken(alloc: Global, items: u64, first: usize, second: usize) -> bool {
 
 static BATCHES: [(u64, usize, usize); 4] = [(1, 0, 1), (2, 0, 2), (255, 0, 255), (256, 256, 0)];
 
-/// Calls `are_taken` with each row.
+/// Calls `are_taken` with each row of `batches`.
 fn are_all_taken(alloc: Global, batches: &[(u64, usize, usize)]) -> bool {
     for (items, first, second) in batches {
         if !are_taken(alloc, *items, *first, *second) {

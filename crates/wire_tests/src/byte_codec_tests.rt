@@ -1,5 +1,5 @@
-//! Fields with their highest byte first, both ways, and the fault at each cut. Where an allocation is refused a test
-//! makes it once more, so every test here passes under `rt try --test --fail-alloc N`, for each N.
+//! Fields that are written and read with their highest byte first, and the fault at each cut. A refused allocation is
+//! made once more, so each test here passes under `rt try --test --fail-alloc N`, for each N.
 ghost use Rattle.std.specs.Prelude.{IfOk};
 ghost use Rattle.byte_codec.specs.Writing.{HasRoom};
 
@@ -10,19 +10,19 @@ use byte_codec::{
 use std::alloc::Global;
 use std::test::Fail;
 
-/// A byte, numbers of two, four and eight bytes, and three bytes as they are.
+/// A byte, integers of two, four and eight bytes, and three letters.
 const TEXT: [u8; 18] = [
     0x7f, 0x01, 0x02, 0xfe, 0xdc, 0xba, 0x98, 0x01, 0x23, 0x45, 0x67, 0x89, 0xab, 0xcd, 0xef, b'a',
     b'b', b'c',
 ];
 
-/// What a reader tells where bytes are cut off.
+/// The fault that the readers are to return if bytes are cut off.
 #[derive(Clone, Copy, Debug, PartialEq, Eq)]
 enum Cut {
     Short,
 }
 
-/// Takes a buffer with room for `TEXT`, once more where memory was refused.
+/// Makes a buffer with room for `TEXT`, and tries once more if memory was refused.
 fn buffer(alloc: Global) -> Result<Vec<u8>, Fail>
     ensures room { IfOk result (λ out. HasRoom out 18) }
 {
@@ -32,7 +32,7 @@ fn buffer(alloc: Global) -> Result<Vec<u8>, Fail>
     }
 }
 
-/// Returns whether `bytes` have all fields of `TEXT`, or the fault where one is cut off.
+/// Returns whether `bytes` are the fields of `TEXT`, or `Short` if a field is cut off.
 fn has_fields(bytes: &[u8]) -> Result<bool, Cut> {
     let (byte, rest) = byte_at(bytes, Cut::Short)?;
     let (two, rest) = u16_at(rest, Cut::Short)?;
@@ -49,7 +49,7 @@ fn has_fields(bytes: &[u8]) -> Result<bool, Cut> {
     )
 }
 
-/// Puts the fields of `TEXT` at the end of `out`.
+/// Appends the fields of `TEXT` to `out`.
 #[tactic(auto, using(byte_codec::proofs::WriteLemmas::fields_written))]
 fn put_fields(out: &mut Vec<u8>)
     requires room { HasRoom out.old 18 }

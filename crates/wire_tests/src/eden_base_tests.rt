@@ -1,16 +1,15 @@
-//! Names of all kinds, limits, and that calls succeed: where one allocation is refused, those that take memory tell so,
-//! and succeed when they are made once more. So every test here passes under `rt try --test --fail-alloc N`, for
-//! each N.
+//! Names of all kinds, and limits. A call that was refused memory says so, and succeeds when it is made once more. So
+//! each test here passes under `rt try --test --fail-alloc N`, for each N.
 use crate::again::{parse, room};
 use eden_base::{Name, NameFault, NoMemory, Perm};
 use std::alloc::Global;
 use std::cmp::Ordering;
 use std::test::Fail;
 
-/// As many bytes as a name can have.
+/// A name of the greatest length.
 static LONGEST: [u8; 255] = [b'n'; 255];
 
-/// Calls `Name::copy`, and once more where memory was refused.
+/// Calls `Name::copy`, and once more if memory was refused.
 fn copy(alloc: Global, name: &Name) -> Result<Name, NoMemory> {
     match name.copy(alloc) {
         Ok(copy) => Ok(copy),
@@ -18,7 +17,7 @@ fn copy(alloc: Global, name: &Name) -> Result<Name, NoMemory> {
     }
 }
 
-/// Returns the fault of bytes that are no name.
+/// Returns the fault if `bytes` are no name, else none.
 fn fault_of(alloc: Global, bytes: &[u8]) -> Option<NameFault> {
     match Name::parse(alloc, bytes) {
         Ok(_) => None,
@@ -56,7 +55,7 @@ fn parses_a_name_to_a_room(rt: HostRuntime) -> Result<(), Fail> {
     Ok(())
 }
 
-/// Returns whether a name of these bytes has them, and so do its copies.
+/// Returns whether the name that is read from `bytes` has these bytes, and equals its two copies.
 fn is_copied(alloc: Global, bytes: &[u8]) -> Result<bool, Fail> {
     let name = parse(alloc, bytes)?;
     let copied = copy(alloc, &name)?;

@@ -1,5 +1,5 @@
-//! Texts both ways, in every cut, and that calls succeed: a call that was refused memory is made once more, so every
-//! test here passes under `rt try --test --fail-alloc N`, for each N.
+//! Texts of frames, read in every cut and written again. A call that was refused memory is made once more, so each test
+//! here passes under `rt try --test --fail-alloc N`, for each N.
 mod vectors;
 
 use crate::frames_tests::vectors::{CLAIM, FAULTS, TEXTS};
@@ -8,7 +8,7 @@ use frames::{Frame, FrameFault, FrameReader};
 use std::alloc::Global;
 use std::test::Fail;
 
-/// Calls `feed`, and once more where memory was refused.
+/// Calls `feed`, and once more if memory was refused.
 pub(crate) fn feed(reader: &mut FrameReader, piece: &[u8]) -> Result<(), FrameFault> {
     match reader.feed(piece) {
         Err(FrameFault::NoMemory) => reader.feed(piece),
@@ -16,7 +16,7 @@ pub(crate) fn feed(reader: &mut FrameReader, piece: &[u8]) -> Result<(), FrameFa
     }
 }
 
-/// Calls `next`, and once more where memory was refused.
+/// Calls `next`, and once more if memory was refused.
 pub(crate) fn next(reader: &mut FrameReader) -> Result<Option<Frame>, FrameFault> {
     match reader.next() {
         Err(FrameFault::NoMemory) => reader.next(),
@@ -24,7 +24,7 @@ pub(crate) fn next(reader: &mut FrameReader) -> Result<Option<Frame>, FrameFault
     }
 }
 
-/// Calls `write`, and once more where memory was refused.
+/// Calls `write`, and once more if memory was refused.
 pub(crate) fn write(alloc: Global, frame: &Frame) -> Result<Vec<u8>, FrameFault> {
     match frame.write(alloc) {
         Err(FrameFault::NoMemory) => frame.write(alloc),
@@ -32,7 +32,7 @@ pub(crate) fn write(alloc: Global, frame: &Frame) -> Result<Vec<u8>, FrameFault>
     }
 }
 
-/// Returns whether the reader has this frame and no other, by its text.
+/// Returns whether just one frame comes out of `reader`, and is written as `text`.
 fn has_only(alloc: Global, reader: &mut FrameReader, text: &[u8]) -> bool {
     let Ok(Some(frame)) = next(reader) else {
         return false;
@@ -46,7 +46,8 @@ fn has_only(alloc: Global, reader: &mut FrameReader, text: &[u8]) -> bool {
     same && matches!(next(reader), Ok(None))
 }
 
-/// Returns whether a frame comes out of its text where that is cut in two at an index.
+/// Feeds `text` in two pieces, cut at the index `cut`. Returns whether its frame comes out once all bytes are fed, and
+/// not before. Returns true, and feeds nothing, if `cut` lies beyond the end of `text`.
 pub(crate) fn comes_out(alloc: Global, text: &[u8], cut: usize) -> bool {
     if cut > text.len() {
         return true;
@@ -65,7 +66,7 @@ pub(crate) fn comes_out(alloc: Global, text: &[u8], cut: usize) -> bool {
     has_only(alloc, &mut reader, text) && reader.finish().is_ok()
 }
 
-/// Returns whether a frame comes out of its text in every cut of the first bytes.
+/// Calls `comes_out` with `text` and each index below 32.
 fn comes_out_of_each_cut(alloc: Global, text: &[u8]) -> bool {
     for cut in 0..32 {
         if !comes_out(alloc, text, cut) {
@@ -75,7 +76,7 @@ fn comes_out_of_each_cut(alloc: Global, text: &[u8]) -> bool {
     true
 }
 
-/// Returns whether every frame comes out of its text in every cut.
+/// Calls `comes_out_of_each_cut` with each of `texts`.
 fn all_come_out(alloc: Global, texts: &[&[u8]]) -> bool {
     for text in texts {
         if !comes_out_of_each_cut(alloc, text) {
@@ -90,7 +91,7 @@ fn a_text_is_read_and_written_again_in_every_cut(rt: HostRuntime) {
     assert!(rt; all_come_out(rt.alloc(), &TEXTS));
 }
 
-/// Returns whether the claim is read as a claim from generation 1.
+/// Returns whether `CLAIM` is read as a Claim from generation 1.
 fn is_claim(alloc: Global) -> bool {
     let mut reader = FrameReader::new(alloc);
     feed(&mut reader, &CLAIM).is_ok()
@@ -102,7 +103,8 @@ fn a_claim_is_read_as_one(rt: HostRuntime) {
     assert!(rt; is_claim(rt.alloc()));
 }
 
-/// Returns whether a stream has this fault, and keeps it: a torn stream tells it at its end, a faulty one before.
+/// Returns whether the stream `bytes` has this `fault`. `Torn` is returned by `finish`; each other fault by `next`, and
+/// by `feed` from then on.
 fn is_at_fault(alloc: Global, bytes: &[u8], fault: FrameFault) -> bool {
     let mut reader = FrameReader::new(alloc);
     if feed(&mut reader, bytes).is_err() {
@@ -120,7 +122,7 @@ fn is_at_fault(alloc: Global, bytes: &[u8], fault: FrameFault) -> bool {
     stands && reader.finish() == end
 }
 
-/// Returns whether each stream is at its fault.
+/// Calls `is_at_fault` with each stream and its fault.
 fn all_are_at_fault(alloc: Global, faults: &[(&[u8], FrameFault)]) -> bool {
     for (bytes, fault) in faults {
         if !is_at_fault(alloc, bytes, *fault) {
@@ -135,7 +137,7 @@ fn a_fault_is_told_and_stands(rt: HostRuntime) {
     assert!(rt; all_are_at_fault(rt.alloc(), &FAULTS));
 }
 
-/// Returns a frame of `len` bytes that are all the same.
+/// Makes an Ask of `len` equal bytes, and tries once more if memory was refused.
 fn long_ask(alloc: Global, len: usize) -> Result<Frame, FrameFault> {
     match Vec::from_elem(alloc, 7, len) {
         Ok(bytes) => Ok(Frame::Ask(Bytes::of(bytes))),
@@ -146,7 +148,7 @@ fn long_ask(alloc: Global, len: usize) -> Result<Frame, FrameFault> {
     }
 }
 
-/// Returns whether a frame with `len` bytes is written and read.
+/// Returns whether an Ask of `len` bytes is written, and read from its text.
 fn goes_through(alloc: Global, len: usize) -> bool {
     let Ok(frame) = long_ask(alloc, len) else {
         return false;
@@ -159,7 +161,7 @@ fn goes_through(alloc: Global, len: usize) -> bool {
     }
 }
 
-/// Returns whether a frame with `len` bytes is too long.
+/// Returns whether an Ask of `len` bytes is refused as too long.
 fn is_too_long(alloc: Global, len: usize) -> bool {
     match long_ask(alloc, len) {
         Ok(frame) => {

@@ -1,6 +1,5 @@
-//! Vectors from outside, limits, and that calls succeed: where one allocation is refused, those that take memory tell
-//! so, and succeed when they are made once more. So every test here passes under `rt try --test --fail-alloc N`, for
-//! each N.
+//! Messages from outside, and limits. A call that was refused memory says so, and succeeds when it is made once more.
+//! So each test here, but that of a long name, passes under `rt try --test --fail-alloc N`, for each N.
 mod calls;
 mod refused_tests;
 mod reply_tests;
@@ -27,7 +26,7 @@ static KINDS: [&[u8]; 9] = [
     &OPEN,
 ];
 
-/// Returns whether each of these requests is kept.
+/// Calls `is_kept` with each of `requests`, and returns whether all are kept.
 fn are_kept(alloc: Global, requests: &[&[u8]]) -> bool {
     for bytes in requests {
         if !is_kept(alloc, bytes) {
@@ -48,7 +47,7 @@ static OF_KERNEL: [(&[u8], &[u8]); 3] = [
     (&CREATE_OF_KERNEL, &CREATE),
 ];
 
-/// Returns whether each of these requests is written as the bytes beside it.
+/// Returns whether each request, once it is read, is written as the bytes beside it.
 fn are_written_again(alloc: Global, requests: &[(&[u8], &[u8])]) -> bool {
     for (bytes, written) in requests {
         if !is_written_again(alloc, bytes, written) {
@@ -63,7 +62,7 @@ fn ignores_what_only_the_kernel_fills_in(rt: HostRuntime) {
     assert!(rt; are_written_again(rt.alloc(), &OF_KERNEL));
 }
 
-/// Returns whether an ask of this unique looks this name up.
+/// Returns whether `ask` has this `unique`, and looks the name `bytes` up in the directory `node`.
 fn is_lookup(ask: &Ask, unique: u64, node: u64, bytes: &[u8]) -> bool {
     match &ask.what {
         Request::Lookup { dir, name } => {
@@ -73,7 +72,8 @@ fn is_lookup(ask: &Ask, unique: u64, node: u64, bytes: &[u8]) -> bool {
     }
 }
 
-/// Returns whether an ask of this unique creates this name.
+/// Returns whether `ask` has this `unique`, and creates the name `bytes` in the directory `node` with the permissions
+/// `bits`.
 fn is_create(ask: &Ask, unique: u64, node: u64, bytes: &[u8], bits: u16) -> bool {
     match &ask.what {
         Request::Create { dir, name, perm } => {
@@ -83,7 +83,7 @@ fn is_create(ask: &Ask, unique: u64, node: u64, bytes: &[u8], bits: u16) -> bool
     }
 }
 
-/// Returns whether the bytes are a lookup of `src` in 1, of unique 3.
+/// Returns whether `bytes` are a LOOKUP of `src` in directory 1, with unique 3.
 fn reads_src(alloc: Global, bytes: &[u8]) -> bool {
     match read(alloc, bytes) {
         Ok(ask) => {
@@ -100,7 +100,7 @@ fn reads_a_lookup(rt: HostRuntime) {
     assert!(rt; reads_src(rt.alloc(), &LOOKUP));
 }
 
-/// Returns whether the bytes are a create of `a` in 1 with 0o644, of unique 8.
+/// Returns whether `bytes` are a CREATE of `a` in directory 1 with permissions 0o644, with unique 8.
 fn reads_a(alloc: Global, bytes: &[u8]) -> bool {
     match read(alloc, bytes) {
         Ok(ask) => {
@@ -125,7 +125,7 @@ const THREE: Number = Number(3);
 
 static TWO_ITEMS: [Item; 2] = [Item { node: TWO, k: 1 }, Item { node: THREE, k: 2 }];
 
-/// Returns whether the bytes have these items.
+/// Returns whether the items of the request in `bytes` are just `items`.
 pub(crate) fn has_items(bytes: &[u8], items: &[Item]) -> bool {
     match read_items(bytes) {
         Ok(read) => read.as_slice() == items,
@@ -133,7 +133,7 @@ pub(crate) fn has_items(bytes: &[u8], items: &[Item]) -> bool {
     }
 }
 
-/// Returns how many items the bytes have, or why they have none.
+/// Returns how many items the request in `bytes` has, or the fault if it has none.
 pub(crate) fn items_read(bytes: &[u8]) -> Result<usize, WireFault> {
     match read_items(bytes) {
         Ok(items) => Ok(items.len()),
@@ -163,7 +163,8 @@ fn takes_memory_once_for_a_long_name(rt: HostRuntime) {
     assert!(rt; read_request(rt.alloc(), &LONG_LOOKUP).is_ok());
 }
 
-/// Returns whether a request is an ask that goes to one number, 0 for a forget, which goes to none.
+/// Returns whether `request` is an ask that goes to `node` alone. If `node` is 0, returns whether `request` is a
+/// forget, which goes to no number.
 fn goes_to(request: &Request, node: u64) -> bool {
     let nodes = request.nodes();
     match nodes.as_slice() {
@@ -173,7 +174,7 @@ fn goes_to(request: &Request, node: u64) -> bool {
     }
 }
 
-/// Reads a request, and returns whether it goes to this number.
+/// Reads the request in `bytes`, and calls `goes_to` with that request and `node`.
 fn is_read_to_go_to(alloc: Global, bytes: &[u8], node: u64) -> bool {
     match read(alloc, bytes) {
         Ok(ask) => {
@@ -216,7 +217,7 @@ static SERVED: [u32; 8] = [1, 2, 3, 9, 10, 11, 35, 42];
 
 static OTHERS: [u32; 6] = [0, 12, 14, 15, 43, 0xffff_ffff];
 
-/// Returns whether `Request::other` makes a request of an opcode exactly where `other` says so.
+/// Returns whether `Request::other` makes a request of `opcode`, if `other`, and none, if not.
 fn is_made(opcode: u32, other: bool) -> bool {
     let node = Number(7);
     match Request::other(opcode, node) {
@@ -225,7 +226,7 @@ fn is_made(opcode: u32, other: bool) -> bool {
     }
 }
 
-/// Calls `is_made` with each opcode.
+/// Calls `is_made` with each of `opcodes`, and returns whether all results are true.
 fn are_made(opcodes: &[u32], other: bool) -> bool {
     for opcode in opcodes {
         if !is_made(*opcode, other) {

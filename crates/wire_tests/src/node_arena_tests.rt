@@ -5,7 +5,7 @@ use node_arena::{Nodes, Slot};
 use std::alloc::{AllocError, Global};
 use std::cell::Cell;
 
-/// Adds a value, for which there is room.
+/// Adds `value`, and returns its slot, or none if the arena is full.
 fn added<T: Drop>(nodes: &mut Nodes<T>, value: T) -> Option<Slot> {
     match nodes.add(value) {
         Ok(slot) => Some(slot),
@@ -13,7 +13,7 @@ fn added<T: Drop>(nodes: &mut Nodes<T>, value: T) -> Option<Slot> {
     }
 }
 
-/// Touches a slot that is held.
+/// Touches `slot`, and returns whether the arena holds it. A slot that is not held is not touched.
 fn is_touched<T>(nodes: &mut Nodes<T>, slot: Slot) -> bool {
     if !nodes.is_held(slot) {
         return false;
@@ -22,7 +22,7 @@ fn is_touched<T>(nodes: &mut Nodes<T>, slot: Slot) -> bool {
     true
 }
 
-/// Removes a slot that is held, and sees that it is not held any more.
+/// Removes the value at `slot` and returns it. Returns none if `slot` was not held before, or is held afterwards.
 fn removed<T: Drop>(nodes: &mut Nodes<T>, slot: Slot) -> Option<T> {
     if !nodes.is_held(slot) {
         return None;
@@ -34,32 +34,32 @@ fn removed<T: Drop>(nodes: &mut Nodes<T>, slot: Slot) -> Option<T> {
     Some(value)
 }
 
-/// A use of a slot, with its outcome.
+/// A use of a slot, with its expected outcome.
 #[derive(Clone, Copy)]
 enum Use {
     Touch,
     Remove(char),
     Write(char),
-    /// The slot is the oldest of this count.
+    /// The slot is the oldest, and the arena has this many values.
     IsOldest(usize),
-    /// The slot is the one that was given at this index.
+    /// The slot equals that of this add, given by its index among the adds.
     Is(usize),
 }
 
-/// A call on an arena of characters, and its outcome, as data, so that a test is a table.
+/// A call on an arena of characters, with its expected outcome. A test is a table of such calls.
 #[derive(Clone, Copy)]
 enum Deed {
     Add(char),
-    /// A full arena gives the value back.
+    /// Adds this value to a full arena, which gives it back.
     Refuse(char),
-    /// Uses the slot that was given at this index.
+    /// Uses the slot of an add, given by its index among the adds.
     At(usize, Use),
-    /// The values, the least recently used first.
+    /// The arena has just these values, the least recently used first.
     Order(&'static [char]),
     Empty,
 }
 
-/// Adds a value, and its slot to those that were given.
+/// Adds `value` to the arena and its slot to `slots`. Returns whether both succeed.
 fn is_added(nodes: &mut Nodes<char>, slots: &mut Vec<Slot>, value: char) -> bool {
     match added(nodes, value) {
         Some(slot) => slots.push(slot).is_ok(),
@@ -67,7 +67,7 @@ fn is_added(nodes: &mut Nodes<char>, slots: &mut Vec<Slot>, value: char) -> bool
     }
 }
 
-/// Writes a value in the place of one that is held.
+/// Writes `value` in place of the value at `slot`, and returns whether the arena holds `slot`.
 fn is_written(nodes: &mut Nodes<char>, slot: Slot, value: char) -> bool {
     if !nodes.is_held(slot) {
         return false;
@@ -76,7 +76,7 @@ fn is_written(nodes: &mut Nodes<char>, slot: Slot, value: char) -> bool {
     true
 }
 
-/// Returns whether these are the values, the least recently used first. Each is touched once, so the order stays.
+/// Returns whether the arena has just `values`, the least recently used first. Touches each once, so the order stays.
 fn has_order(nodes: &mut Nodes<char>, values: &[char]) -> bool {
     for value in values {
         let Some(slot) = nodes.oldest() else {
@@ -90,7 +90,7 @@ fn has_order(nodes: &mut Nodes<char>, values: &[char]) -> bool {
     nodes.len() == values.len()
 }
 
-/// Uses a slot, and returns whether the outcome is the expected one.
+/// Uses `slot` as `act` says, and returns whether the outcome is the expected one.
 fn is_used(nodes: &mut Nodes<char>, slots: &[Slot], slot: Slot, act: Use) -> bool {
     match act {
         Use::Touch => is_touched(nodes, slot),
@@ -101,7 +101,7 @@ fn is_used(nodes: &mut Nodes<char>, slots: &[Slot], slot: Slot, act: Use) -> boo
     }
 }
 
-/// Makes a call, and returns whether its outcome is the expected one.
+/// Makes the call of `deed`, and returns whether its outcome is the expected one.
 fn goes_so(nodes: &mut Nodes<char>, slots: &mut Vec<Slot>, deed: Deed) -> bool {
     match deed {
         Deed::Add(value) => is_added(nodes, slots, value),
@@ -115,7 +115,7 @@ fn goes_so(nodes: &mut Nodes<char>, slots: &mut Vec<Slot>, deed: Deed) -> bool {
     }
 }
 
-/// Makes the calls of a table, and returns whether each outcome is the expected one.
+/// Makes the calls of `deeds`, and returns whether each outcome is the expected one.
 fn each_goes_so(nodes: &mut Nodes<char>, slots: &mut Vec<Slot>, deeds: &[Deed]) -> bool {
     for deed in deeds {
         if !goes_so(nodes, slots, *deed) {
@@ -125,7 +125,7 @@ fn each_goes_so(nodes: &mut Nodes<char>, slots: &mut Vec<Slot>, deeds: &[Deed]) 
     true
 }
 
-/// Makes the calls of a table on an arena of this capacity, and returns whether each outcome is the expected one.
+/// Makes the calls of `deeds` on a new arena of `capacity`. Returns whether each outcome is the expected one.
 fn all_go_so(alloc: Global, capacity: usize, deeds: &[Deed]) -> bool
     requires least { 1 ≤ capacity }
     requires most { capacity ≤ 65536 }
@@ -160,7 +160,7 @@ fn refuses_a_third_value_at_capacity_two(rt: HostRuntime) {
     assert!(rt; all_go_so(rt.alloc(), 2, &AT_TWO));
 }
 
-/// The old slot of `c`, the third, is held again, by `d`.
+/// At the end, `d` has the slot that `c` had before it was removed.
 static AT_THREE: [Deed; 13] = [
     Deed::Add('a'),
     Deed::Add('b'),
@@ -195,7 +195,7 @@ fn writes_a_value_in_its_place(rt: HostRuntime) {
     assert!(rt; all_go_so(rt.alloc(), 3, &WRITTEN));
 }
 
-/// Fills an arena, and returns whether it refuses one more.
+/// Adds `capacity` values, and returns whether the arena takes all and refuses one more.
 fn fills(nodes: &mut Nodes<usize>, capacity: usize) -> bool {
     for value in 0..capacity {
         if nodes.add(value).is_err() {
@@ -205,7 +205,7 @@ fn fills(nodes: &mut Nodes<usize>, capacity: usize) -> bool {
     nodes.add(capacity) == Err(capacity)
 }
 
-/// Empties an arena, the oldest first, and returns whether the values come in the order in which they went in.
+/// Removes the oldest value `capacity` times. Returns whether the values come in the order in which they were added.
 fn empties(nodes: &mut Nodes<usize>, capacity: usize) -> bool {
     for value in 0..capacity {
         let Some(slot) = nodes.oldest() else {
@@ -218,7 +218,7 @@ fn empties(nodes: &mut Nodes<usize>, capacity: usize) -> bool {
     nodes.oldest().is_none() && nodes.len() == 0
 }
 
-/// Calls `fills` and `empties` on an arena of this capacity.
+/// Calls `fills` and then `empties` on a new arena of `capacity`, and returns whether both succeed.
 fn fills_and_empties(alloc: Global, capacity: usize) -> bool
     requires least { 1 ≤ capacity }
     requires most { capacity ≤ 65536 }
@@ -252,10 +252,12 @@ impl Drop for Counted<'_> {
     }
 }
 
-/// How often values were dropped: once one came back, once one was removed, and once that one was dropped.
+/// The counts of drops: after a value was given back and dropped, after one was removed, and after that one was
+/// dropped.
 type Drops = (u32, u32, u32);
 
-/// Adds three values and one more, and removes the first.
+/// Adds three values, and a fourth that is given back and dropped. Then removes the first, and drops it. Returns the
+/// counts of drops in between.
 fn drops_of_three<'a>(nodes: &mut Nodes<Counted<'a>>, drops: &'a Cell<u32>) -> Option<Drops> {
     let first = added(nodes, Counted(drops))?;
     added(nodes, Counted(drops))?;
@@ -268,7 +270,7 @@ fn drops_of_three<'a>(nodes: &mut Nodes<Counted<'a>>, drops: &'a Cell<u32>) -> O
     Some((came_back, was_removed, drops.get()))
 }
 
-/// Calls `drops_of_three` on a new arena. Returns its counts of drops, and the count once the arena ended.
+/// Calls `drops_of_three` on a new arena. Returns its counts of drops, and the count after the arena was dropped.
 fn drops_of_all(alloc: Global) -> Option<(Drops, u32)> {
     let drops = Cell::new(0);
     let mut nodes = Nodes::new(alloc, 3).ok()?;
@@ -277,14 +279,14 @@ fn drops_of_all(alloc: Global) -> Option<(Drops, u32)> {
     Some((counts?, drops.get()))
 }
 
-/// The value that came back is dropped, one that is removed is its caller's, and those that are held at the end are
-/// dropped.
+/// The caller drops the value that was given back, and the value that was removed. The arena drops the two that it
+/// holds at its end.
 #[test]
 fn drops_each_value_once(rt: HostRuntime) {
     assert!(rt; drops_of_all(rt.alloc()) == Some(((1, 1, 2), 4)));
 }
 
-/// Adds a value and removes it, and returns whether it was dropped.
+/// Adds a value, removes it and drops it. Returns whether one drop was counted.
 fn drops_one<'a>(nodes: &mut Nodes<Counted<'a>>, drops: &'a Cell<u32>) -> bool {
     let Some(slot) = added(nodes, Counted(drops)) else {
         return false;
@@ -293,7 +295,8 @@ fn drops_one<'a>(nodes: &mut Nodes<Counted<'a>>, drops: &'a Cell<u32>) -> bool {
     drops.get() == 1
 }
 
-/// Calls `drops_one` on a new arena, and returns whether no other value was dropped when the arena ended.
+/// Calls `drops_one` on a new arena, and then drops the arena. Returns whether `drops_one` succeeds, and no other value
+/// is dropped.
 fn drops_one_alone(alloc: Global) -> bool {
     let drops = Cell::new(0);
     match Nodes::new(alloc, 2) {
@@ -319,8 +322,8 @@ fn next_random(state: u64) -> u64 {
         .wrapping_add(1_442_695_040_888_963_407)
 }
 
-/// Adds a value to the arena, and to a list, the most recently used first. Returns whether a value comes back just
-/// where the arena is full.
+/// Adds `value` to the arena, and to the front of `list`. If the arena gives `value` back, returns whether the arena is
+/// full.
 fn are_added(nodes: &mut Nodes<u64>, list: &mut Vec<(Slot, u64)>, value: u64) -> bool {
     match nodes.add(value) {
         Ok(slot) => list.insert(0, (slot, value)).is_ok(),
@@ -328,7 +331,8 @@ fn are_added(nodes: &mut Nodes<u64>, list: &mut Vec<(Slot, u64)>, value: u64) ->
     }
 }
 
-/// Touches or removes a value of both.
+/// Takes an entry, chosen by `place`, out of `list`. If `is_kept`, touches its slot and puts the entry in front, else
+/// removes the slot. Returns whether the arena has the entry too.
 fn are_used(
     nodes: &mut Nodes<u64>,
     list: &mut Vec<(Slot, u64)>,
@@ -344,7 +348,7 @@ fn are_used(
     removed(nodes, slot) == Some(value)
 }
 
-/// Makes one call on an arena and a list, and returns whether both answered the same.
+/// Makes one call, chosen by `action`, on the arena and on `list`. Returns whether both answer the same.
 fn are_changed(nodes: &mut Nodes<u64>, list: &mut Vec<(Slot, u64)>, action: u64) -> bool {
     if action % 8 < 4 || list.is_empty() {
         return are_added(nodes, list, action);
@@ -352,7 +356,7 @@ fn are_changed(nodes: &mut Nodes<u64>, list: &mut Vec<(Slot, u64)>, action: u64)
     are_used(nodes, list, action as usize / 8, action % 8 < 6)
 }
 
-/// Returns whether the arena has the entries of the list, and the same oldest one.
+/// Returns whether the arena has just the entries of `list`, and its oldest entry is the last of `list`.
 fn agree(nodes: &Nodes<u64>, list: &[(Slot, u64)]) -> bool {
     let mut oldest = None;
     for (slot, value) in list {
@@ -364,7 +368,8 @@ fn agree(nodes: &Nodes<u64>, list: &[(Slot, u64)]) -> bool {
     nodes.len() == list.len() && nodes.oldest() == oldest
 }
 
-/// Makes many calls on an arena and a list, and returns whether both answered the same each time and agree after each.
+/// Makes 20,000 calls on the arena and on `list`. Returns whether both answer the same each time, and agree after each
+/// call.
 fn agree_for_long(nodes: &mut Nodes<u64>, list: &mut Vec<(Slot, u64)>) -> bool {
     let mut random = 20_260_917;
     for _ in 0..20_000 {
@@ -376,7 +381,7 @@ fn agree_for_long(nodes: &mut Nodes<u64>, list: &mut Vec<(Slot, u64)>) -> bool {
     true
 }
 
-/// Calls `agree_for_long` on a new arena and an empty list.
+/// Calls `agree_for_long` with a new arena of six values and an empty list.
 fn agree_from_nothing(alloc: Global) -> bool {
     match Nodes::new(alloc, 6) {
         Ok(nodes) => {

@@ -1,5 +1,5 @@
-//! Sizes up to the limits, with ample memory. No clause can say that memory suffices: so a call that tells out of
-//! memory from some size on is found here alone.
+//! Sizes up to the limits, with ample memory. No clause can say that memory suffices. So only these tests find a call
+//! that says it is out of memory from some size on.
 mod messages;
 mod streams;
 
@@ -8,7 +8,7 @@ use crate::sweep_tests::messages::{is_each_batch_made, is_each_name_made};
 use crate::sweep_tests::streams::{Carrier, is_each_body_carried, is_stream_read};
 use std::alloc::Global;
 
-/// A subject that is made in many sizes.
+/// What a sweep makes in many sizes.
 #[derive(Clone, Copy)]
 enum Sweep {
     /// Names of each length.
@@ -17,13 +17,13 @@ enum Sweep {
     Batches,
     /// Frames that carry bytes, with bodies up to the longest.
     Bodies(Carrier),
-    /// A stream of `pieces` pieces with `frames` frames each, of which none is read before all were fed.
+    /// A stream of `pieces` pieces with `frames` frames each. No frame is read before all pieces are fed.
     Stream { pieces: u32, frames: u32 },
-    /// The calls of a broker.
+    /// Calls on a broker.
     Calls(&'static [Deed]),
 }
 
-/// Looks one number up 70,000 times, and takes it back by ever more at once.
+/// 70,000 lookups of number 2, and forgets of ever greater counts, which take all lookups back.
 const ONE_NUMBER: [Deed; 10] = [
     Deed::Mount(1, 1),
     Deed::LookUpEach(70_000, Said::Entry(2)),
@@ -37,7 +37,7 @@ const ONE_NUMBER: [Deed; 10] = [
     Deed::Issue(Wish::Getattr(1), Ok(Some(70_001))),
 ];
 
-/// Holds 9,999 numbers at once.
+/// Lookups after which 9,999 numbers are held.
 const MANY_NUMBERS: [Deed; 4] = [
     Deed::Mount(1, 1),
     Deed::LookUpNumbers(10_000),
@@ -72,7 +72,7 @@ static SWEEPS: [Sweep; 12] = [
     Sweep::Calls(&MANY_NUMBERS),
 ];
 
-/// Returns whether each call of a sweep succeeds.
+/// Returns whether each call of `sweep` succeeds.
 fn succeeds(alloc: Global, sweep: Sweep) -> bool {
     match sweep {
         Sweep::Names => is_each_name_made(alloc),
@@ -83,7 +83,7 @@ fn succeeds(alloc: Global, sweep: Sweep) -> bool {
     }
 }
 
-/// Returns the index of the first sweep that fails.
+/// Returns the index of the first of `sweeps` that fails, or none if all succeed.
 fn first_failed(alloc: Global, sweeps: &[Sweep]) -> Option<usize> {
     for index in 0..sweeps.len() {
         if !succeeds(alloc, sweeps[index]) {

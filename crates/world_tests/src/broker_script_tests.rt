@@ -1,4 +1,4 @@
-//! Scripts of a broker, with what daemons do between their lines and what each line prints.
+//! Scripts of a broker, with what daemons do between the lines, and what each line prints.
 mod steps;
 
 use crate::broker_script_tests::steps::{Deed, Step, all_go_so, reads_all};
@@ -13,7 +13,7 @@ const MOUNTS: Step = On(0, Deed::Mounts);
 /// Another daemon attaches by the second connection.
 const SECOND: Step = On(1, Deed::Attaches);
 
-/// The line waits, and prints nothing yet.
+/// The next line of the script waits, and prints nothing yet.
 const BEGINS: Step = Begins(b"");
 
 static EXAMPLE: [Step; 18] = [
@@ -200,7 +200,7 @@ fn takes_no_reply_from_behind_another(rt: HostRuntime) {
     assert!(rt; all_go_so(rt.alloc(), b"ask lookup 1 a\nask lookup 1 b", &BEHIND));
 }
 
-/// A text, with how many lines it has, or the number of the first bad one.
+/// Texts, each with its count of lines, or with the position of its first bad line.
 static TEXTS: [(&[u8], Result<usize, usize>); 11] = [
     (b"", Ok(0)),
     (b"idle", Ok(1)),

@@ -1,5 +1,5 @@
-//! Data that no daemon of a world says, heard by a new daemon: in a world all daemons have one manifest, and a part has
-//! 4,096 bytes or is the last.
+//! A new daemon hears data that no daemon of a world says. In a world all daemons have one manifest, and each part but
+//! the last has 4,096 bytes.
 ghost use Rattle.std.specs.Prelude.{IsTrue};
 ghost use Rattle.takeover_core.specs.Phases.{heard, Hear};
 ghost use Rattle.daemon.specs.Talking.{brings_part};
@@ -11,11 +11,11 @@ use manifest::{Manifest, ManifestFault};
 use std::alloc::{AllocError, Global};
 use takeover_core::{Message, Versions};
 
-/// A checkout with nothing in it.
+/// A manifest without files.
 const CHECKOUT: &[u8] = b"commit 0123456789abcdef0123456789abcdef01234567\n";
 
-/// The image of it at generation 1, with no number given: magic, version, commit, generation, next number, next file,
-/// and three lists of nothing.
+/// The image of `CHECKOUT` at generation 1, with no number given: magic, version, commit, generation, next number, next
+/// file, and three empty lists.
 const IMAGE: [u8; 62] = [
     0x45, 0x44, 0x54, 0x4b, 0x00, 0x01, 0x01, 0x23, 0x45, 0x67, 0x89, 0xab, 0xcd, 0xef, 0x01, 0x23,
     0x45, 0x67, 0x89, 0xab, 0xcd, 0xef, 0x01, 0x23, 0x45, 0x67, 0x00, 0x00, 0x00, 0x00, 0x00, 0x00,
@@ -26,14 +26,14 @@ const IMAGE: [u8; 62] = [
 /// A daemon's reaction to data, or to a part.
 #[derive(Clone, Copy, PartialEq, Eq)]
 enum Makes {
-    /// It takes it in, and says nothing.
+    /// The daemon takes the message in, and says nothing.
     Holds,
     Ignores,
     Fails,
     Other,
 }
 
-/// Lets a daemon read a part that others follow, once more where memory was refused.
+/// Lets `daemon` hear a part that is not the last, and once more if memory was refused.
 fn fed(alloc: Global, daemon: &mut Daemon, message: &Message) -> Result<Reaction, NoMemory>
     requires part { IsTrue (brings_part (heard daemon.old.node (Hear message.now))) }
 {
@@ -43,7 +43,8 @@ fn fed(alloc: Global, daemon: &mut Daemon, message: &Message) -> Result<Reaction
     }
 }
 
-/// Lets a daemon hear a message, once more where memory was refused, and take the turn on.
+/// Lets `daemon` hear `message`, and once more if memory was refused. Makes the turn that follows, and returns the
+/// reaction.
 fn heard(
     alloc: Global,
     daemon: &mut Daemon,
@@ -60,7 +61,7 @@ fn heard(
     Ok(daemon.turn(turn))
 }
 
-/// Names a reaction to data.
+/// Returns `reaction` as a `Makes`.
 fn made(reaction: Result<Reaction, NoMemory>) -> Makes {
     match reaction {
         Ok(Reaction::Heeds) => Makes::Holds,
@@ -70,7 +71,7 @@ fn made(reaction: Result<Reaction, NoMemory>) -> Makes {
     }
 }
 
-/// Returns the image with one byte set, as data of session 1 at generation 1.
+/// Makes the data of session 1 at generation 1: `IMAGE` with `byte` at the index `at`.
 fn data_with(alloc: Global, at: usize, byte: u8) -> Result<Message, AllocError> {
     let mut bytes = Vec::new(alloc);
     bytes.extend_from_slice(IMAGE.as_slice())?;
@@ -84,7 +85,7 @@ fn data_with(alloc: Global, at: usize, byte: u8) -> Result<Message, AllocError> 
     })
 }
 
-/// Returns the reaction of a new daemon in session 1 to a message.
+/// Returns the reaction of a new daemon in session 1 to `data`.
 fn makes_of(alloc: Global, manifest: &Manifest, data: &Message) -> Makes {
     let mut daemon = Daemon::new(Versions::of(&[1]));
     let choice = Message::Choice {
@@ -97,7 +98,7 @@ fn makes_of(alloc: Global, manifest: &Manifest, data: &Message) -> Makes {
     makes
 }
 
-/// Returns whether a new daemon has this reaction to the image with one byte set.
+/// Returns whether a new daemon reacts to `IMAGE`, with `byte` at the index `at`, as `expected`.
 fn is_made_of(alloc: Global, manifest: &Manifest, at: usize, byte: u8, expected: Makes) -> bool {
     let data = match data_with(alloc, at, byte) {
         Err(AllocError) => data_with(alloc, at, byte),
@@ -113,7 +114,8 @@ fn is_made_of(alloc: Global, manifest: &Manifest, at: usize, byte: u8, expected:
     }
 }
 
-/// The image as it is, and with one byte changed: in the magic, commit, generation, next number and next file.
+/// `IMAGE` as it is, and with one byte changed: in the magic, commit, generation, next number and next file. Each row
+/// ends with the reaction.
 static DATA: [(usize, u8, Makes); 6] = [
     (0, 0x45, Makes::Holds),
     (0, 0x46, Makes::Fails),
@@ -123,7 +125,7 @@ static DATA: [(usize, u8, Makes); 6] = [
     (49, 0x01, Makes::Fails),
 ];
 
-/// Returns whether a new daemon has the right reaction to each.
+/// Returns whether a new daemon reacts to the data of each row as the row says.
 fn makes_each(alloc: Global, manifest: &Manifest, rows: &[(usize, u8, Makes)]) -> bool {
     for (at, byte, expected) in rows {
         if !is_made_of(alloc, manifest, *at, *byte, *expected) {
@@ -133,7 +135,7 @@ fn makes_each(alloc: Global, manifest: &Manifest, rows: &[(usize, u8, Makes)]) -
     true
 }
 
-/// Reads the manifest, and once more where memory was refused.
+/// Reads the manifest `CHECKOUT`, and tries once more if memory was refused.
 fn manifest_of(alloc: Global) -> Result<Manifest, ManifestFault> {
     match Manifest::read(alloc, CHECKOUT) {
         Ok(manifest) => Ok(manifest),
@@ -141,7 +143,7 @@ fn manifest_of(alloc: Global) -> Result<Manifest, ManifestFault> {
     }
 }
 
-/// Calls `makes_each` over the manifest.
+/// Calls `makes_each` with the manifest `CHECKOUT`.
 fn makes_all(alloc: Global, rows: &[(usize, u8, Makes)]) -> bool {
     match manifest_of(alloc) {
         Ok(manifest) => {
@@ -158,11 +160,11 @@ fn says_failed_where_nothing_is_restored(rt: HostRuntime) {
     assert!(rt; makes_all(rt.alloc(), &DATA));
 }
 
-/// A part of the image in version 2: its position, the count of parts, where its bytes begin and end, and what is made
-/// of it.
+/// A part of `IMAGE` in version 2: its position, the count of parts, the indexes where its bytes begin and end, and the
+/// reaction.
 type Row = (u32, u32, usize, usize, Makes);
 
-/// Returns a part of the image in version 2, as one of session 1 at generation 1.
+/// Makes the part of `row`, of session 1 at generation 1.
 fn part_of(alloc: Global, row: &Row) -> Result<Message, AllocError> {
     let (position, count, from, to, _makes) = *row;
     let mut bytes = Vec::new(alloc);
@@ -180,7 +182,7 @@ fn part_of(alloc: Global, row: &Row) -> Result<Message, AllocError> {
     })
 }
 
-/// Returns whether a daemon makes of a part what it should.
+/// Returns whether `daemon` reacts to the part of `row` as `row` says.
 fn takes_part(alloc: Global, manifest: &Manifest, daemon: &mut Daemon, row: &Row) -> bool {
     let part = match part_of(alloc, row) {
         Err(AllocError) => part_of(alloc, row),
@@ -196,7 +198,8 @@ fn takes_part(alloc: Global, manifest: &Manifest, daemon: &mut Daemon, row: &Row
     }
 }
 
-/// Returns whether a new daemon makes of each part what it should, and wants to claim from this generation then.
+/// Returns whether a new daemon reacts to the part of each row as the row says, and then wants to claim from
+/// `claims_from`.
 fn takes_parts(alloc: Global, manifest: &Manifest, rows: &[Row], claims_from: Option<u64>) -> bool {
     let mut daemon = Daemon::new(Versions::of(&[1, 2]));
     let choice = Message::Choice {
@@ -213,7 +216,7 @@ fn takes_parts(alloc: Global, manifest: &Manifest, rows: &[Row], claims_from: Op
     so
 }
 
-/// In three parts, each of which is ignored out of its place.
+/// Three parts, each of which is ignored out of turn.
 static IN_THREE: [Row; 8] = [
     (2, 3, 20, 40, Makes::Ignores),
     (1, 3, 0, 20, Makes::Holds),
@@ -227,16 +230,16 @@ static IN_THREE: [Row; 8] = [
 
 static IN_ONE: [Row; 1] = [(1, 1, 0, 62, Makes::Holds)];
 
-/// In one that is too many: 0 parts, or more than 65,536.
+/// A part with a bad count of parts: 0, or more than 65,536.
 static IN_NONE: [Row; 2] = [
     (1, 0, 0, 62, Makes::Ignores),
     (1, 65_537, 0, 62, Makes::Ignores),
 ];
 
-/// A first part that begins no image, which is seen before the others come.
+/// A first part that begins no image. The daemon fails before the other parts come.
 static NO_IMAGE: [Row; 2] = [(1, 3, 4, 20, Makes::Fails), (2, 3, 20, 40, Makes::Ignores)];
 
-/// A second part that leaves some out, which is seen at the end.
+/// A last part without the last byte, at which the daemon fails.
 static LEFT_OUT: [Row; 3] = [
     (1, 3, 0, 20, Makes::Holds),
     (2, 3, 20, 40, Makes::Holds),
@@ -246,7 +249,8 @@ static LEFT_OUT: [Row; 3] = [
 /// A last part with a byte too many.
 static TOO_LONG: [Row; 2] = [(1, 2, 0, 61, Makes::Holds), (2, 2, 60, 62, Makes::Fails)];
 
-/// Returns that over the manifest, for a takeover that succeeds and for some that don't.
+/// Calls `takes_parts` for each list of parts. A claim is wanted after the two lists that are a whole image, and after
+/// no other.
 fn takes_all(alloc: Global) -> bool {
     let Ok(manifest) = manifest_of(alloc) else {
         return false;

@@ -1,4 +1,4 @@
-//! Lines of the broker's script: what each says, and those that say nothing.
+//! Lines of a broker's script: what each says, and lines that are bad.
 use eden_base::{Number, Perm};
 use fuse_wire::{Item, Request};
 use script_lines::{BrokerLine, read_broker_line};
@@ -7,22 +7,22 @@ use std::alloc::Global;
 /// What a line says.
 #[derive(Clone, Copy)]
 enum Says {
-    /// It asks for the attributes of a number.
+    /// An ask for the attributes of this number.
     AskAttributes(u64),
-    /// It looks up this name in a directory.
+    /// A lookup of this name in a directory.
     AskName(u64, &'static [u8]),
-    /// It makes a directory of this name in a directory, with permissions.
+    /// An ask to make a directory: the number of its parent, its permissions and its name.
     AskDirectory(u64, u16, &'static [u8]),
-    /// It forgets a number this many times.
+    /// A forget of a number, and how many lookups it takes back.
     Forget(u64, u64),
     Seat(u64),
     Idle,
     Held,
-    /// It is a bad line.
+    /// A bad line.
     Nothing,
 }
 
-/// Returns whether a request is the expected one.
+/// Returns whether `request` is what `says` expects.
 fn asks(request: &Request, says: Says) -> bool {
     match (request, says) {
         (Request::Getattr { node }, Says::AskAttributes(number)) => *node == Number(number),
@@ -36,7 +36,7 @@ fn asks(request: &Request, says: Says) -> bool {
     }
 }
 
-/// Returns whether a line was read as this.
+/// Returns whether `read` is what `says` expects.
 fn is_said(read: &Option<BrokerLine>, says: Says) -> bool {
     match (read, says) {
         (None, Says::Nothing) => true,
@@ -53,7 +53,7 @@ fn is_said(read: &Option<BrokerLine>, says: Says) -> bool {
     }
 }
 
-/// Returns whether a line says this. It is read once more where memory was refused.
+/// Reads `line`, and once more if memory was refused. Returns whether it says what `says` expects.
 fn says_so(alloc: Global, line: &[u8], says: Says) -> bool {
     let read = match read_broker_line(alloc, line) {
         Ok(read) => Ok(read),

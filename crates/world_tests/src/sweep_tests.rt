@@ -1,31 +1,31 @@
-//! Sizes up to the limits, with ample memory. No clause can say that memory suffices: so an event that is refused as
-//! out of memory from some size on is found here alone.
+//! Sizes up to the limits, with ample memory. No clause can say that memory suffices. So only these tests find an event
+//! that is refused as out of memory from some size on.
 mod long;
 
 use crate::sweep_tests::long::{are_handed_on, goes_on, is_run};
 use crate::world_tests::deeds::{Deed, LOOK_UP_SRC, Wish};
 use std::alloc::Global;
 
-/// A count of rounds, and the deeds of each.
+/// How often a list of deeds is done, and the list.
 pub type Round = (u32, &'static [Deed]);
 
-/// A subject that is made in many sizes.
+/// What a sweep makes in many sizes.
 #[derive(Clone, Copy)]
 enum Sweep {
-    /// Rounds, of which no deed is refused.
+    /// Rounds of deeds, none of which is refused.
     Rounds(&'static [Round]),
     /// A seat that goes from daemon to daemon this often.
     Takeovers(u64),
-    /// A list of this count of events.
+    /// A list of this many events.
     Run(usize),
 }
 
 const ASK: Wish = Wish::Getattr(1);
 
-/// A daemon mounts.
+/// A daemon starts and mounts.
 const BEGIN: Round = (1, &[Deed::Start, Deed::Mount(1)]);
 
-/// A `do` with ever more asks in hand.
+/// A `do` in each round, while ever more asks are in hand.
 const ASKS_IN_HAND: [Round; 2] = [
     BEGIN,
     (1_000, &[Deed::Issue(ASK), Deed::Take(1), Deed::Do(ASK)]),
@@ -46,7 +46,7 @@ const ITEMS_IN_HAND: [Round; 4] = [
     (4_000, &[Deed::Work(1, 1)]),
 ];
 
-/// Forgets of ever higher counts.
+/// Forgets of ever greater counts.
 const FORGETS: [Round; 3] = [
     BEGIN,
     (10_000, &[Deed::Do(LOOK_UP_SRC)]),
@@ -69,7 +69,7 @@ static SWEEPS: [Sweep; 6] = [
     Sweep::Run(3_000),
 ];
 
-/// Returns whether each event of a sweep is made.
+/// Returns whether each event of `sweep` is made.
 fn succeeds(alloc: Global, sweep: Sweep) -> bool {
     match sweep {
         Sweep::Rounds(rounds) => goes_on(alloc, rounds),
@@ -78,7 +78,7 @@ fn succeeds(alloc: Global, sweep: Sweep) -> bool {
     }
 }
 
-/// Returns the index of the first sweep that fails.
+/// Returns the index of the first of `sweeps` that fails, or none if all succeed.
 fn first_failed(alloc: Global, sweeps: &[Sweep]) -> Option<usize> {
     for index in 0..sweeps.len() {
         if !succeeds(alloc, sweeps[index]) {

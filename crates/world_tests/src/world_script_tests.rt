@@ -11,12 +11,12 @@ use std::alloc::Global;
 use std::io::Read;
 use world_script::{DEFAULT_LIMIT, run_world, write_fault};
 
-/// A manifest of five files in two directories, and the line behind it.
+/// A manifest of one directory and three files, and the line `--` after it.
 const MANIFEST: &[u8] =
     b"commit 0123456789abcdef0123456789abcdef01234567\ndir src\nfile 0644 12 src/a\nfile 0755 0 src/b\nfile 0644 7 README\n--\n";
 
-/// Returns whether the script of two parts prints just these lines, that of its fault with them. It is run again where
-/// it does not, since an allocation may have been refused; all else is the same each time.
+/// Returns whether the script of `first` and `second` prints just `lines`, with that of a fault among them. Tries
+/// twice, since one allocation may be refused.
 fn prints(alloc: Global, first: &[u8], second: &[u8], lines: &[u8]) -> bool {
     prints_once(alloc, first, second, lines) || prints_once(alloc, first, second, lines)
 }

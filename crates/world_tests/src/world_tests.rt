@@ -16,7 +16,7 @@ use eden_base::Errno;
 use inode_map::Forgot;
 use world::Refusal;
 
-/// What `src/a` has.
+/// The attributes of `src/a`.
 const FILE: Look = Look::File(12, 1);
 
 const README: Look = Look::File(7, 1);
@@ -195,8 +195,8 @@ static NOT_THERE: [(Deed, Told); 21] = [
     (Deed::Deliver, Told::One(Fact::Delivered(1, SRC))),
 ];
 
-/// NotAsked is told of no list of events: a daemon posts only what it answered, and it answered what it took. Nor are
-/// Ended and Stale: a daemon loses the seat by its end alone, and then takes and posts nothing.
+/// No list of events comes to NotAsked: a daemon posts only what it answered, and answers only what it took. No take or
+/// post comes to Ended or Stale: a daemon that lost the seat takes nothing, and has nothing to post.
 #[test]
 fn refuses_to_hand_on_what_is_not_there(rt: HostRuntime) {
     assert!(rt; all_go_so(rt.alloc(), &NOT_THERE, &[Found::Alone(2, 3)]));
@@ -267,8 +267,8 @@ static FORGOTTEN_BEFORE: [(Deed, Told, Counts); 11] = [
     ),
 ];
 
-/// The forget is worked before the reply of the second lookup reaches the kernel: the daemon counts the number twice
-/// while the kernel does not hold it, and in the end both have it once.
+/// The forget is worked before the reply of the second lookup reaches the kernel. In between, the daemon counts the
+/// number twice, and the kernel does not hold it. In the end both count and held are 1.
 #[test]
 fn counts_a_number_that_is_forgotten_before_the_reply(rt: HostRuntime) {
     assert!(rt; all_count(rt.alloc(), &FORGOTTEN_BEFORE));
@@ -303,8 +303,8 @@ fn answers_eio_where_its_backing_fails(rt: HostRuntime) {
     assert!(rt; all_go_so(rt.alloc(), &BACKING_FAILS, &[Found::Alone(3, 4)]));
 }
 
-/// Over a backing that fails a file is asked for that is not loaded, at any position of the hand. A directory is not,
-/// nor the file once it is loaded.
+/// The backing fails. An ask for a file that is not loaded is answered EIO, at each position of the hand. An ask for a
+/// directory is not, nor one for a file that is loaded.
 static NOT_LOADED: [(Deed, Told); 17] = [
     (Deed::Start, Told::One(Fact::Started(1))),
     (Deed::Mount(1), Told::One(Fact::Mounted(1))),
@@ -341,7 +341,7 @@ fn answers_eio_for_what_is_not_loaded_alone(rt: HostRuntime) {
 
 const MISSING: Said = Said::Error(Errno::ENOENT);
 
-/// Tells of a `do` whose ask waits, while an older one is answered.
+/// What is told of a `do` whose ask waits while an older ask is answered.
 const OLDER: Told = Told::All(&[
     Fact::Asked(Some(2)),
     Fact::Took(1),
@@ -350,10 +350,11 @@ const OLDER: Told = Told::All(&[
     Fact::Delivered(1, SRC),
 ]);
 
-/// Tells of a forget by `do`, which waits, while an ask is taken and worked.
+/// What is told of a `do` whose forget waits while an ask is taken and worked.
 const FORGETS: Told = Told::All(&[Fact::Asked(None), Fact::Took(2), Fact::Made(2, MISSING)]);
 
-/// Tells of a lookup by `do` that worked a forget in hand, had no reply to post, and ended there.
+/// What is told of a `do` whose lookup is taken after a forget. The `do` works the forget, has no reply to post, and
+/// ends there.
 const STOPPED: Told = Told::All(&[
     Fact::Asked(Some(3)),
     Fact::Took(3),
@@ -374,7 +375,7 @@ static WAITS_FIRST: [(Deed, Told); 10] = [
     (Deed::Do(LOOK_UP_SRC), STOPPED),
 ];
 
-/// An older ask waits: the `do` takes it first, and answers it; its own ask waits then, and the next `do` takes that.
+/// The first `do` takes and answers an older ask. Its own ask waits then, and the next `do` takes that ask.
 #[test]
 fn does_what_waits_first(rt: HostRuntime) {
     assert!(rt; all_go_so(rt.alloc(), &WAITS_FIRST, &[Found::UnderWay(1, 1, 0)]));

@@ -1,4 +1,4 @@
-//! Answers where the backing fails, and the files that stay loaded, so that it isn't asked for them.
+//! Answers while the backing fails, and the files that stay loaded, for which the backing isn't asked.
 use super::deeds::{Asks, asked};
 use super::hosted::{Hosted, answer};
 use eden_base::{Errno, Number};
@@ -8,8 +8,8 @@ use std::alloc::Global;
 const FOUR_FILES: &[u8] =
     b"commit 0123456789abcdef0123456789abcdef01234567\ndir src\nfile 0644 12 src/a\nfile 0600 3 src/b\nfile 0644 40 README\n";
 
-/// Returns the test's request at an index. The first four look the files up, and the last asks for one that a limit of
-/// one has unloaded.
+/// Makes the request of the index `place`. The first four requests look the four files up, one each. The last asks for
+/// the attributes of number 3, which are unloaded by then if the limit is 1.
 fn asked_in_turn(alloc: Global, place: usize) -> Option<Request> {
     match place {
         0 => asked(alloc, Asks::LookUp, 1, b"src"),
@@ -20,7 +20,7 @@ fn asked_in_turn(alloc: Global, place: usize) -> Option<Request> {
     }
 }
 
-/// Returns the number of an answer that tells one.
+/// Returns the number in `answer`, or 0 if `answer` has none.
 fn number_told(answer: Option<Answer>) -> u64 {
     match answer {
         Some(Answer::Entry { number, .. }) => number.0,
@@ -29,7 +29,7 @@ fn number_told(answer: Option<Answer>) -> u64 {
     }
 }
 
-/// Answers the request at an index, and returns whether there is one.
+/// Answers the request of the index `place`, and returns whether that request could be made.
 fn ask(alloc: Global, served: &mut Hosted, place: usize) -> bool {
     match asked_in_turn(alloc, place) {
         Some(request) => {
@@ -41,7 +41,7 @@ fn ask(alloc: Global, served: &mut Hosted, place: usize) -> bool {
     }
 }
 
-/// Answers the requests before the index `end`, and returns whether each has a reply.
+/// Answers each request of an index below `end`, and returns whether all could be made.
 fn ask_before(alloc: Global, served: &mut Hosted, end: usize) -> bool {
     for place in 0..end {
         if !ask(alloc, served, place) {
@@ -51,7 +51,8 @@ fn ask_before(alloc: Global, served: &mut Hosted, end: usize) -> bool {
     true
 }
 
-/// Answers a request from a backing that fails at once. Returns whether that is EIO, and the next number stays unknown.
+/// Answers `request` with a backing that fails at once. Returns whether the answer is EIO, and `next` is still the next
+/// number and unknown.
 fn fails(alloc: Global, served: &mut Hosted, request: &Request, next: u64) -> bool {
     if served.apply_failing(alloc, 0, request) != Some(Answer::Error(Errno::EIO)) {
         return false;
@@ -60,7 +61,7 @@ fn fails(alloc: Global, served: &mut Hosted, request: &Request, next: u64) -> bo
     map.next() == next && !map.known(Number(next))
 }
 
-/// Answers a request from a backing that answers once, and once more where memory was refused.
+/// Answers `request` with a backing that answers once and then fails. Tries once more if memory was refused.
 fn answer_again(alloc: Global, served: &mut Hosted, request: &Request) -> Option<Answer> {
     match served.apply_failing(alloc, 1, request) {
         Some(Answer::Error(Errno::ENOMEM)) => served.apply_failing(alloc, 1, request),
@@ -68,7 +69,7 @@ fn answer_again(alloc: Global, served: &mut Hosted, request: &Request) -> Option
     }
 }
 
-/// Returns whether a request is answered EIO while the backing fails, and with this number when it is made again.
+/// Returns whether `request` is answered EIO while the backing fails, and with `number` when the request is made again.
 fn fails_first(
     alloc: Global,
     served: &mut Hosted,
@@ -80,7 +81,7 @@ fn fails_first(
         && number_told(answer_again(alloc, served, request)) == number
 }
 
-/// Calls `fails_first` with the request at an index.
+/// Calls `fails_first` with the request of the index `place`.
 fn fails_once(alloc: Global, served: &mut Hosted, place: usize, next: u64) -> Option<bool> {
     let number = if place == 4 { 3 } else { next };
     let request = asked_in_turn(alloc, place)?;
@@ -89,8 +90,8 @@ fn fails_once(alloc: Global, served: &mut Hosted, place: usize, next: u64) -> Op
     Some(fails)
 }
 
-/// Answers the requests before `place`, and the one there from a backing that fails at once. Returns whether that is
-/// answered EIO where it asks the backing, and as without a failure when it is made again.
+/// Answers each request of an index below `place`, and calls `fails_once` with the request of `place`. Returns none if
+/// a request could not be made.
 fn fails_in_turn(alloc: Global, served: &mut Hosted, place: usize, next: u64) -> Option<bool> {
     if ask_before(alloc, served, place) {
         fails_once(alloc, served, place, next)
@@ -99,7 +100,7 @@ fn fails_in_turn(alloc: Global, served: &mut Hosted, place: usize, next: u64) ->
     }
 }
 
-/// Calls `fails_in_turn` on a new daemon.
+/// Calls `fails_in_turn` with a new daemon that keeps one file loaded.
 fn fails_at(alloc: Global, place: usize, next: u64) -> Option<bool> {
     let mut served = Hosted::of(alloc, FOUR_FILES, 1)?;
     let fails = fails_in_turn(alloc, &mut served, place, next);
@@ -107,7 +108,7 @@ fn fails_at(alloc: Global, place: usize, next: u64) -> Option<bool> {
     fails
 }
 
-/// The index of a request, the next number then, and whether the request asks the backing.
+/// Rows: the index of a request, the next number before that request, and whether the request asks the backing.
 static FAILING: [(usize, u64, bool); 5] = [
     (0, 2, false),
     (1, 3, true),
@@ -123,7 +124,7 @@ fn answers_eio_where_the_backing_fails_and_changes_nothing(rt: HostRuntime) {
     }
 }
 
-/// Returns the number in the answer to the request at an index, though the backing fails.
+/// Answers the request of the index `place` with a backing that fails at once. Returns the number in the answer.
 fn told_without(alloc: Global, served: &mut Hosted, place: usize) -> Option<u64> {
     let request = asked_in_turn(alloc, place)?;
     let answer = served.apply_failing(alloc, 0, &request);
@@ -131,7 +132,7 @@ fn told_without(alloc: Global, served: &mut Hosted, place: usize) -> Option<u64>
     Some(number_told(answer))
 }
 
-/// Returns the number that the request at an index is answered with though the backing fails, once each file is loaded.
+/// Looks each file up in a daemon that keeps all loaded. Then calls `told_without` with the index `place`.
 fn told_loaded(alloc: Global, place: usize) -> Option<u64> {
     let mut served = Hosted::of(alloc, FOUR_FILES, 3)?;
     let told = if ask_before(alloc, &mut served, 4) {
@@ -143,7 +144,7 @@ fn told_loaded(alloc: Global, place: usize) -> Option<u64> {
     told
 }
 
-/// The index of a request, and the number in its answer.
+/// Rows: the index of a request, and the number in its answer.
 static LOADED_BEFORE: [(usize, u64); 5] = [(0, 2), (1, 3), (2, 4), (3, 5), (4, 3)];
 
 #[test]
@@ -153,7 +154,7 @@ fn tells_what_is_loaded_though_the_backing_fails(rt: HostRuntime) {
     }
 }
 
-/// Returns whether the attributes of a number are told though the backing fails.
+/// Returns whether the attributes of the number `node` are answered though the backing fails.
 fn is_loaded(alloc: Global, served: &mut Hosted, node: u64) -> bool {
     let request = Request::Getattr { node: Number(node) };
     let answer = served.apply_failing(alloc, 0, &request);
@@ -164,14 +165,14 @@ fn is_loaded(alloc: Global, served: &mut Hosted, node: u64) -> bool {
     }
 }
 
-/// Returns which of the three regular files are loaded.
+/// Returns for each of the three regular files whether its attributes are loaded.
 fn are_loaded(alloc: Global, served: &mut Hosted) -> [bool; 3] {
     let first = is_loaded(alloc, served, 3);
     let second = is_loaded(alloc, served, 4);
     [first, second, is_loaded(alloc, served, 5)]
 }
 
-/// Looks each file up, and returns which of the three regular ones stay loaded.
+/// Looks each file up, and returns which of the three regular files are loaded then.
 fn loaded_then(alloc: Global, served: &mut Hosted) -> Option<[bool; 3]> {
     if ask_before(alloc, served, 4) {
         Some(are_loaded(alloc, served))
@@ -180,7 +181,7 @@ fn loaded_then(alloc: Global, served: &mut Hosted) -> Option<[bool; 3]> {
     }
 }
 
-/// Returns which of the three regular files stay loaded at a limit.
+/// Calls `loaded_then` with a new daemon that keeps `limit` files loaded.
 fn stay_loaded(alloc: Global, limit: usize) -> Option<[bool; 3]> {
     let mut served = Hosted::of(alloc, FOUR_FILES, limit)?;
     let loaded = loaded_then(alloc, &mut served);
@@ -188,7 +189,7 @@ fn stay_loaded(alloc: Global, limit: usize) -> Option<[bool; 3]> {
     loaded
 }
 
-/// A limit, and whether each of the files stays loaded.
+/// Rows: a limit, and for each of the three regular files whether it stays loaded.
 static LOADED: [(usize, [bool; 3]); 3] = [
     (1, [false, false, true]),
     (2, [false, true, true]),

@@ -1,4 +1,4 @@
-//! Requests to a daemon and its answers as data, so that a test is a table.
+//! Requests to a daemon with their expected answers, as data. A test is a table of such requests.
 use super::hosted::{Hosted, answer};
 use crate::again::name_of;
 use eden_base::{Attr, Errno, FileId, Kind, NoMemory, Number, Perm};
@@ -8,7 +8,7 @@ use std::alloc::Global;
 const TEXT: &[u8] =
     b"commit 0123456789abcdef0123456789abcdef01234567\ndir src\nfile 0644 12 src/a\n";
 
-/// A file, as a test expects it.
+/// A sort of file, which has the attributes that a test expects.
 #[derive(Clone, Copy)]
 pub enum Is {
     Directory,
@@ -21,7 +21,7 @@ pub enum Is {
 }
 
 impl Is {
-    /// Returns the attributes of such a file.
+    /// Returns the expected attributes.
     pub fn attr(self) -> Attr {
         let (kind, bits, size, nlink) = match self {
             Is::Directory => (Kind::Dir, 0o755, 0, 2),
@@ -42,10 +42,10 @@ impl Is {
     }
 }
 
-/// The permissions of what is made.
+/// The permissions of made files and directories.
 const MADE_BITS: u16 = 0o640;
 
-/// Which request a deed makes.
+/// The kind of request that a deed makes.
 #[derive(Clone, Copy)]
 pub enum Asks {
     LookUp,
@@ -53,34 +53,35 @@ pub enum Asks {
     Mkdir,
     Unlink,
     Rmdir,
-    /// `opendir`, which is not served.
+    /// OPENDIR, which is not served.
     Open,
 }
 
-/// What a test does, as data, so that a test is a table.
+/// A request with its expected answer, or a look at the counts.
 #[derive(Clone, Copy)]
 pub enum Deed {
-    /// Asks, by a directory's number and a name in it, and is answered this error.
+    /// A request with a directory's number and a name is answered with this error.
     Refuse(Asks, u64, &'static [u8], Errno),
-    /// Asks, and is answered that it is done.
+    /// A request with a directory's number and a name is answered with Done.
     Take(Asks, u64, &'static [u8]),
-    /// Asks, and is answered an entry of this number for such a file.
+    /// A request with a directory's number and a name is answered with an entry of this number, for a file of this
+    /// sort.
     Enter(Asks, u64, &'static [u8], u64, Is),
-    /// Makes a file, and is answered this number.
+    /// CREATE with a directory's number and a name is answered with this number.
     Create(u64, &'static [u8], u64),
-    /// Asks for the attributes of a number.
+    /// GETATTR of a number is answered with the attributes of this sort of file.
     Show(u64, Is),
-    /// Asks for those of a number that names nothing.
+    /// GETATTR of a number is answered with ESTALE.
     ShowNone(u64),
-    /// Forgets a number, as often as the second one says.
+    /// FORGET of a number, and how many lookups it takes back.
     Forget(u64, u64),
-    /// Forgets each of these.
+    /// BATCH_FORGET of these items.
     ForgetAll(&'static [Item; 6]),
-    /// The counts of numbers 2 and 3, the number after them, how many items were bad, and the next file.
+    /// The counts of numbers 2 and 3, the next number, how many items were bad, and the next file.
     At(u64, u64, u64, u64, u64),
 }
 
-/// Makes a request.
+/// Makes the request of `asks` with the number `dir` and `name`, or returns none if memory was refused.
 pub(crate) fn asked(alloc: Global, asks: Asks, dir: u64, name: &[u8]) -> Option<Request> {
     let name = name_of(alloc, name).ok()?;
     let dir = Number(dir);
@@ -98,7 +99,7 @@ pub(crate) fn asked(alloc: Global, asks: Asks, dir: u64, name: &[u8]) -> Option<
     })
 }
 
-/// Makes a batch, once more where memory was refused.
+/// Makes a batch of `items`, and tries once more if memory was refused.
 fn batch_of(alloc: Global, items: &[Item; 6]) -> Option<Batch> {
     match Batch::of(alloc, items) {
         Ok(batch) => Some(batch),
@@ -106,7 +107,7 @@ fn batch_of(alloc: Global, items: &[Item; 6]) -> Option<Batch> {
     }
 }
 
-/// Returns whether a request gets this answer.
+/// Makes the request of `asks` at the directory and name of `place`. Returns whether the answer is `expected`.
 fn is_answered(
     alloc: Global,
     served: &mut Hosted,
@@ -124,26 +125,26 @@ fn is_answered(
     }
 }
 
-/// Makes a request, answers it, and drops it.
+/// Answers `request` and drops it.
 fn answer_once(alloc: Global, served: &mut Hosted, request: Request) -> Option<Answer> {
     let answer = served.apply(alloc, &request);
     drop(request);
     answer
 }
 
-/// Returns whether these attributes are answered for a number.
+/// Returns whether GETATTR of `node` is answered `expected`.
 fn is_shown(alloc: Global, served: &mut Hosted, node: u64, expected: Answer) -> bool {
     let node = Number(node);
     answer_once(alloc, served, Request::Getattr { node }) == Some(expected)
 }
 
-/// Forgets one number, and returns whether that has no answer.
+/// Takes `k` lookups of `node` back, and returns whether that has no answer.
 fn is_one_forgotten(alloc: Global, served: &mut Hosted, node: u64, k: u64) -> bool {
     let node = Number(node);
     answer_once(alloc, served, Request::Forget(Item { node, k })).is_none()
 }
 
-/// Forgets numbers, and returns whether that has no answer.
+/// Forgets `items` in one batch, and returns whether that has no answer.
 fn is_forgotten(alloc: Global, served: &mut Hosted, items: &[Item; 6]) -> bool {
     match batch_of(alloc, items) {
         Some(batch) => answer_once(alloc, served, Request::BatchForget(batch)).is_none(),
@@ -151,7 +152,8 @@ fn is_forgotten(alloc: Global, served: &mut Hosted, items: &[Item; 6]) -> bool {
     }
 }
 
-/// Returns whether these are the counts of numbers 2 and 3, the number after them, and how many items were bad.
+/// Returns whether numbers 2 and 3 have the counts `two` and `three`, the next number is `next`, and `bad` items were
+/// bad.
 fn is_at(served: &Hosted, two: u64, three: u64, next: u64, bad: u64) -> bool {
     let map = served.served.map();
     if map.count(Number(2)) != two || map.count(Number(3)) != three {
@@ -160,12 +162,12 @@ fn is_at(served: &Hosted, two: u64, three: u64, next: u64, bad: u64) -> bool {
     map.next() == next && map.bad_items() == bad
 }
 
-/// Returns whether the next file is this one.
+/// Returns whether the next file is `file`.
 fn is_next_file(served: &Hosted, file: u64) -> bool {
     served.served.tree().next_file() == FileId(file)
 }
 
-/// Returns the answer that a name is such a file's, of this number.
+/// Makes the answer of an entry: `number` with the attributes of `is`.
 fn entry_of(number: u64, is: Is) -> Answer {
     Answer::Entry {
         number: Number(number),
@@ -173,7 +175,7 @@ fn entry_of(number: u64, is: Is) -> Answer {
     }
 }
 
-/// Returns the answer that a file was made, of this number.
+/// Makes the answer to a CREATE whose file got `number`.
 fn opened_as(number: u64) -> Answer {
     Answer::Opened {
         number: Number(number),
@@ -181,7 +183,7 @@ fn opened_as(number: u64) -> Answer {
     }
 }
 
-/// Returns the answer that a number is such a file's.
+/// Makes the answer to a GETATTR of `number`, with the attributes of `is`.
 fn attrs_of(number: u64, is: Is) -> Answer {
     Answer::Attrs {
         number: Number(number),
@@ -189,7 +191,7 @@ fn attrs_of(number: u64, is: Is) -> Answer {
     }
 }
 
-/// Does a deed, and returns whether its outcome is the expected one.
+/// Does `deed`, and returns whether its outcome is the expected one.
 fn goes_so(alloc: Global, served: &mut Hosted, deed: Deed) -> bool {
     match deed {
         Deed::Refuse(asks, dir, name, errno) => {
@@ -213,7 +215,7 @@ fn goes_so(alloc: Global, served: &mut Hosted, deed: Deed) -> bool {
     }
 }
 
-/// Does each of `deeds`, one after the other, and returns whether each outcome is the expected one.
+/// Does `deeds` one after another, and returns whether each outcome is the expected one.
 fn each_goes_so(alloc: Global, served: &mut Hosted, deeds: &[Deed]) -> bool {
     for deed in deeds {
         if !goes_so(alloc, served, *deed) {
@@ -223,7 +225,7 @@ fn each_goes_so(alloc: Global, served: &mut Hosted, deeds: &[Deed]) -> bool {
     true
 }
 
-/// Does each of `deeds` on a new daemon, and returns whether each outcome is the expected one.
+/// Does `deeds` one after another on a new daemon, and returns whether each outcome is the expected one.
 pub(crate) fn all_go_so(alloc: Global, deeds: &[Deed]) -> bool {
     match Hosted::of(alloc, TEXT, 8) {
         Some(served) => {

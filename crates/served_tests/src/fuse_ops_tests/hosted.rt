@@ -1,4 +1,4 @@
-//! What a daemon serves, and a backing that fails.
+//! What a daemon serves, together with its manifest, and a backing that fails.
 ghost use Rattle.std.specs.Prelude.{None, if◌then◌else◌};
 ghost use Rattle.manifest.specs.Tree.{file_of, tree_of};
 
@@ -11,7 +11,7 @@ use manifest::{Content, Manifest};
 use std::alloc::Global;
 use std::marker::Model;
 
-/// What a daemon serves, with the manifest that it serves.
+/// What a daemon serves, with its manifest.
 #[derive(Drop)]
 pub struct Hosted {
     pub served: Served,
@@ -34,7 +34,7 @@ impl Model for Hosted {
 }
 
 impl Hosted {
-    /// Serves a text.
+    /// Begins to serve the manifest in `text`, and keeps up to `limit` files loaded.
     pub fn of(alloc: Global, text: &[u8], limit: usize) -> Option<Hosted> {
         let manifest = manifest_of(alloc, text).ok()?;
         match served_of(alloc, &manifest, limit) {
@@ -46,13 +46,13 @@ impl Hosted {
         }
     }
 
-    /// Answers a request from the manifest.
+    /// Answers `request` with the manifest as the backing.
     pub fn apply(&mut self, alloc: Global, request: &Request) -> Option<Answer> {
         let mut backing = ManifestBacking::of(&self.manifest);
         self.served.apply(alloc, &mut backing, request)
     }
 
-    /// Answers a request from a backing that gives `answers` answers, and then fails once.
+    /// Answers `request` with a backing that gives `answers` answers, and then fails once.
     pub fn apply_failing(
         &mut self,
         alloc: Global,
@@ -68,7 +68,7 @@ impl Hosted {
     }
 }
 
-/// A backing that answers a few times, and then fails once.
+/// A backing that gives `answers` answers, then fails once, and then answers again.
 #[derive(Drop)]
 struct FailingBacking<'a> {
     manifest: ManifestBacking<'a>,
@@ -97,7 +97,7 @@ impl Backing for FailingBacking<'_> {
     }
 }
 
-/// Answers a request, once more where memory was refused.
+/// Answers `request`, and once more if memory was refused.
 pub(crate) fn answer(alloc: Global, served: &mut Hosted, request: &Request) -> Option<Answer> {
     match served.apply(alloc, request) {
         Some(Answer::Error(Errno::ENOMEM)) => served.apply(alloc, request),

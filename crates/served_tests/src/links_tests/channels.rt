@@ -7,7 +7,7 @@ use std::alloc::Global;
 use std::test::Fail;
 use workers::{Posted, Taken};
 
-/// The answer to a look for an ask.
+/// The expected result of a `take`.
 enum Expected {
     /// An ask of this unique.
     Ask(u64),
@@ -16,19 +16,19 @@ enum Expected {
     Broken,
 }
 
-/// What the broker says, in parts of its bytes, and the outcome.
+/// What the broker says, in parts of its bytes, and the result of a `take`.
 struct Row {
     hears: &'static [&'static [u8]],
     taken: Expected,
-    /// What the channel says behind its Take.
+    /// What the channel says after its Take.
     says: &'static [u8],
 }
 
-/// The Take of generation 1.
+/// The text of a Take at generation 1.
 static TAKE: [u8; 13] = [0, 0, 0, 8, 1, 0, 0, 0, 0, 0, 0, 0, 1];
 
 static ROWS: [Row; 15] = [
-    // Empty, Ended, Stale of 2.
+    // Three rows: Empty; Ended; Stale, with the seat at generation 2.
     Row {
         hears: &[&[0, 0, 0, 0, 3]],
         taken: Expected::Empty,
@@ -44,7 +44,7 @@ static ROWS: [Row; 15] = [
         taken: Expected::Stopped(TakeFault::Stale(2)),
         says: &[],
     },
-    // A GETATTR of the root, unique 7.
+    // An Ask: GETATTR of the root, with unique 7.
     Row {
         hears: &[
             &[0, 0, 0, 56, 2],
@@ -56,7 +56,7 @@ static ROWS: [Row; 15] = [
         taken: Expected::Ask(7),
         says: &[],
     },
-    // A batch of one forget: number 2, once.
+    // An Ask: a batch of one item, which takes one lookup of number 2 back, with unique 8.
     Row {
         hears: &[
             &[0, 0, 0, 64, 2],
@@ -71,7 +71,7 @@ static ROWS: [Row; 15] = [
         taken: Expected::Ask(8),
         says: &[],
     },
-    // 40 bytes whose header says 41: EINVAL is posted.
+    // A request of 40 bytes whose header says 41: EINVAL is posted.
     Row {
         hears: &[
             &[0, 0, 0, 40, 2],
@@ -105,7 +105,7 @@ static ROWS: [Row; 15] = [
             0, 0, 0,
         ],
     },
-    // The same as EINVAL above, but the Post is answered NotAsked; or nothing.
+    // Two rows: the request of 40 bytes once more, but the Post is answered NotAsked, or not at all.
     Row {
         hears: &[
             &[0, 0, 0, 40, 2],
@@ -135,7 +135,7 @@ static ROWS: [Row; 15] = [
             0, 0, 0,
         ],
     },
-    // 39 bytes, and a FORGET of a wrong length: neither is answered.
+    // Two rows: a request of 39 bytes, and a FORGET of a wrong length. Neither is answered.
     Row {
         hears: &[
             &[0, 0, 0, 39, 2],
@@ -158,7 +158,7 @@ static ROWS: [Row; 15] = [
         taken: Expected::Broken,
         says: &[],
     },
-    // NotAsked, which answers no Take; a kind that is none; an end within a frame; an end.
+    // Four rows: NotAsked, which answers no Take; a kind that does not exist; an end within a frame; an end at once.
     Row {
         hears: &[&[0, 0, 0, 0, 8]],
         taken: Expected::Broken,
@@ -181,7 +181,7 @@ static ROWS: [Row; 15] = [
     },
 ];
 
-/// Joins parts of bytes.
+/// Joins `parts`, or returns none if memory was refused.
 fn joined(alloc: Global, parts: &[&[u8]]) -> Option<Vec<u8>> {
     let mut all = Vec::new(alloc);
     for part in parts {
@@ -192,7 +192,7 @@ fn joined(alloc: Global, parts: &[&[u8]]) -> Option<Vec<u8>> {
     Some(all)
 }
 
-/// Returns whether a channel gave what was expected, and ended for the expected cause.
+/// Returns whether `taken` is the `expected` result, and the channel ended for the expected cause.
 fn is_left(expected: &Expected, taken: &Taken, ended: Option<TakeFault>) -> bool {
     match expected {
         Expected::Ask(unique) => {
@@ -204,7 +204,7 @@ fn is_left(expected: &Expected, taken: &Taken, ended: Option<TakeFault>) -> bool
     }
 }
 
-/// Returns whether a `take` has the outcome that a row says.
+/// Returns whether a `take` of a channel that hears the bytes of `row` comes to what `row` says.
 fn takes(alloc: Global, row: &Row) -> bool {
     let Some(hears) = joined(alloc, row.hears) else {
         return false;
@@ -222,7 +222,7 @@ fn takes(alloc: Global, row: &Row) -> bool {
         && &said[13..] == row.says
 }
 
-/// Returns whether each row has its outcome.
+/// Calls `takes` with each row, and once more if the first call returned false.
 fn all_take(alloc: Global, rows: &[Row]) -> bool {
     for row in rows {
         if !takes(alloc, row) && !takes(alloc, row) {
@@ -237,12 +237,13 @@ fn a_channel_takes_what_it_hears(rt: HostRuntime) {
     assert!(rt; all_take(rt.alloc(), &ROWS));
 }
 
-/// The Post of generation 1 that answers ENOENT to unique 9.
+/// The text of a Post at generation 1, which answers ENOENT to unique 9.
 static POST: [u8; 29] = [
     0, 0, 0, 24, 4, 0, 0, 0, 0, 0, 0, 0, 1, 16, 0, 0, 0, 254, 255, 255, 255, 9, 0, 0, 0, 0, 0, 0, 0,
 ];
 
-/// Returns whether a reply is posted where the broker says these bytes, and whether it was said so.
+/// Posts ENOENT to unique 9 over a channel that hears `hears`. Returns whether the result is `wanted`, and the channel
+/// said `POST`.
 fn posts(alloc: Global, hears: &[u8], wanted: Posted) -> bool {
     let mut said = Vec::new(alloc);
     let Ok(mut channel) = SocketChannel::new(alloc, hears, &mut said, 1) else {
@@ -256,7 +257,7 @@ fn posts(alloc: Global, hears: &[u8], wanted: Posted) -> bool {
     posted == wanted && said.as_slice() == POST.as_slice()
 }
 
-/// Returns whether a reply is Done at Posted, and Broken at NotAsked, at Ended and where the input ends.
+/// Returns whether a post is `Done` if the broker says Posted, and `Broken` if it says NotAsked, Ended or nothing.
 fn all_post(alloc: Global) -> bool {
     posts(alloc, &[0, 0, 0, 0, 5], Posted::Done)
         && posts(alloc, &[0, 0, 0, 0, 8], Posted::Broken)

@@ -1,4 +1,4 @@
-//! Readers and writers that take and give a few bytes at a time, and fail.
+//! Readers and writers that give and take a few bytes at a time, and fail.
 use std::io::{self, ErrorKind, Read, Write};
 
 /// Bytes that are read a few at a time.
@@ -9,7 +9,7 @@ pub(crate) struct Pieces<'a> {
     pub first: usize,
     /// How many bytes a later read gives at most.
     pub later: usize,
-    /// Which read fails, counted from 1; none at 0.
+    /// The position of the read that fails, or 0 if none fails.
     pub fails: usize,
     pub reads: usize,
 }
@@ -32,7 +32,7 @@ impl Read for Pieces<'_> {
     }
 }
 
-/// A reader whose every read is interrupted.
+/// A reader of which each read is interrupted.
 #[derive(Drop)]
 pub(crate) struct Interrupted {
     pub reads: usize,
@@ -45,15 +45,15 @@ impl Read for Interrupted {
     }
 }
 
-/// A writer that takes a few bytes at a time, in memory that it has.
+/// A writer that appends a few bytes at a time to `held`.
 #[derive(Drop)]
 pub(crate) struct Sink {
     pub held: Vec<u8>,
     /// How many bytes a write takes at most.
     pub most: usize,
-    /// Which write fails, counted from 1; none at 0.
+    /// The position of the write that fails, or 0 if none fails.
     pub fails: usize,
-    /// Whether every other write is interrupted, from the first on.
+    /// Whether the first write is interrupted, and then every other one.
     pub stutters: bool,
     pub writes: usize,
 }

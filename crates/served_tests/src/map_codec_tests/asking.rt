@@ -12,19 +12,19 @@ use map_codec::image_of;
 use map_image::Image;
 use std::alloc::Global;
 
-/// Which request a test makes, by a directory's number and a name in it.
+/// A request as data: its kind, a directory's number, and a name in that directory.
 pub type Asking = (Asks, u64, &'static [u8]);
 
 /// The kinds of request that a test makes.
 #[derive(Clone, Copy)]
 pub enum Asks {
     LookUp,
-    /// Makes a file in the root with these permissions.
+    /// Makes a file with these permissions.
     Create(u16),
     Unlink,
 }
 
-/// Makes a request.
+/// Makes the request of `asking`.
 pub fn request_of(alloc: Global, asking: Asking) -> Result<Request, NameFault> {
     let (asks, dir, bytes) = asking;
     let name = name_of(alloc, bytes)?;
@@ -40,7 +40,7 @@ pub fn request_of(alloc: Global, asking: Asking) -> Result<Request, NameFault> {
     })
 }
 
-/// Makes requests, and returns whether each has a name.
+/// Makes and answers the requests of `askings`. Returns whether all could be made.
 fn asks_all(alloc: Global, served: &mut Served, manifest: &Manifest, askings: &[Asking]) -> bool
     requires over { served.old.tree.manifest ≡ manifest.now }
 {
@@ -56,7 +56,7 @@ fn asks_all(alloc: Global, served: &mut Served, manifest: &Manifest, askings: &[
     true
 }
 
-/// Calls `image_of`, and once more where memory was refused.
+/// Calls `image_of`, and once more if memory was refused.
 fn image_taken(alloc: Global, served: &Served) -> Result<Image, NoMemory>
     ensures fit { IfOk result IsFit }
 {
@@ -66,7 +66,7 @@ fn image_taken(alloc: Global, served: &Served) -> Result<Image, NoMemory>
     }
 }
 
-/// Returns whether the image of a daemon has these bytes.
+/// Returns whether the image of `served` is written as `bytes`.
 pub fn is_spelled(alloc: Global, served: &Served, bytes: &[u8]) -> bool {
     match image_taken(alloc, served) {
         Ok(image) => {
@@ -78,7 +78,7 @@ pub fn is_spelled(alloc: Global, served: &Served, bytes: &[u8]) -> bool {
     }
 }
 
-/// Makes requests, and returns whether the image after them has these bytes.
+/// Answers the requests of `askings`, and returns whether the image of `served` is written as `bytes` then.
 fn asks_and_spells(
     alloc: Global,
     served: &mut Served,
@@ -91,7 +91,7 @@ fn asks_and_spells(
     asks_all(alloc, served, manifest, askings) && is_spelled(alloc, served, bytes)
 }
 
-/// Makes requests of a new daemon, and returns whether its image has these bytes.
+/// Calls `asks_and_spells` with a new daemon.
 pub(crate) fn is_spelled_after(
     alloc: Global,
     manifest: &Manifest,

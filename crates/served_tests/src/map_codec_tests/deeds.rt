@@ -1,4 +1,4 @@
-//! Deeds over one manifest, with their outcomes, as data, so that a test is a table.
+//! Checks of images over one manifest, with their expected outcomes, as data. A test is a table of such checks.
 use super::asking::{Asking, is_spelled_after};
 use super::deep_tests::{is_chain_handed, is_chain_raised, is_circle_refused};
 use super::handing_tests::{is_not_taken_with, is_rest_not_taken};
@@ -10,7 +10,7 @@ use manifest::Manifest;
 use map_codec::RaiseFault;
 use std::alloc::Global;
 
-/// A checkout with a directory and three files.
+/// A manifest of a directory and three files.
 const CHECKOUT: &[u8] = b"commit 0123456789abcdef0123456789abcdef01234567
 dir src
 file 0644 12 src/a
@@ -20,29 +20,31 @@ file 0644 7 README
 
 #[derive(Clone, Copy)]
 pub enum Deed {
-    /// After these requests the image has these bytes.
+    /// After these requests to a new daemon, its image is written as these bytes.
     Spell(&'static [Asking], &'static [u8]),
-    /// The daemon that this image restores has that image.
+    /// The daemon that is restored from these bytes has an image that is written as these bytes.
     Raise(&'static [u8]),
-    /// The changed image with a byte set is refused for this cause.
+    /// `CHANGED` with this byte at this index is refused for this cause.
     Refuse(usize, u8, RaiseFault),
-    /// The changed image with the name of its first entry in the second too is refused.
+    /// `CHANGED` with the name of its first entry in its second entry too is refused.
     RefuseTwice,
-    /// The changed image with a byte set isn't taken over.
+    /// `CHANGED` with this byte at this index isn't taken over.
     NotTaken(usize, u8),
-    /// The changed image with a byte behind it isn't taken over.
+    /// `CHANGED` with a byte after it isn't taken over.
     RestNotTaken,
-    /// The image of this number of directories, each in the one before it, is restored, and handed over or refused.
+    /// The image of this many directories, each in the one before, is restored. The second field says whether a
+    /// handover is then refused.
     HandChain(u32, bool),
-    /// The daemon that the changed image with eight bytes set restores answers a request with this error.
+    /// A daemon that is restored from `CHANGED`, with eight bytes set from this index on, answers a request with this
+    /// error.
     Limit(usize, [u8; 8], Asking, Errno),
-    /// The image of this number of directories, each in the one before it, is restored.
+    /// The image of this many directories, each in the one before, is restored.
     RaiseChain(u32),
-    /// The image of this number of entries in a circle is refused.
+    /// The image of this many entries in a circle is refused.
     RefuseCircle(u32),
 }
 
-/// Does a deed, and returns whether its outcome is the expected one.
+/// Makes the check of `deed`, and returns whether its outcome is the expected one.
 fn goes_so(alloc: Global, manifest: &Manifest, deed: Deed) -> bool {
     match deed {
         Deed::Spell(askings, bytes) => is_spelled_after(alloc, manifest, askings, bytes),
@@ -60,7 +62,7 @@ fn goes_so(alloc: Global, manifest: &Manifest, deed: Deed) -> bool {
     }
 }
 
-/// Does each deed, and returns whether each outcome is the expected one.
+/// Makes the checks of `deeds`, and returns whether each outcome is the expected one.
 fn each_goes_so(alloc: Global, manifest: &Manifest, deeds: &[Deed]) -> bool {
     for deed in deeds {
         if !goes_so(alloc, manifest, *deed) {
@@ -70,7 +72,7 @@ fn each_goes_so(alloc: Global, manifest: &Manifest, deeds: &[Deed]) -> bool {
     true
 }
 
-/// Does each deed over the manifest, and returns whether each outcome is the expected one.
+/// Makes the checks of `deeds` over the manifest `CHECKOUT`, and returns whether each outcome is the expected one.
 pub(crate) fn all_go_so(alloc: Global, deeds: &[Deed]) -> bool {
     match manifest_of(alloc, CHECKOUT) {
         Ok(manifest) => {

@@ -1,4 +1,4 @@
-//! Entries that stand in one another, so deep that a walk up may not take stack for each, and in a circle.
+//! Entries in one another, so deep that a walk up must not take stack for each of them, and entries in a circle.
 use super::deeds::{Deed, all_go_so};
 use super::handing_tests::is_raised_and_handed;
 use super::images::put;
@@ -8,10 +8,10 @@ use manifest::Manifest;
 use map_codec::RaiseFault;
 use std::alloc::{AllocError, Global};
 
-/// The first file that the checkout doesn't have.
+/// The first file id that `CHECKOUT` doesn't have.
 const FIRST_FILE: u64 = 6;
 
-/// Puts an entry named `a` in the directory of a number.
+/// Appends the entry of `number`, named `a` in the directory `parent`.
 fn put_entry(bytes: &mut Vec<u8>, number: u64, parent: u64) -> Result<(), AllocError> {
     put(
         bytes,
@@ -24,7 +24,7 @@ fn put_entry(bytes: &mut Vec<u8>, number: u64, parent: u64) -> Result<(), AllocE
     )
 }
 
-/// Puts `count` entries named `a`, each in the directory of the next, and the last in that of the number `top`.
+/// Appends `count` entries named `a`, each in the directory of the next, and the last in the directory `top`.
 fn put_entries(bytes: &mut Vec<u8>, count: u32, top: u64) -> Result<(), AllocError> {
     bytes.extend_from_slice(&count.to_be_bytes())?;
     for i in 0..count {
@@ -35,7 +35,7 @@ fn put_entries(bytes: &mut Vec<u8>, count: u32, top: u64) -> Result<(), AllocErr
     Ok(())
 }
 
-/// Puts `count` directories that were made.
+/// Appends `count` made directories.
 fn put_made(bytes: &mut Vec<u8>, count: u32) -> Result<(), AllocError> {
     bytes.extend_from_slice(&count.to_be_bytes())?;
     for i in 0..count {
@@ -45,7 +45,7 @@ fn put_made(bytes: &mut Vec<u8>, count: u32) -> Result<(), AllocError> {
     Ok(())
 }
 
-/// Puts the name `a` in a directory, which gives a file.
+/// Appends the changed link `a` in the directory `dir`, which gives `file`.
 fn put_link(bytes: &mut Vec<u8>, dir: u64, file: u64) -> Result<(), AllocError> {
     put(
         bytes,
@@ -57,7 +57,8 @@ fn put_link(bytes: &mut Vec<u8>, dir: u64, file: u64) -> Result<(), AllocError> 
     )
 }
 
-/// Puts `count` names `a`, the first in the root, and each other in the directory that the one before it gives.
+/// Appends `count` changed links named `a`. The first is in the root, and each other in the directory that the link
+/// before gives.
 fn put_links(bytes: &mut Vec<u8>, count: u32) -> Result<(), AllocError> {
     bytes.extend_from_slice(&count.to_be_bytes())?;
     let mut dir: u64 = 1;
@@ -69,7 +70,8 @@ fn put_links(bytes: &mut Vec<u8>, count: u32) -> Result<(), AllocError> {
     Ok(())
 }
 
-/// Spells what stands before the entries: the next number and the next file are those behind `count` of them.
+/// Appends the bytes of an image before its entries. The next number and the next file are those after `count` entries
+/// and `count` made files.
 fn put_head(bytes: &mut Vec<u8>, count: u32) -> Result<(), AllocError> {
     let (head, _) = CHANGED.split_at(34);
     let next_number = (u64::from(count) + 2).to_be_bytes();
@@ -77,7 +79,7 @@ fn put_head(bytes: &mut Vec<u8>, count: u32) -> Result<(), AllocError> {
     put(bytes, &[head, next_number.as_slice(), next_file.as_slice()])
 }
 
-/// Spells the image of `count` directories, each made in the one before it, of which the deepest has the first number.
+/// Appends the image of `count` directories, each made in the one before. The deepest has the first number.
 fn put_chain(bytes: &mut Vec<u8>, count: u32) -> Result<(), AllocError> {
     put_head(bytes, count)?;
     put_entries(bytes, count, 1)?;
@@ -85,20 +87,22 @@ fn put_chain(bytes: &mut Vec<u8>, count: u32) -> Result<(), AllocError> {
     put_links(bytes, count)
 }
 
-/// Spells the image of `count` entries, of which each stands above itself. No file was made, and no name changed.
+/// Appends the image of `count` entries in a circle: each stands in the next, and the last in the first. No file was
+/// made, and no name changed.
 fn put_circle(bytes: &mut Vec<u8>, count: u32) -> Result<(), AllocError> {
     put_head(bytes, count)?;
     put_entries(bytes, count, 2)?;
     put(bytes, &[[0; 8].as_slice()])
 }
 
-/// Returns whether a chain of `count` directories is restored.
+/// Returns whether the image of `count` directories by `put_chain` is restored.
 pub(crate) fn is_chain_raised(alloc: Global, manifest: &Manifest, count: u32) -> bool {
     let mut bytes = Vec::new(alloc);
     put_chain(&mut bytes, count).is_ok() && comes_to(alloc, manifest, bytes.as_slice(), None)
 }
 
-/// Returns whether a chain of `count` directories is restored, and handed over or refused.
+/// Returns whether the image of `count` directories by `put_chain` is restored, and then handed over, or refused if
+/// `is_refused`.
 pub(crate) fn is_chain_handed(
     alloc: Global,
     manifest: &Manifest,
@@ -110,7 +114,7 @@ pub(crate) fn is_chain_handed(
         && is_raised_and_handed(alloc, manifest, bytes.as_slice(), is_refused)
 }
 
-/// Returns whether a circle of `count` entries is refused.
+/// Returns whether the image of `count` entries by `put_circle` is refused with `NoLink`.
 pub(crate) fn is_circle_refused(alloc: Global, manifest: &Manifest, count: u32) -> bool {
     let mut bytes = Vec::new(alloc);
     put_circle(&mut bytes, count).is_ok()

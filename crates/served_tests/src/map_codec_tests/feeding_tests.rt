@@ -1,4 +1,4 @@
-//! Images fed in pieces: every cut gives the image, or the fault, that the whole gives.
+//! Images that are fed in pieces. Each cut gives the image, or the fault, that the whole bytes give.
 ghost use Rattle.std.specs.Prelude.{IfOk};
 ghost use Rattle.map_image.specs.Fit.{IsFit};
 
@@ -8,7 +8,7 @@ use eden_base::NoMemory;
 use map_image::{Image, ImageFault, ImageReader};
 use std::alloc::{AllocError, Global};
 
-/// Returns a reader that took nothing, made once more where memory was refused.
+/// Makes a reader that was fed nothing, and tries once more if memory was refused.
 fn reader_of(alloc: Global) -> Result<ImageReader, ImageFault> {
     match ImageReader::new(alloc) {
         Ok(reader) => Ok(reader),
@@ -19,7 +19,7 @@ fn reader_of(alloc: Global) -> Result<ImageReader, ImageFault> {
     }
 }
 
-/// Feeds a piece, and once more where memory was refused.
+/// Feeds `piece` to `reader`, and once more if memory was refused.
 fn feed(reader: &mut ImageReader, piece: &[u8]) -> Result<(), ImageFault> {
     match reader.feed(piece) {
         Ok(()) => Ok(()),
@@ -28,7 +28,7 @@ fn feed(reader: &mut ImageReader, piece: &[u8]) -> Result<(), ImageFault> {
     }
 }
 
-/// Copies a reader, and once more where memory was refused.
+/// Copies `reader`, and tries once more if memory was refused.
 fn copy_of(reader: &ImageReader) -> Result<ImageReader, NoMemory> {
     match reader.copy() {
         Ok(copy) => Ok(copy),
@@ -36,7 +36,7 @@ fn copy_of(reader: &ImageReader) -> Result<ImageReader, NoMemory> {
     }
 }
 
-/// Feeds a piece and ends. Returns the image.
+/// Feeds `piece` to `reader` as the last one, and returns the image.
 fn ended(reader: ImageReader, piece: &[u8]) -> Result<Image, ImageFault>
     ensures fit { IfOk result IsFit }
 {
@@ -45,7 +45,7 @@ fn ended(reader: ImageReader, piece: &[u8]) -> Result<Image, ImageFault>
     reader.finish()
 }
 
-/// Returns the image of bytes in two pieces, the first of this length.
+/// Reads the image of `bytes` in two pieces, the first of `len` bytes.
 fn image_of_two(alloc: Global, bytes: &[u8], len: usize) -> Result<Image, ImageFault>
     ensures fit { IfOk result IsFit }
 {
@@ -57,7 +57,7 @@ fn image_of_two(alloc: Global, bytes: &[u8], len: usize) -> Result<Image, ImageF
     ended(reader, second)
 }
 
-/// Returns the image of bytes that come one by one.
+/// Reads the image of `bytes`, fed one by one.
 fn image_of_each(alloc: Global, bytes: &[u8]) -> Result<Image, ImageFault>
     ensures fit { IfOk result IsFit }
 {
@@ -68,7 +68,7 @@ fn image_of_each(alloc: Global, bytes: &[u8]) -> Result<Image, ImageFault>
     reader.finish()
 }
 
-/// Returns whether there is an image, spelled so.
+/// Returns whether `image` is an image that is written as `bytes`.
 fn is_spelled(alloc: Global, image: Result<Image, ImageFault>, bytes: &[u8]) -> bool
     requires fit { IfOk image IsFit }
 {
@@ -82,7 +82,7 @@ fn is_spelled(alloc: Global, image: Result<Image, ImageFault>, bytes: &[u8]) -> 
     }
 }
 
-/// Returns the fault, if there is one.
+/// Returns the fault in `image`, or none.
 fn told(image: Result<Image, ImageFault>) -> Option<ImageFault> {
     match image {
         Ok(image) => {
@@ -93,7 +93,7 @@ fn told(image: Result<Image, ImageFault>) -> Option<ImageFault> {
     }
 }
 
-/// Returns whether an image is read in every cut into two pieces.
+/// Returns whether `bytes` are read in each cut into two pieces, and the image is written as `bytes` again.
 fn is_read_in_each_cut(alloc: Global, bytes: &[u8]) -> bool {
     for len in 0..bytes.len() + 1 {
         if !is_spelled(alloc, image_of_two(alloc, bytes, len), bytes) {
@@ -103,7 +103,7 @@ fn is_read_in_each_cut(alloc: Global, bytes: &[u8]) -> bool {
     true
 }
 
-/// Returns whether it is read byte by byte.
+/// Returns whether `bytes` are read one by one, and the image is written as `bytes` again.
 fn is_read_in_bytes(alloc: Global, bytes: &[u8]) -> bool {
     is_spelled(alloc, image_of_each(alloc, bytes), bytes)
 }
@@ -122,7 +122,7 @@ fn reads_an_image_byte_by_byte(rt: HostRuntime) {
     assert!(rt; is_read_in_bytes(rt.alloc(), &MOVED));
 }
 
-/// Returns whether bytes have the same fault in every cut, and byte by byte, as the whole has.
+/// Returns whether `bytes` in each cut, and byte by byte, have the same fault as in one piece.
 fn is_refused_in_each_cut(alloc: Global, bytes: &[u8]) -> bool {
     let fault = fault_of(alloc, bytes);
     for len in 0..bytes.len() + 1 {
@@ -133,8 +133,8 @@ fn is_refused_in_each_cut(alloc: Global, bytes: &[u8]) -> bool {
     told(image_of_each(alloc, bytes)) == fault
 }
 
-/// A byte of the magic, the version, the second entry's number, the first one's mark, name and count, the made file's
-/// mark and permissions, and the counts of the three lists.
+/// Indexes with the byte that `CHANGED` gets there: in the magic, the version, the second entry's number, the first
+/// entry's mark, name and count, the made file's kind and permissions, and the counts of the three lists.
 static CHANGES: [(usize, u8); 11] = [
     (3, 0x46),
     (5, 9),
@@ -149,7 +149,7 @@ static CHANGES: [(usize, u8); 11] = [
     (146, 1),
 ];
 
-/// Returns that of the image with one byte set.
+/// Calls `is_refused_in_each_cut` with `CHANGED` for each of `changes`, with that byte set.
 fn are_refused_in_each_cut(alloc: Global, changes: &[(usize, u8)]) -> bool {
     for (at, byte) in changes {
         if !is_refused_in_each_cut(alloc, changed_with(*at, *byte).as_slice()) {
@@ -159,7 +159,7 @@ fn are_refused_in_each_cut(alloc: Global, changes: &[(usize, u8)]) -> bool {
     true
 }
 
-/// Returns that of the image with a byte behind it.
+/// Calls `is_refused_in_each_cut` with `CHANGED` and a byte after it.
 fn is_more_refused_in_each_cut(alloc: Global) -> bool {
     match all(alloc, &[CHANGED.as_slice(), b"\0".as_slice()]) {
         Ok(bytes) => is_refused_in_each_cut(alloc, bytes.as_slice()),
@@ -173,7 +173,7 @@ fn tells_the_same_fault_in_every_cut(rt: HostRuntime) {
     assert!(rt; is_more_refused_in_each_cut(rt.alloc()));
 }
 
-/// Returns what is told of two pieces and of an end.
+/// Feeds `first` and `second` to a new reader and ends it. Returns the fault of each of these three calls.
 fn told_of(alloc: Global, first: &[u8], second: &[u8]) -> [Option<ImageFault>; 3] {
     let Ok(mut reader) = reader_of(alloc) else {
         return [Some(ImageFault::NoMemory); 3];
@@ -183,7 +183,7 @@ fn told_of(alloc: Global, first: &[u8], second: &[u8]) -> [Option<ImageFault>; 3
     [one, two, told(reader.finish())]
 }
 
-/// Returns whether a fault is told as soon as its field is whole, and then at each call.
+/// Returns whether a fault is returned as soon as its field is whole, and by each call from then on.
 fn stands(alloc: Global) -> bool {
     let wrong = changed_with(5, 9);
     let (front, rest) = wrong.split_at(5);
@@ -199,7 +199,7 @@ fn tells_a_fault_again(rt: HostRuntime) {
     assert!(rt; stands(rt.alloc()));
 }
 
-/// Returns whether a reader and its copy, made behind this many bytes, both read the rest.
+/// Feeds the first `len` of `bytes` to a reader, and copies it. Returns whether reader and copy both read the rest.
 fn are_alike_behind(alloc: Global, bytes: &[u8], len: usize) -> bool {
     let (first, second) = bytes
         .split_at_checked(len)
@@ -216,7 +216,7 @@ fn are_alike_behind(alloc: Global, bytes: &[u8], len: usize) -> bool {
         && is_spelled(alloc, ended(reader, second), bytes)
 }
 
-/// Returns that of each length.
+/// Calls `are_alike_behind` with each length up to that of `bytes`.
 fn are_copies_alike(alloc: Global, bytes: &[u8]) -> bool {
     for len in 0..bytes.len() + 1 {
         if !are_alike_behind(alloc, bytes, len) {

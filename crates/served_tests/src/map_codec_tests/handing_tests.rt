@@ -1,5 +1,5 @@
-//! Each cause that stops a handover or a takeover. A call that is refused memory is made once more; so where memory
-//! is ample none of them may be told as out of memory.
+//! Each cause that stops a handover or a takeover. A call that was refused memory is made once more. So while memory is
+//! ample, no cause may come out as `NoMemory`.
 use super::deeds::{Deed, all_go_so};
 use super::images::all;
 use super::raise_tests::raised;
@@ -9,7 +9,7 @@ use manifest::Manifest;
 use map_codec::{HandoverFault, hand_over, take_over};
 use std::alloc::{AllocError, Global};
 
-/// Takes over at generation 1.
+/// Takes `bytes` over at generation 1, and once more if memory was refused.
 fn taken(alloc: Global, manifest: &Manifest, bytes: &[u8]) -> Result<Served, HandoverFault> {
     match take_over(alloc, bytes, manifest, 8, 1) {
         Err(HandoverFault::NoMemory) => take_over(alloc, bytes, manifest, 8, 1),
@@ -17,7 +17,7 @@ fn taken(alloc: Global, manifest: &Manifest, bytes: &[u8]) -> Result<Served, Han
     }
 }
 
-/// Returns whether taking these bytes over is refused.
+/// Returns whether taking `bytes` over is refused.
 pub(crate) fn is_not_taken(alloc: Global, manifest: &Manifest, bytes: &[u8]) -> bool {
     match taken(alloc, manifest, bytes) {
         Ok(served) => {
@@ -28,12 +28,12 @@ pub(crate) fn is_not_taken(alloc: Global, manifest: &Manifest, bytes: &[u8]) -> 
     }
 }
 
-/// Returns whether taking the changed image over is refused, with one byte set.
+/// Returns whether taking over `CHANGED` with `byte` at the index `at` is refused.
 pub(crate) fn is_not_taken_with(alloc: Global, manifest: &Manifest, at: usize, byte: u8) -> bool {
     is_not_taken(alloc, manifest, changed_with(at, byte).as_slice())
 }
 
-/// Returns whether taking the changed image over is refused, with a byte behind it.
+/// Returns whether taking over `CHANGED` with a byte after it is refused.
 pub(crate) fn is_rest_not_taken(alloc: Global, manifest: &Manifest) -> bool {
     match all(alloc, &[CHANGED.as_slice(), b"\0".as_slice()]) {
         Ok(longer) => {
@@ -45,8 +45,8 @@ pub(crate) fn is_rest_not_taken(alloc: Global, manifest: &Manifest) -> bool {
     }
 }
 
-/// Magic, version, commit and generation; the first entry's number, mark, count and length of its name; how many links
-/// were changed.
+/// Changes of `CHANGED`: its magic, version, commit and generation; the first entry's number, mark, count and length of
+/// its name; the count of changed links; a byte after the end.
 static NOT_TAKEN: [Deed; 10] = [
     Deed::NotTaken(0, 0x46),
     Deed::NotTaken(5, 9),
@@ -65,7 +65,7 @@ fn refuses_to_take_what_is_no_image_of_this_mount(rt: HostRuntime) {
     assert!(rt; all_go_so(rt.alloc(), &NOT_TAKEN));
 }
 
-/// Hands over in version 1.
+/// Hands `served` over in version 1, and once more if memory was refused.
 fn handed(alloc: Global, served: &Served) -> Result<Vec<u8>, HandoverFault> {
     match hand_over(alloc, served, 1, 1) {
         Err(HandoverFault::NoMemory) => hand_over(alloc, served, 1, 1),
@@ -73,7 +73,7 @@ fn handed(alloc: Global, served: &Served) -> Result<Vec<u8>, HandoverFault> {
     }
 }
 
-/// Returns whether what is served is handed over as these bytes, or refused where it should be.
+/// Returns whether `served` is handed over as `bytes`, or refused if `is_refused`.
 fn is_handed_so(alloc: Global, served: &Served, bytes: &[u8], is_refused: bool) -> bool {
     match handed(alloc, served) {
         Ok(text) => !is_refused && text.as_slice() == bytes,
@@ -81,7 +81,7 @@ fn is_handed_so(alloc: Global, served: &Served, bytes: &[u8], is_refused: bool) 
     }
 }
 
-/// Restores an image, and returns whether it is handed over as the same bytes, or refused where it should be.
+/// Restores the image in `bytes`, and calls `is_handed_so` with what is served then.
 pub(crate) fn is_raised_and_handed(
     alloc: Global,
     manifest: &Manifest,
@@ -98,7 +98,8 @@ pub(crate) fn is_raised_and_handed(
     }
 }
 
-/// The image of 1,225 directories in one another has 64,987 bytes, and that of one more 65,040.
+/// The image of 1,225 directories, each in the one before, has 64,987 bytes. That of 1,226 has 65,040, too many for
+/// version 1.
 static HANDED: [Deed; 2] = [Deed::HandChain(1225, false), Deed::HandChain(1226, true)];
 
 #[test]

@@ -1,12 +1,11 @@
-//! Images that are read and written: calls that take memory, each made once more where it was refused, and what they
-//! come to.
+//! Calls that read and write images, each made once more if memory was refused, and comparisons of their results.
 ghost use Rattle.std.specs.Prelude.{IfOk};
 ghost use Rattle.map_image.specs.Fit.{CountsFit, IsFit};
 
 use map_image::{Image, ImageFault, WriteFault, read, write};
 use std::alloc::{AllocError, Global};
 
-/// Calls `read`, and once more where memory was refused.
+/// Calls `read`, and once more if memory was refused.
 pub fn image_of_bytes(alloc: Global, bytes: &[u8]) -> Result<Image, ImageFault>
     ensures fit { IfOk result IsFit }
     ensures counts { IfOk result (λ image. CountsFit image.entries) }
@@ -18,7 +17,7 @@ pub fn image_of_bytes(alloc: Global, bytes: &[u8]) -> Result<Image, ImageFault>
     }
 }
 
-/// Calls `write`, and once more where memory was refused.
+/// Calls `write`, and once more if memory was refused.
 pub(crate) fn text_of(alloc: Global, image: &Image, version: u16) -> Result<Vec<u8>, WriteFault>
     requires { IsFit image.now }
 {
@@ -29,7 +28,7 @@ pub(crate) fn text_of(alloc: Global, image: &Image, version: u16) -> Result<Vec<
     }
 }
 
-/// Returns whether an image is written in a version as these bytes.
+/// Returns whether `image` is written in `version` as `bytes`.
 pub(crate) fn has_text_in(alloc: Global, image: &Image, version: u16, bytes: &[u8]) -> bool
     requires { IsFit image.now }
 {
@@ -39,14 +38,14 @@ pub(crate) fn has_text_in(alloc: Global, image: &Image, version: u16, bytes: &[u
     }
 }
 
-/// Returns whether an image is written in version 1 as these bytes.
+/// Returns whether `image` is written in version 1 as `bytes`.
 pub(crate) fn has_text(alloc: Global, image: &Image, bytes: &[u8]) -> bool
     requires { IsFit image.now }
 {
     has_text_in(alloc, image, 1, bytes)
 }
 
-/// Returns whether an image is written in version 2 as these bytes of version 1, but for the number of the version.
+/// Returns whether `image` is written in version 2 as `bytes`, but for the version: `bytes` are of version 1.
 fn has_second_text(alloc: Global, image: &Image, bytes: &[u8]) -> bool
     requires { IsFit image.now }
 {
@@ -62,7 +61,8 @@ fn has_second_text(alloc: Global, image: &Image, bytes: &[u8]) -> bool
     }
 }
 
-/// Returns whether the image of a text is written as that text in version 1, so in version 2, and in no version 3.
+/// Reads the image in `bytes`. Returns whether version 1 writes that image as `bytes`, version 2 as the same bytes with
+/// another version, and version 3 not at all.
 pub(crate) fn is_written_again(alloc: Global, bytes: &[u8]) -> bool {
     match image_of_bytes(alloc, bytes) {
         Ok(image) => {
@@ -77,7 +77,7 @@ pub(crate) fn is_written_again(alloc: Global, bytes: &[u8]) -> bool {
     }
 }
 
-/// Returns the fault of bytes that are no image.
+/// Returns the fault if `bytes` are no image, else none.
 pub(crate) fn fault_of(alloc: Global, bytes: &[u8]) -> Option<ImageFault> {
     match image_of_bytes(alloc, bytes) {
         Ok(image) => {
@@ -88,7 +88,7 @@ pub(crate) fn fault_of(alloc: Global, bytes: &[u8]) -> Option<ImageFault> {
     }
 }
 
-/// Puts these bytes behind others.
+/// Appends `parts` to `bytes`, one after another.
 pub fn put(bytes: &mut Vec<u8>, parts: &[&[u8]]) -> Result<(), AllocError> {
     for part in parts {
         bytes.extend_from_slice(part)?;
@@ -96,14 +96,14 @@ pub fn put(bytes: &mut Vec<u8>, parts: &[&[u8]]) -> Result<(), AllocError> {
     Ok(())
 }
 
-/// Returns these bytes, one behind the other.
+/// Joins `parts`, one after another.
 fn joined(alloc: Global, parts: &[&[u8]]) -> Result<Vec<u8>, AllocError> {
     let mut bytes = Vec::new(alloc);
     put(&mut bytes, parts)?;
     Ok(bytes)
 }
 
-/// Joins bytes, and once more where memory was refused.
+/// Joins `parts`, and tries once more if memory was refused.
 pub fn all(alloc: Global, parts: &[&[u8]]) -> Result<Vec<u8>, AllocError> {
     match joined(alloc, parts) {
         Ok(bytes) => Ok(bytes),

@@ -1,4 +1,4 @@
-//! Answers where a count, or the numbers, came to their end before the image was written.
+//! Answers of daemons that are restored with the greatest count, or with no number left.
 ghost use Rattle.std.specs.Prelude.{◌≡◌};
 
 use super::asking::{Asking, Asks, is_spelled, request_of};
@@ -12,7 +12,7 @@ use fuse_wire::Answer;
 use manifest::Manifest;
 use std::alloc::Global;
 
-/// Returns the changed image with eight bytes set.
+/// Returns `CHANGED` with the eight bytes `others` from the index `at` on.
 fn changed_at(at: usize, others: [u8; 8]) -> [u8; 147] {
     let mut bytes = CHANGED;
     for i in 0..8 {
@@ -23,7 +23,7 @@ fn changed_at(at: usize, others: [u8; 8]) -> [u8; 147] {
     bytes
 }
 
-/// Returns whether a request is answered this error, and the image is as it was.
+/// Returns whether the request of `asking` is answered `errno`, and the image of `served` is still written as `bytes`.
 fn is_refused(
     alloc: Global,
     served: &mut Served,
@@ -46,7 +46,7 @@ fn is_refused(
     }
 }
 
-/// Returns whether `src` is looked up, and is number 2.
+/// Returns whether a LOOKUP of `src` is answered number 2.
 fn finds_src(alloc: Global, served: &mut Served, manifest: &Manifest) -> bool
     requires over { served.old.tree.manifest ≡ manifest.now }
 {
@@ -66,7 +66,8 @@ fn finds_src(alloc: Global, served: &mut Served, manifest: &Manifest) -> bool
     }
 }
 
-/// Returns whether a daemon answers a request with this error, keeps its image, and finds `src` again.
+/// Returns whether `served` answers the request of `asking` with `errno`, keeps its image `bytes`, and finds `src`
+/// afterwards.
 fn refuses_once(
     alloc: Global,
     served: &mut Served,
@@ -80,7 +81,7 @@ fn refuses_once(
     is_refused(alloc, served, manifest, asking, errno, bytes) && finds_src(alloc, served, manifest)
 }
 
-/// Calls `refuses_once` on the daemon that these bytes restore.
+/// Calls `refuses_once` with the daemon that is restored from `bytes`.
 fn refuses(alloc: Global, manifest: &Manifest, bytes: &[u8], asking: Asking, errno: Errno) -> bool {
     match raised(alloc, manifest, bytes) {
         Ok(mut served) => {
@@ -92,7 +93,7 @@ fn refuses(alloc: Global, manifest: &Manifest, bytes: &[u8], asking: Asking, err
     }
 }
 
-/// Calls `refuses` with the changed image, in which eight bytes are set.
+/// Calls `refuses` with `CHANGED`, in which eight bytes are set from an index on, as `place` says.
 pub(crate) fn is_limited(
     alloc: Global,
     manifest: &Manifest,
@@ -104,7 +105,8 @@ pub(crate) fn is_limited(
     refuses(alloc, manifest, bytes.as_slice(), asking, errno)
 }
 
-/// The count of README is 2^32 - 1; the next number is 2^63 - 1, which is never given.
+/// Two limits, each set in `CHANGED`: the count of README is 2^32 - 1, and the next number is 2^63 - 1, which is never
+/// given.
 static LIMITS: [Deed; 2] = [
     Deed::Limit(
         88,

@@ -11,7 +11,7 @@ use manifest::Manifest;
 use map_codec::{RaiseFault, raise};
 use std::alloc::{AllocError, Global};
 
-/// Restores an image from these bytes. Bytes that are no image are no fault here.
+/// Restores a daemon from the image in `bytes`. Returns `Err(None)` if `bytes` are no image.
 fn raised_once(
     alloc: Global,
     manifest: &Manifest,
@@ -25,7 +25,7 @@ fn raised_once(
     }
 }
 
-/// Restores an image from these bytes, and once more where memory was refused.
+/// Calls `raised_once`, and once more if memory was refused.
 pub fn raised(
     alloc: Global,
     manifest: &Manifest,
@@ -39,7 +39,7 @@ pub fn raised(
     }
 }
 
-/// Returns whether the image of bytes is refused for this fault, or is restored where there is none.
+/// Returns whether the image in `bytes` is refused with `fault`, or restored if `fault` is none.
 pub fn comes_to(
     alloc: Global,
     manifest: &Manifest,
@@ -55,7 +55,7 @@ pub fn comes_to(
     }
 }
 
-/// Returns whether the changed image with one byte set is refused for this fault, and isn't taken over.
+/// Returns whether `CHANGED` with `byte` at the index `at` is refused with `fault`, and isn't taken over.
 pub(crate) fn comes_to_with(
     alloc: Global,
     manifest: &Manifest,
@@ -68,8 +68,8 @@ pub(crate) fn comes_to_with(
         && is_not_taken(alloc, manifest, bytes.as_slice())
 }
 
-/// One byte is changed in each: in the commit, in the made file, twice in the directory of the first entry and once in
-/// its name. Then in the mark of the third entry, and three times in the next number.
+/// Changes of one byte of `CHANGED`: in the commit, and in the made file's id; twice in the first entry's directory,
+/// and once in its name; in the file of the third entry; and three times in the next number.
 static FAULTS: [Deed; 9] = [
     Deed::Refuse(6, 2, RaiseFault::OtherCommit),
     Deed::Refuse(139, 5, RaiseFault::BadChange(1)),
@@ -87,7 +87,8 @@ fn tells_the_first_that_stands_against_an_image(rt: HostRuntime) {
     assert!(rt; all_go_so(rt.alloc(), &FAULTS));
 }
 
-/// Returns whether the changed image, whose second entry gets the name of the first, is refused and isn't taken over.
+/// Gives the second entry of `CHANGED` the name of the first. Returns whether that is refused with `TwoNumbers`, and
+/// isn't taken over.
 pub(crate) fn is_twice_refused(alloc: Global, manifest: &Manifest) -> bool {
     let (front, rest) = CHANGED.split_at(100);
     let (_, rest) = rest.split_at(7);
@@ -108,7 +109,7 @@ fn refuses_two_numbers_of_one_file(rt: HostRuntime) {
     assert!(rt; all_go_so(rt.alloc(), &[Deed::RefuseTwice]));
 }
 
-/// Returns whether a restored daemon has the image that it was restored from.
+/// Returns whether a daemon that is restored from `bytes` has an image that is written as `bytes`.
 pub(crate) fn is_raised_and_spelled(alloc: Global, manifest: &Manifest, bytes: &[u8]) -> bool {
     match raised(alloc, manifest, bytes) {
         Ok(served) => {

@@ -1,4 +1,5 @@
-//! The longest text of an image in each version, the parts of a text, and a count that is too large for one.
+//! The longest text of an image in version 1, the parts of texts of version 2, and a count that is too large for a
+//! text.
 ghost use Rattle.std.specs.Prelude.{◌≤◌, length, IfOk, IsTrue};
 ghost use Rattle.map_image.specs.Fit.{IsFit};
 
@@ -10,11 +11,11 @@ use eden_base::NoMemory;
 use map_image::{Entries, Image, WriteFault, cut};
 use std::alloc::{AllocError, Global};
 
-/// The length of a text, how many parts it has, and how long the last one is.
+/// The length of a text, the count of its parts, and the length of the last part.
 type Size = (u32, usize, usize);
 
-/// The least text of an entry with a name; one part and a byte more; two parts and a byte more; the longest text of
-/// version 1 and a byte more; and longer ones.
+/// The shortest text of an entry with a name; a part, with a byte less and a byte more; two parts and a byte more; the
+/// longest text of version 1 and a byte more; and longer texts.
 static SIZES: [Size; 11] = [
     (85, 1, 85),
     (4_095, 1, 4_095),
@@ -29,7 +30,7 @@ static SIZES: [Size; 11] = [
     (1_000_000, 245, 576),
 ];
 
-/// Returns whether the image of a text is written in a version as that text.
+/// Returns whether the image in `bytes` is written in `version` as `bytes`.
 fn is_written_in(alloc: Global, version: u16, bytes: &[u8]) -> bool {
     match image_of_bytes(alloc, bytes) {
         Ok(image) => {
@@ -41,7 +42,7 @@ fn is_written_in(alloc: Global, version: u16, bytes: &[u8]) -> bool {
     }
 }
 
-/// Returns whether the image of a text is too long to be written in version 1.
+/// Returns whether the image in `bytes` is refused as too long when it is written in version 1.
 fn is_too_long(alloc: Global, bytes: &[u8]) -> bool {
     match image_of_bytes(alloc, bytes) {
         Ok(image) => {
@@ -55,7 +56,8 @@ fn is_too_long(alloc: Global, bytes: &[u8]) -> bool {
     }
 }
 
-/// Returns whether a text of version 1 is written up to 65,000 bytes, and is too long above.
+/// Returns whether a text of `len` bytes is written again in version 1, or refused as too long if `len` is above
+/// 65,000.
 fn is_first_written(alloc: Global, len: u32) -> bool {
     let text = sized(alloc, 1, len);
     if len > 65_000 {
@@ -65,7 +67,7 @@ fn is_first_written(alloc: Global, len: u32) -> bool {
     }
 }
 
-/// Cuts a text, and once more where memory was refused.
+/// Cuts `text` into parts, and tries once more if memory was refused.
 fn parts_of(alloc: Global, text: &[u8]) -> Result<Vec<Bytes>, NoMemory>
     requires { 1 ≤ length text.now }
 {
@@ -75,7 +77,7 @@ fn parts_of(alloc: Global, text: &[u8]) -> Result<Vec<Bytes>, NoMemory>
     }
 }
 
-/// Returns whether there are `count` parts, each of 4,096 bytes but the last, which has `last`.
+/// Returns whether `parts` are `count` parts of 4,096 bytes each, but with `last` bytes in the last one.
 fn are_sized(parts: &[Bytes], count: usize, last: usize) -> bool {
     match parts {
         [] => false,
@@ -87,7 +89,7 @@ fn are_sized(parts: &[Bytes], count: usize, last: usize) -> bool {
     }
 }
 
-/// Puts parts one behind the other.
+/// Appends `parts` to `bytes`, one after another.
 fn put_parts(bytes: &mut Vec<u8>, parts: &[Bytes]) -> Result<(), AllocError> {
     for part in parts {
         bytes.extend_from_slice(part.as_slice())?;
@@ -95,7 +97,7 @@ fn put_parts(bytes: &mut Vec<u8>, parts: &[Bytes]) -> Result<(), AllocError> {
     Ok(())
 }
 
-/// Joins parts, and once more where memory was refused.
+/// Joins `parts`, and tries once more if memory was refused.
 fn joined(alloc: Global, parts: &[Bytes]) -> Vec<u8> {
     let mut bytes = Vec::new(alloc);
     if put_parts(&mut bytes, parts).is_err() {
@@ -105,7 +107,8 @@ fn joined(alloc: Global, parts: &[Bytes]) -> Vec<u8> {
     bytes
 }
 
-/// Returns whether parts have these sizes, and joined again they are the text, whose image is written so in version 2.
+/// Returns whether `parts` have the sizes of `size`, and joined they are `text`, which is read and written again in
+/// version 2.
 fn are_parts(alloc: Global, parts: &[Bytes], text: &[u8], size: Size) -> bool {
     let again = joined(alloc, parts);
     are_sized(parts, size.1, size.2)
@@ -113,7 +116,7 @@ fn are_parts(alloc: Global, parts: &[Bytes], text: &[u8], size: Size) -> bool {
         && is_written_in(alloc, 2, again.as_slice())
 }
 
-/// Returns whether a text comes in parts of these sizes.
+/// Cuts `text`, and calls `are_parts` with its parts.
 fn comes_in(alloc: Global, text: &[u8], size: Size) -> bool {
     if text.is_empty() {
         return false;
@@ -128,7 +131,8 @@ fn comes_in(alloc: Global, text: &[u8], size: Size) -> bool {
     }
 }
 
-/// Returns whether texts of this size are written in version 1 and 2, and that of version 2 comes in its parts.
+/// Returns whether a text of `size` is cut into its parts and written again in version 2, and is written in version 1
+/// unless it is too long.
 fn is_written_and_cut(alloc: Global, size: Size) -> bool {
     let text = sized(alloc, 2, size.0);
     text.len() == size.0 as usize
@@ -136,7 +140,7 @@ fn is_written_and_cut(alloc: Global, size: Size) -> bool {
         && is_first_written(alloc, size.0)
 }
 
-/// Returns the first size at which it is not so.
+/// Returns the length of the first of `sizes` for which `is_written_and_cut` returns false, or none.
 fn first_failed(alloc: Global, sizes: &[Size]) -> Option<u32> {
     for size in sizes {
         if !is_written_and_cut(alloc, *size) {
@@ -151,7 +155,7 @@ fn writes_and_cuts_at_the_limits(rt: HostRuntime) {
     assert!(rt; first_failed(rt.alloc(), &SIZES).is_none());
 }
 
-/// Asks whether an image is fit, and once more where memory was refused.
+/// Returns whether `image` is fit, and asks once more if memory was refused.
 fn is_fit(alloc: Global, image: &Image) -> Result<bool, NoMemory>
     ensures fit { IfOk result (λ fit. IsTrue fit → IsFit image.now) }
 {
@@ -161,7 +165,7 @@ fn is_fit(alloc: Global, image: &Image) -> Result<bool, NoMemory>
     }
 }
 
-/// Sets the count of an image's first entry to one of 33 bits.
+/// Returns `image` with a count of 2^32, which has 33 bits, in its first entry.
 fn with_great_count(image: Image) -> Image {
     let mut image = image;
     let mut kept = image.entries.into_vec();
@@ -172,7 +176,7 @@ fn with_great_count(image: Image) -> Image {
     image
 }
 
-/// Returns whether an image is fit, and refused for a count when it is written.
+/// Returns whether `image` is fit, but is refused for a count when it is written.
 fn is_count_refused(alloc: Global, image: &Image) -> bool {
     match is_fit(alloc, image) {
         Ok(true) => matches!(text_of(alloc, image, 1), Err(WriteFault::CountTooLarge)),
@@ -180,7 +184,7 @@ fn is_count_refused(alloc: Global, image: &Image) -> bool {
     }
 }
 
-/// Returns whether the changed image with a count of 33 bits is fit, and refused when it is written.
+/// Calls `is_count_refused` with the image `CHANGED`, in which one count is 2^32.
 fn refuses_a_great_count(alloc: Global) -> bool {
     match image_of_bytes(alloc, &CHANGED) {
         Ok(image) => {

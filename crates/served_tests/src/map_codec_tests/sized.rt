@@ -1,12 +1,12 @@
-//! Texts of images of a wanted length.
+//! Texts of images that have a wanted length.
 use super::images::put;
 use super::vectors::CHANGED;
 use std::alloc::{AllocError, Global};
 
-/// A name is the front of this.
+/// Each name is a prefix of these letters.
 static LETTERS: [u8; 21] = *b"abcdefghijklmnopqrstu";
 
-/// Puts an entry in the root, with number 2 and a name behind its length.
+/// Appends an entry in the root, with number 2 and `name`, whose length is `len`.
 fn put_named(bytes: &mut Vec<u8>, len: u8, name: &[u8]) -> Result<(), AllocError> {
     put(
         bytes,
@@ -20,7 +20,7 @@ fn put_named(bytes: &mut Vec<u8>, len: u8, name: &[u8]) -> Result<(), AllocError
     )
 }
 
-/// Puts `count` entries without names, with the numbers from 3.
+/// Appends `count` unlinked entries, with the numbers from 3 on.
 fn put_unnamed(bytes: &mut Vec<u8>, count: u32) -> Result<(), AllocError> {
     for i in 0..count {
         let number = (u64::from(i) + 3).to_be_bytes();
@@ -37,8 +37,8 @@ fn put_unnamed(bytes: &mut Vec<u8>, count: u32) -> Result<(), AllocError> {
     Ok(())
 }
 
-/// Puts a text of `len` bytes, 85 at least: with a name of 1 to 21 letters it has 84 bytes and those, and with each entry
-/// behind it 21 bytes more.
+/// Appends a text of `len` bytes, which must be 85 or more. With one entry the text has 84 bytes and the name of that
+/// entry, of 1 to 21 letters. Each further entry adds 21 bytes.
 fn put_sized(bytes: &mut Vec<u8>, version: u8, len: u32) -> Result<(), AllocError> {
     let more = len.saturating_sub(85);
     let name_len = (more % 21) as u8 + 1;
@@ -59,7 +59,7 @@ fn put_sized(bytes: &mut Vec<u8>, version: u8, len: u32) -> Result<(), AllocErro
     put(bytes, &[[0; 8].as_slice()])
 }
 
-/// Returns such a text, which it puts once more where memory was refused.
+/// Makes a text of `len` bytes by `put_sized`, and tries once more if memory was refused.
 pub(crate) fn sized(alloc: Global, version: u8, len: u32) -> Vec<u8> {
     let mut bytes = Vec::new(alloc);
     if put_sized(&mut bytes, version, len).is_err() {

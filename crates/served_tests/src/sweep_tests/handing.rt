@@ -4,7 +4,7 @@ use manifest::Manifest;
 use map_codec::{HandoverFault, hand_over, take_over};
 use std::alloc::Global;
 
-/// Hands over, and once more where memory was refused.
+/// Hands `served` over at generation 1, and once more if memory was refused.
 fn handed(alloc: Global, served: &Served, version: u16) -> Result<Vec<u8>, HandoverFault> {
     match hand_over(alloc, served, 1, version) {
         Err(HandoverFault::NoMemory) => hand_over(alloc, served, 1, version),
@@ -12,7 +12,7 @@ fn handed(alloc: Global, served: &Served, version: u16) -> Result<Vec<u8>, Hando
     }
 }
 
-/// Takes over, and once more where memory was refused.
+/// Takes `bytes` over at generation 1, and once more if memory was refused.
 fn taken(alloc: Global, bytes: &[u8], manifest: &Manifest) -> Result<Served, HandoverFault> {
     match take_over(alloc, bytes, manifest, 8, 1) {
         Err(HandoverFault::NoMemory) => take_over(alloc, bytes, manifest, 8, 1),
@@ -20,7 +20,7 @@ fn taken(alloc: Global, bytes: &[u8], manifest: &Manifest) -> Result<Served, Han
     }
 }
 
-/// Returns whether what is taken over from bytes hands the same bytes over.
+/// Takes `bytes` over, and returns whether what is served then is handed over as the same bytes.
 fn is_same_again(alloc: Global, bytes: &[u8], manifest: &Manifest, version: u16) -> bool {
     match taken(alloc, bytes, manifest) {
         Ok(served) => {
@@ -35,7 +35,7 @@ fn is_same_again(alloc: Global, bytes: &[u8], manifest: &Manifest, version: u16)
     }
 }
 
-/// Returns whether what is served goes on to another daemon in a version.
+/// Hands `served` over in `version`, and calls `is_same_again` with its bytes.
 pub(crate) fn is_handed_on(
     alloc: Global,
     served: &Served,

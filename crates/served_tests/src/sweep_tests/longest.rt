@@ -1,4 +1,5 @@
-//! The longest text of version 2, and one of a byte more. Names of 255 letters keep the entries few.
+//! The longest text of version 2, and one of a byte more. Most names have 255 letters, so that fewer entries fill a
+//! text.
 ghost use Rattle.std.specs.Prelude.{IfOk};
 ghost use Rattle.map_image.specs.Fit.{IsFit};
 
@@ -6,16 +7,16 @@ use super::cutting::is_cut;
 use map_image::{Image, ImageFault, WriteFault, read, write};
 use std::alloc::{AllocError, Global};
 
-/// A name is the front of this.
+/// Each name is a prefix of these letters.
 static LETTERS: [u8; 255] = [b'n'; 255];
 
 /// How many entries have a name of 255 letters.
 const FULL: u32 = 969_080;
 
-/// How long the other name is in the longest text.
+/// The length of the other entry's name in the longest text.
 const LONGEST: usize = 212;
 
-/// Puts an entry in the root.
+/// Appends an entry of `name` in the root. Its number is `index` + 2.
 fn put_entry(bytes: &mut Vec<u8>, index: u32, name: &[u8]) -> Result<(), AllocError> {
     let number = (u64::from(index) + 2).to_be_bytes();
     bytes.extend_from_slice(number.as_slice())?;
@@ -24,7 +25,8 @@ fn put_entry(bytes: &mut Vec<u8>, index: u32, name: &[u8]) -> Result<(), AllocEr
     bytes.extend_from_slice(name)
 }
 
-/// Puts a text of 268,435,244 bytes and those of the other name.
+/// Appends a text with an entry of `name` and `FULL` entries of 255 letters. The text has 268,435,244 bytes and those
+/// of `name`.
 fn put_text(bytes: &mut Vec<u8>, name: &[u8]) -> Result<(), AllocError> {
     bytes.extend_from_slice(b"EDTK\0\x02")?;
     bytes.extend_from_slice(&[0; 44])?;
@@ -36,14 +38,14 @@ fn put_text(bytes: &mut Vec<u8>, name: &[u8]) -> Result<(), AllocError> {
     bytes.extend_from_slice(&[0; 8])
 }
 
-/// Makes such a text.
+/// Makes the text of `put_text`.
 fn text_with(alloc: Global, name: &[u8]) -> Result<Vec<u8>, AllocError> {
     let mut bytes = Vec::with_capacity(alloc, 268_435_457)?;
     put_text(&mut bytes, name)?;
     Ok(bytes)
 }
 
-/// Reads the image of such a text.
+/// Makes the text of `put_text`, and reads its image.
 fn image_with(alloc: Global, name: &[u8]) -> Result<Image, ImageFault>
     ensures fit { IfOk result IsFit }
 {
@@ -53,7 +55,7 @@ fn image_with(alloc: Global, name: &[u8]) -> Result<Image, ImageFault>
     }
 }
 
-/// Writes such an image in version 2, once its text is dropped.
+/// Writes the image of `image_with` in version 2. The text that was read is dropped before.
 fn written_with(alloc: Global, name: &[u8]) -> Result<Vec<u8>, WriteFault> {
     match image_with(alloc, name) {
         Ok(image) => {
@@ -65,7 +67,7 @@ fn written_with(alloc: Global, name: &[u8]) -> Result<Vec<u8>, WriteFault> {
     }
 }
 
-/// Returns whether the longest text is written and cut.
+/// Returns whether the longest text is written, and cut into parts.
 pub(crate) fn is_longest_written(alloc: Global) -> bool {
     let (name, _) = LETTERS.split_at(LONGEST);
     match written_with(alloc, name) {
@@ -74,7 +76,7 @@ pub(crate) fn is_longest_written(alloc: Global) -> bool {
     }
 }
 
-/// Returns whether a text of one byte more is too long.
+/// Returns whether an image whose text would have one byte more is refused as too long.
 pub(crate) fn is_longer_refused(alloc: Global) -> bool {
     let (name, _) = LETTERS.split_at(LONGEST + 1);
     let written = written_with(alloc, name);

@@ -1,4 +1,4 @@
-//! Files that are made one after the other, and handed on with those before them.
+//! Daemons that make files one after another, and are handed on.
 ghost use Rattle.std.specs.Prelude.{◌≡◌};
 
 use super::handing::is_handed_on;
@@ -9,22 +9,22 @@ use fuse_wire::{Answer, Request};
 use manifest::Manifest;
 use std::alloc::Global;
 
-/// A subject that is made in many sizes.
+/// What a sweep makes in many sizes.
 #[derive(Clone, Copy)]
 pub enum Making {
-    /// In this version, `times` times `files` files, handed on with those before them after each time.
+    /// The version, how often files are made, and how many each time. After each time all files so far are handed on.
     Handed(u16, u64, u64),
-    /// A file with a name of each length, handed on.
+    /// A file with a name of each length, each handed on by a new daemon.
     HandedByName,
-    /// This count of files, which are not handed on.
+    /// This many files, which are not handed on.
     Made(u64),
-    /// Ever higher limits of what is loaded.
+    /// Daemons that may keep ever more attributes loaded.
     Limits,
 }
 
 static LONGEST_NAME: [u8; 255] = [b'n'; 255];
 
-/// Makes a file in the root, and returns whether it was made.
+/// Makes a file named `bytes` in the root, and returns whether it was made.
 fn makes(alloc: Global, served: &mut Served, manifest: &Manifest, bytes: &[u8]) -> bool
     requires over { served.old.tree.manifest ≡ manifest.now }
     ensures over { served.new.tree.manifest ≡ manifest.now }
@@ -44,7 +44,7 @@ fn makes(alloc: Global, served: &mut Served, manifest: &Manifest, bytes: &[u8]) 
     }
 }
 
-/// Makes a file under a number in digits.
+/// Makes a file whose name is `number` in digits, and returns whether it was made.
 fn makes_numbered(alloc: Global, served: &mut Served, manifest: &Manifest, number: u64) -> bool
     requires over { served.old.tree.manifest ≡ manifest.now }
     ensures over { served.new.tree.manifest ≡ manifest.now }
@@ -56,7 +56,7 @@ fn makes_numbered(alloc: Global, served: &mut Served, manifest: &Manifest, numbe
     is_put && is_made
 }
 
-/// Makes files under the numbers from one to below another.
+/// Makes a file for each number from `from` on and below `below`. Returns whether all were made.
 fn makes_each(
     alloc: Global,
     served: &mut Served,
@@ -75,7 +75,7 @@ fn makes_each(
     true
 }
 
-/// Makes `times` times `many` files, and returns whether all are handed on in a version after each time.
+/// Makes `many` files `times` times. Returns whether all files so far are handed on in `version` after each time.
 fn hands_on_each(
     alloc: Global,
     served: &mut Served,
@@ -99,7 +99,7 @@ fn hands_on_each(
     true
 }
 
-/// Returns whether a file with a name of `len` bytes is handed on by a daemon that begins.
+/// Returns whether a new daemon makes a file with a name of `len` bytes, and is handed on.
 fn is_name_handed_on(alloc: Global, manifest: &Manifest, len: usize) -> bool {
     match served_of(alloc, manifest, 8) {
         Ok(mut served) => {
@@ -112,7 +112,7 @@ fn is_name_handed_on(alloc: Global, manifest: &Manifest, len: usize) -> bool {
     }
 }
 
-/// Returns whether a file with a name of each length is handed on.
+/// Calls `is_name_handed_on` with each length from 1 to 255.
 fn is_each_name_handed_on(alloc: Global, manifest: &Manifest) -> bool {
     for len in 1..256usize {
         if !is_name_handed_on(alloc, manifest, len) {
@@ -122,7 +122,7 @@ fn is_each_name_handed_on(alloc: Global, manifest: &Manifest) -> bool {
     true
 }
 
-/// Returns whether a daemon may begin that keeps `limit` attributes loaded.
+/// Returns whether a daemon can begin that keeps up to `limit` attributes loaded.
 fn is_limit_taken(alloc: Global, manifest: &Manifest, limit: usize) -> bool {
     match served_of(alloc, manifest, limit) {
         Ok(served) => {
@@ -133,7 +133,7 @@ fn is_limit_taken(alloc: Global, manifest: &Manifest, limit: usize) -> bool {
     }
 }
 
-/// Returns whether a daemon may begin with each of the limits 1, 2, 4 up to 65,536.
+/// Calls `is_limit_taken` with the limits 1, 2, 4 and so on to 65,536.
 fn is_each_limit_taken(alloc: Global, manifest: &Manifest) -> bool {
     for shift in 0..17u32 {
         if !is_limit_taken(alloc, manifest, 1 << shift) {
@@ -143,7 +143,7 @@ fn is_each_limit_taken(alloc: Global, manifest: &Manifest) -> bool {
     true
 }
 
-/// Returns whether each call of a sweep succeeds, where it begins with what is served.
+/// Makes what `making` says, in `served` or in new daemons. Returns whether each call succeeds.
 fn goes_so(alloc: Global, served: &mut Served, manifest: &Manifest, making: Making) -> bool
     requires over { served.old.tree.manifest ≡ manifest.now }
 {
@@ -157,7 +157,7 @@ fn goes_so(alloc: Global, served: &mut Served, manifest: &Manifest, making: Maki
     }
 }
 
-/// Calls `goes_so` on a new daemon.
+/// Calls `goes_so` with a new daemon.
 pub(crate) fn goes_so_in_new(alloc: Global, manifest: &Manifest, making: Making) -> bool {
     match served_of(alloc, manifest, 8) {
         Ok(mut served) => {

@@ -1,4 +1,4 @@
-//! How a round ends whose channels run out, stop or break, and one that is asked to stop.
+//! How rounds end: those whose channels run out, stop or break, and one that is asked to stop.
 ghost use Rattle.std.specs.Prelude.{◌≡◌, vec_len, IfOk};
 
 use super::rounds::{begun, serve};
@@ -16,7 +16,7 @@ use workers::{Hook, NoHook, RoundFault, Stop};
 /// How a round ended.
 #[derive(Clone, Copy, PartialEq, Eq)]
 enum Ended {
-    /// Well, with the number of its records.
+    /// Without a fault, with this count of records.
     Well(usize),
     Broken,
     Otherwise,
@@ -25,10 +25,10 @@ enum Ended {
 /// A channel: how many asks it gives, how many replies it takes, and what it says when no ask is left.
 type Script = (u64, usize, Then);
 
-/// A channel with one ask.
+/// A channel with one ask, which then is empty.
 const WELL: Script = (1, 9, Then::Empty);
 
-/// Two channels, and how a round of them ends.
+/// Rows: two channels, and how a round over them ends.
 static ENDINGS: [(Script, Script, Ended); 10] = [
     (WELL, WELL, Ended::Well(2)),
     ((2, 9, Then::Stopped), WELL, Ended::Well(3)),
@@ -42,7 +42,7 @@ static ENDINGS: [(Script, Script, Ended); 10] = [
     ((4, 4, Then::Empty), (4, 4, Then::Stopped), Ended::Well(8)),
 ];
 
-/// Returns two channels.
+/// Makes the channels of `first` and `second`.
 fn two<'a>(
     alloc: Global,
     first: Script,
@@ -57,7 +57,7 @@ fn two<'a>(
     Ok(channels)
 }
 
-/// Serves a round of such channels, and tells how it ended.
+/// Serves a round over `channels`, and returns how the round ended.
 fn ending_of<R: Threads + Wait + Sync, G: Hook + Sync>(
     rt: &R,
     alloc: Global,
@@ -82,7 +82,7 @@ fn ending_of<R: Threads + Wait + Sync, G: Hook + Sync>(
     ended
 }
 
-/// Returns whether a round of two channels ends so.
+/// Returns whether a round over the channels of `row` ends as `row` says.
 fn ends_so<R: Threads + Wait + Sync>(
     rt: &R,
     alloc: Global,
@@ -108,7 +108,7 @@ fn a_round_ends_as_its_channels_do(rt: HostRuntime) -> Result<(), Fail> {
     Ok(())
 }
 
-/// Asks for a stop behind the first reply, and looks whether each reply was posted before.
+/// A hook that asks for a stop after each reply, and notes in `early` if no reply was posted by then.
 #[derive(Drop)]
 struct Stopping<'a> {
     stop: &'a Stop,
@@ -127,8 +127,8 @@ impl<'a> Hook for Stopping<'a> {
     }
 }
 
-/// Returns whether a stop that is asked for behind the first reply is seen before the next turn, and was asked for
-/// behind that reply.
+/// Serves a round with a hook that asks for a stop after the first reply. Returns whether the round ends before the
+/// next turn, and the hook was called after the post.
 fn stops_at_one<R: Threads + Wait + Sync>(rt: &R, alloc: Global, manifest: &Manifest) -> bool {
     let posted = AtomicU64::new(0);
     let stop = Stop::new();

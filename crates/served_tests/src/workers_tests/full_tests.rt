@@ -10,13 +10,13 @@ use std::test::*;
 use std::thread::Threads;
 use workers::{MAX_CHANNELS, MemoryChannel, NoHook, Round, Stop, drain};
 
-/// One ask more than a worker takes.
+/// The uniques of a channel's asks, which are one more than a worker takes.
 static UNIQUES: [u64; 65] = [7; 65];
 
-/// How many channels a round has, and how many records it leaves.
+/// Rows: how many channels a round has, and how many records it leaves.
 static ROUNDS: [(usize, usize); 3] = [(1, 64), (2, 128), (16, 1024)];
 
-/// Returns `count` channels, each with one ask more than a worker takes.
+/// Makes `count` channels, each with the asks of `UNIQUES`.
 fn channels_of(alloc: Global, count: usize) -> Result<Vec<MemoryChannel>, NoMemory> {
     let mut channels = Vec::new(alloc);
     for _channel in 0..count {
@@ -25,7 +25,7 @@ fn channels_of(alloc: Global, count: usize) -> Result<Vec<MemoryChannel>, NoMemo
     Ok(channels)
 }
 
-/// Returns whether each worker of a round took and answered 64 asks, and its journal is as long as the row says.
+/// Returns whether each worker of `round` took and answered 64 asks, and the journal has as many records as `row` says.
 fn is_full(round: &Round<ManifestBacking<'_>, MemoryChannel>, row: &(usize, usize)) -> bool {
     let channels = round.channels.as_slice();
     let receipts = round.receipts.as_slice();
@@ -37,7 +37,7 @@ fn is_full(round: &Round<ManifestBacking<'_>, MemoryChannel>, row: &(usize, usiz
         && receipts.iter().all(|kept| kept.as_slice().len() == 64)
 }
 
-/// Returns whether a round of a row's channels is full, and settled.
+/// Returns whether a round over as many channels as `row` says is full, and settled.
 fn fills<R: Threads + Wait + Sync>(
     rt: &R,
     alloc: Global,

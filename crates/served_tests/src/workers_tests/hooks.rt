@@ -1,14 +1,15 @@
-//! A hook that lets two asks pass in one order alone.
+//! A hook that lets two asks pass in one order only.
 use std::rt::Clock;
 use std::sync::atomic::{AtomicBool, Ordering};
 use std::thread;
 use std::time::Duration;
 use workers::Hook;
 
-/// How often a hook looks, a millisecond apart.
+/// How often a hook looks at a flag before it gives up. The looks are a millisecond apart.
 const LOOKS: u32 = 10_000;
 
-/// Holds the asks of unique 1 and 2 each until the other came, and 1 then until the reply to 2 was posted.
+/// Lets the asks of unique 1 and 2 wait for each other, and that of unique 1 also until the reply to unique 2 was
+/// posted.
 #[derive(Drop)]
 pub struct SecondFirst<'a, R: Clock> {
     clock: &'a R,
@@ -19,7 +20,7 @@ pub struct SecondFirst<'a, R: Clock> {
 }
 
 impl<'a, R: Clock> SecondFirst<'a, R> {
-    /// Makes a hook at which no ask came yet.
+    /// Makes a hook that has seen no ask.
     pub fn new(clock: &'a R) -> SecondFirst<'a, R> {
         SecondFirst {
             clock,
@@ -30,7 +31,7 @@ impl<'a, R: Clock> SecondFirst<'a, R> {
         }
     }
 
-    /// Waits until a flag is set.
+    /// Waits until `so` is set, or notes in `gave_up` that the wait took too long.
     fn wait_for(&self, so: &AtomicBool) {
         for _look in 0..LOOKS {
             if so.load(Ordering::SeqCst) {

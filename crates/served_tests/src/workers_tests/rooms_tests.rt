@@ -1,4 +1,4 @@
-//! Rounds one after another in the same rooms, whose asks carry the longest names and batches.
+//! Rounds one after another in the same rooms. Their asks have the longest names and batches.
 ghost use Rattle.std.specs.Prelude.{◌≡◌, vec_len, IfOk, IfSome};
 
 use super::rounds::begun;
@@ -22,7 +22,7 @@ const ASKS: u64 = 40;
 
 static LONGEST: [u8; 255] = [b'n'; 255];
 
-/// A channel that gives its asks without taking memory, the last of its list first.
+/// A channel that takes no memory. It gives the last ask of its list first.
 #[derive(Drop)]
 struct Given {
     asks: Vec<Ask>,
@@ -53,7 +53,7 @@ impl Channel for Given {
     }
 }
 
-/// Returns a batch of 256 items.
+/// Makes a batch of 256 items.
 fn longest_batch(alloc: Global) -> Result<Batch, NoMemory> {
     let items = [Item {
         node: Number(9),
@@ -62,7 +62,7 @@ fn longest_batch(alloc: Global) -> Result<Batch, NoMemory> {
     Batch::of(alloc, &items)
 }
 
-/// Returns what an ask of this unique is for: a look-up of the longest name, or for an odd one the longest batch.
+/// Makes the request of the ask `unique`: the longest batch if `unique` is odd, else a LOOKUP of the longest name.
 fn longest(alloc: Global, unique: u64) -> Result<Request, NoMemory> {
     if unique % 2 == 1 {
         return Ok(Request::BatchForget(longest_batch(alloc)?));
@@ -76,7 +76,7 @@ fn longest(alloc: Global, unique: u64) -> Result<Request, NoMemory> {
     }
 }
 
-/// Returns a channel of the longest asks, half of which have a reply.
+/// Makes a channel of 40 asks by `longest`. Half of them have a reply.
 fn longest_channel(alloc: Global) -> Result<Given, NoMemory> {
     let mut asks = Vec::new(alloc);
     for unique in 0..ASKS {
@@ -86,7 +86,7 @@ fn longest_channel(alloc: Global) -> Result<Given, NoMemory> {
     Ok(Given { asks, replies: 0 })
 }
 
-/// Returns two channels of the longest asks.
+/// Makes two channels by `longest_channel`.
 fn two(alloc: Global) -> Result<Vec<Given>, NoMemory>
     ensures two { IfOk result (λ channels. vec_len channels ≡ 2) }
 {
@@ -99,7 +99,7 @@ fn two(alloc: Global) -> Result<Vec<Given>, NoMemory>
 /// The state between two rounds.
 type Between<'a> = Settled<ManifestBacking<'a>, Given>;
 
-/// Begins to serve two such channels.
+/// Begins to serve `manifest` over the two channels of `two`, in `rooms`.
 fn begin<'a>(alloc: Global, manifest: &'a Manifest, rooms: Rooms) -> Result<Between<'a>, NoMemory>
     ensures over { IfOk result (λ between. between.served.tree.manifest ≡ manifest.now) }
 {
@@ -113,7 +113,7 @@ fn begin<'a>(alloc: Global, manifest: &'a Manifest, rooms: Rooms) -> Result<Betw
     })
 }
 
-/// Returns the state that a round gave back where memory was refused.
+/// Returns the parts of `back`, which a round gave back as memory was refused, as the state between two rounds.
 fn between_of(back: Returned<ManifestBacking<'_>, Given>) -> Between<'_>
     ensures served { result.served ≡ back.entry.served }
 {
@@ -131,7 +131,7 @@ fn between_of(back: Returned<ManifestBacking<'_>, Given>) -> Between<'_>
     }
 }
 
-/// Drains a round. Where memory is refused, what is given back stands for what is settled.
+/// Drains `round`, and returns what is settled. If memory was refused, returns what was given back instead.
 fn drained(alloc: Global, round: Round<ManifestBacking<'_>, Given>) -> Option<Between<'_>>
     ensures served { IfSome result (λ between. between.served ≡ round.entry.served) }
 {
@@ -142,7 +142,7 @@ fn drained(alloc: Global, round: Round<ManifestBacking<'_>, Given>) -> Option<Be
     }
 }
 
-/// Serves a round of 64 turns and drains it. Where memory is refused, all that is given back stands for what it leaves.
+/// Serves a round of 64 turns and drains it. If memory was refused, returns what was given back instead.
 fn next<'a, R: Threads + Wait + Sync>(
     rt: &R,
     alloc: Global,
@@ -176,14 +176,15 @@ fn next<'a, R: Threads + Wait + Sync>(
     }
 }
 
-/// Returns whether both channels gave all asks, and took the replies of those that have one.
+/// Returns whether each channel gave all its asks, and took replies to half of them.
 fn are_done(channels: &[Given]) -> bool {
     channels
         .iter()
         .all(|one| one.asks.is_empty() && one.replies == ASKS / 2)
 }
 
-/// Returns whether these rounds, one after another, take all asks, and leave rooms for two channels of 64 turns.
+/// Serves `rounds` rounds one after another. Returns whether they take all asks, and leave rooms for two channels of 64
+/// turns.
 fn take_all<R: Threads + Wait + Sync>(
     rt: &R,
     alloc: Global,
@@ -199,7 +200,7 @@ fn take_all<R: Threads + Wait + Sync>(
     Some(done)
 }
 
-/// In memory that suffices, one round takes all: no worker stops for a copy.
+/// If memory suffices, one round takes all asks: no worker stops for want of memory for a copy.
 #[test]
 fn a_round_takes_the_longest_asks(rt: HostRuntime) -> Result<(), Fail> {
     let alloc = rt.alloc();
@@ -211,8 +212,7 @@ fn a_round_takes_the_longest_asks(rt: HostRuntime) -> Result<(), Fail> {
     Ok(())
 }
 
-/// Passes also where one allocation is refused: no ask is lost by a worker that stops, and the next round takes the
-/// rest.
+/// Passes also if one allocation is refused: a worker that stops loses no ask, and the next round takes the rest.
 #[test]
 fn a_second_round_takes_what_is_left(rt: HostRuntime) -> Result<(), Fail> {
     let alloc = rt.alloc();
@@ -226,7 +226,7 @@ fn a_second_round_takes_what_is_left(rt: HostRuntime) -> Result<(), Fail> {
     Ok(())
 }
 
-/// Channels and turns, and whether rooms fit that a round of two channels and 64 turns left.
+/// Rows: channels, turns, and whether they fit in the rooms that a round of two channels and 64 turns left.
 static FITS: [(usize, usize, bool); 6] = [
     (2, 64, true),
     (2, 63, true),
@@ -236,7 +236,7 @@ static FITS: [(usize, usize, bool); 6] = [
     (3, 64, false),
 ];
 
-/// Returns whether the rooms of a round fit as each row says.
+/// Runs a round, and returns whether `fit` of its rooms answers as each row of `FITS` says.
 fn fit_as_told<R: Threads + Wait + Sync>(
     rt: &R,
     alloc: Global,

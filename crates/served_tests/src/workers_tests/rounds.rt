@@ -1,4 +1,4 @@
-//! Rounds of two channels, and what they left in numbers.
+//! Rounds of two channels, and what these rounds leave, as counts.
 ghost use Rattle.std.specs.Prelude.{◌≡◌, ◌≤◌, vec_len, IfOk};
 
 use crate::listed::LISTED;
@@ -15,7 +15,7 @@ use workers::{
     drain, serve_round,
 };
 
-/// Returns a channel that asks for the root's attributes, once by each unique.
+/// Makes a channel with a GETATTR of the root for each of `uniques`.
 pub(crate) fn channel(alloc: Global, uniques: &[u64]) -> Result<MemoryChannel, NoMemory> {
     let mut asks = Vec::new(alloc);
     for unique in uniques {
@@ -27,7 +27,7 @@ pub(crate) fn channel(alloc: Global, uniques: &[u64]) -> Result<MemoryChannel, N
     MemoryChannel::new(alloc, asks)
 }
 
-/// Begins to serve.
+/// Begins to serve `manifest`.
 pub(crate) fn begun(alloc: Global, manifest: &Manifest) -> Result<Served, NoMemory>
     ensures over { IfOk result (λ served. served.tree.manifest ≡ manifest.now) }
 {
@@ -38,14 +38,14 @@ pub(crate) fn begun(alloc: Global, manifest: &Manifest) -> Result<Served, NoMemo
 #[derive(Clone, Copy)]
 pub enum Change {
     None,
-    /// The last one is taken out.
+    /// The last receipt is taken out.
     TakeOut,
-    /// The first two are exchanged.
+    /// The first two receipts are exchanged.
     Exchange,
 }
 
-/// What a round left, in numbers: the records of its journal, the index in it of each worker's first receipt, how many
-/// asks its first channel gave and how many replies it got, and whether it was settled.
+/// What a round left: the count of its records, the index in its journal of each worker's first receipt, how many asks
+/// the first channel gave and how many replies it got, and whether the round is settled.
 #[derive(Clone, Copy, PartialEq, Eq)]
 pub struct Left {
     pub records: usize,
@@ -56,14 +56,14 @@ pub struct Left {
     pub is_settled: bool,
 }
 
-/// Returns the index in the journal of a worker's first receipt.
+/// Returns the index in the journal of the first receipt of `worker`, or none.
 fn first_place(receipts: &[Receipts], worker: usize) -> Option<usize> {
     let kept = receipts.get(worker)?;
     let receipt = kept.as_slice().first()?;
     Some(receipt.position)
 }
 
-/// Returns the receipts with a change, or nothing where there are too few.
+/// Returns `receipts` with `change` made, or none if there are too few of them.
 fn changed(alloc: Global, receipts: Receipts, change: Change) -> Option<Receipts> {
     let mut list = receipts.into_list();
     match change {
@@ -79,7 +79,7 @@ fn changed(alloc: Global, receipts: Receipts, change: Change) -> Option<Receipts
     Some(Receipts::of(alloc, list))
 }
 
-/// Changes the receipts of the first of two workers, and returns whether there were enough.
+/// Makes `change` in the receipts of the first of two workers, or returns none if there are too few of them.
 fn change_first(alloc: Global, workers: &mut Vec<Receipts>, change: Change) -> Option<()> {
     let others = workers.pop()?;
     let kept = workers.pop()?;
@@ -87,7 +87,7 @@ fn change_first(alloc: Global, workers: &mut Vec<Receipts>, change: Change) -> O
     workers.push(others).ok()
 }
 
-/// Tells what a round left, but for whether it is settled.
+/// Returns what `round` left, but with `is_settled` false.
 fn numbers_of(round: &Round<ManifestBacking<'_>, MemoryChannel>) -> Option<Left> {
     let channel = round.channels.as_slice().first()?;
     Some(Left {
@@ -100,7 +100,7 @@ fn numbers_of(round: &Round<ManifestBacking<'_>, MemoryChannel>) -> Option<Left>
     })
 }
 
-/// Returns whether a round is settled, or nothing where memory was refused.
+/// Drains `round`, and returns whether it was settled, or none if memory was refused.
 fn is_settled(alloc: Global, round: Round<ManifestBacking<'_>, MemoryChannel>) -> Option<bool> {
     let drained = drain(alloc, round);
     let is_settled = match &drained {
@@ -112,7 +112,8 @@ fn is_settled(alloc: Global, round: Round<ManifestBacking<'_>, MemoryChannel>) -
     is_settled
 }
 
-/// Tells what a round left, and whether it is settled once the first worker's receipts are changed.
+/// Returns what `round` left. Whether the round is settled is looked at after `change` is made in the first worker's
+/// receipts.
 fn told_of(
     alloc: Global,
     round: Round<ManifestBacking<'_>, MemoryChannel>,
@@ -128,7 +129,8 @@ fn told_of(
     Some(told)
 }
 
-/// Serves a round over a manifest in rooms of its own, and once more where memory was refused.
+/// Serves a round over `manifest` in new rooms. If memory was refused, serves the round once more with all that was
+/// given back.
 pub(crate) fn serve<'a, C: Channel + Drop + Send, G: Hook + Sync, R: Threads + Wait + Sync>(
     rt: &R,
     alloc: Global,
@@ -167,7 +169,7 @@ pub(crate) fn serve<'a, C: Channel + Drop + Send, G: Hook + Sync, R: Threads + W
     )
 }
 
-/// Returns two channels, each with the asks of these uniques.
+/// Makes two channels, with asks of the uniques `first` and `second`.
 fn two_channels(
     alloc: Global,
     first: &[u64],
@@ -181,7 +183,7 @@ fn two_channels(
     Ok(channels)
 }
 
-/// Begins to serve, serves a round of these channels, and tells what it left.
+/// Begins to serve `manifest`, serves a round over `channels`, and returns what the round left.
 fn left_over<G: Hook + Sync, R: Threads + Wait + Sync>(
     rt: &R,
     alloc: Global,
@@ -208,7 +210,7 @@ fn left_over<G: Hook + Sync, R: Threads + Wait + Sync>(
     }
 }
 
-/// Serves a round of two channels, each with the asks of these uniques, and tells what it left.
+/// Serves a round over two channels, with asks of the uniques `first` and `second`. Returns what the round left.
 pub(crate) fn round<G: Hook + Sync, R: Threads + Wait + Sync>(
     rt: &R,
     alloc: Global,
@@ -232,7 +234,7 @@ pub(crate) fn round<G: Hook + Sync, R: Threads + Wait + Sync>(
     told
 }
 
-/// Serves a round as `round` does, and once more where memory was refused.
+/// Calls `round` without a hook, and once more if the first call returned none.
 pub(crate) fn round_again<R: Threads + Wait + Sync>(
     rt: &R,
     alloc: Global,

@@ -1,10 +1,10 @@
-//! A channel that ends as it is told.
+//! A channel that gives a few asks, and then is empty, stops or breaks.
 use eden_base::Number;
 use fuse_wire::{Ask, Reply, Request};
 use std::sync::atomic::{AtomicU64, Ordering};
 use workers::{Channel, Posted, Taken};
 
-/// What a channel says when it has no ask left.
+/// What `take` returns when no ask is left.
 #[derive(Clone, Copy)]
 pub(crate) enum Then {
     Empty,
@@ -12,7 +12,8 @@ pub(crate) enum Then {
     Broken,
 }
 
-/// A channel that has some asks left, and takes some replies more before it is broken. It marks that a reply came.
+/// A channel that gives `asks` more asks, and takes `replies` more replies before it is broken. Each reply sets
+/// `posted`.
 #[derive(Drop)]
 pub(crate) struct Scripted<'a> {
     asks: u64,

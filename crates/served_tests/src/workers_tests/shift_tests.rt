@@ -1,4 +1,4 @@
-//! A worker over a lock that the test made.
+//! One worker, under a lock that the test makes.
 ghost use Rattle.std.specs.Prelude.{◌≡◌};
 ghost use Rattle.fuse_ops.specs.Loading.{Backs};
 
@@ -18,7 +18,8 @@ use workers::{
     serve_channel,
 };
 
-/// Opens a round of one worker that has two turns, and returns whether it takes and journals two asks of three.
+/// Opens a round of one worker with two turns, over a channel of three asks. Returns whether just two asks are taken,
+/// answered and journaled.
 fn takes_two<N: Opening, B: Backing + Drop, R: Wait>(
     rt: &R,
     alloc: Global,
@@ -48,7 +49,7 @@ fn takes_two<N: Opening, B: Backing + Drop, R: Wait>(
     Ok(took)
 }
 
-/// Returns whether a worker under a lock of its own takes two asks of three.
+/// Calls `takes_two` with a new daemon and a channel of three asks.
 fn serves_alone<R: Wait>(rt: &R, alloc: Global, manifest: &Manifest) -> Result<bool, NoMemory> {
     let channel = channel(alloc, &[1, 2, 3])?;
     let served = begun(alloc, manifest)?;

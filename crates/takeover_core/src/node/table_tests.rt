@@ -1,4 +1,5 @@
-//! Tests each call in each phase, once, against the rows of the table of phases, which are written out by hand.
+//! Makes each call in each phase, and compares the outcome with the table of phases, whose rows are written out by
+//! hand.
 use self::rows::{Answer, CALLS, Call, PHASES, ROWS};
 use super::Node;
 use super::tests::is;
@@ -9,7 +10,7 @@ use std::alloc::Global;
 
 mod rows;
 
-/// Returns the next phase and the answer that the rows have for a call in a phase.
+/// Returns the next phase and the answer of `call` in `phase`. A pair without a row keeps its phase and is ignored.
 fn row_of(phase: Phase, call: Call) -> (Phase, Answer) {
     for row in &ROWS {
         if row.0 == phase && row.1 == call {
@@ -19,7 +20,7 @@ fn row_of(phase: Phase, call: Call) -> (Phase, Answer) {
     (phase, Answer::Ignored)
 }
 
-/// Returns the answer with all its fields.
+/// Returns what a daemon hears or says by `answer`, with all fields filled in.
 fn in_full(alloc: Global, answer: Answer) -> Heard {
     match answer {
         Answer::Ignored => Heard::Ignored,
@@ -69,7 +70,7 @@ fn data(alloc: Global, session: u32) -> Message {
     }
 }
 
-/// Returns the message that a call stands for, if it stands for one.
+/// Returns the message that `call` stands for, or none if it is no message.
 fn message(alloc: Global, call: Call) -> Option<Message> {
     match call {
         Call::Offer => Some(Message::Offer(Versions::of(&[1]))),
@@ -118,7 +119,7 @@ fn message(alloc: Global, call: Call) -> Option<Message> {
     }
 }
 
-/// Returns the answer to a claim that a call stands for, if it stands for one.
+/// Returns the answer to a claim that `call` stands for, or none if it is no such answer.
 fn claim_answer(call: Call) -> Option<Result<u64, ClaimFault>> {
     match call {
         Call::ClaimedAt7 => Some(Ok(7)),
@@ -130,7 +131,7 @@ fn claim_answer(call: Call) -> Option<Result<u64, ClaimFault>> {
     }
 }
 
-/// Makes a call, and returns its answer. A call whose precondition does not hold is not made, and counts as ignored.
+/// Makes `call` and returns the answer. A call whose precondition does not hold is not made, and is `Ignored`.
 fn make(alloc: Global, node: &mut Node, call: Call) -> Heard {
     if let Some(message) = message(alloc, call) {
         let heard = node.hear(&message);
@@ -206,8 +207,8 @@ fn drain(node: &mut Node, in_hand: usize, unposted: usize) -> Heard {
     }
 }
 
-/// Makes a call on a daemon in this phase, which reads and writes versions 1 and 2 and has begun two sessions. Returns
-/// whether the next phase and the answer are those of the row.
+/// Makes `call` in `phase`, on a daemon that has versions 1 and 2 and has begun two sessions. Returns whether the next
+/// phase and the answer are those of the row.
 fn goes_by_row(alloc: Global, phase: Phase, call: Call) -> bool {
     let (next, answer) = row_of(phase, call);
     let mut node = Node {
@@ -221,7 +222,7 @@ fn goes_by_row(alloc: Global, phase: Phase, call: Call) -> bool {
     is(heard, in_full(alloc, answer)) && reached == next
 }
 
-/// Returns the first call in this phase whose next phase or answer is not that of the row, if there is one.
+/// Returns the first call that does not go by its row in `phase`, or none.
 fn first_other_call(alloc: Global, phase: Phase) -> Option<Call> {
     for call in &CALLS {
         if !goes_by_row(alloc, phase, *call) {

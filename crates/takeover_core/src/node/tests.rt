@@ -1,4 +1,4 @@
-//! Worked examples.
+//! Worked examples of a daemon's part in a takeover.
 ghost use Rattle.std.specs.Prelude.{◌≤◌, length};
 
 use super::{DrainFault, Node};
@@ -16,7 +16,7 @@ fn offer(versions: &[u16]) -> Message
     Message::Offer(Versions::of(versions))
 }
 
-/// Returns whether `heard` and `expected` are the same.
+/// Returns whether `heard` equals `expected`.
 pub(super) fn is(heard: Heard, expected: Heard) -> bool {
     let same = heard == expected;
     drop(heard);
@@ -31,7 +31,7 @@ fn comes(node: &mut Node, message: Message, expected: Heard) -> bool {
     is(heard, expected)
 }
 
-/// Makes a daemon of version 1 that serves at this generation and has begun `sessions` sessions.
+/// Makes a daemon of version 1 that serves at this `generation` and has begun `sessions` sessions.
 fn serving(generation: u64, sessions: u32) -> Node {
     Node {
         phase: Phase::Serving { generation },
@@ -40,15 +40,15 @@ fn serving(generation: u64, sessions: u32) -> Node {
     }
 }
 
-/// Returns whether `node` answers an offer of these versions with `expected`.
+/// Returns whether `node` answers an offer of `versions` by saying `expected`.
 fn offers(node: &mut Node, versions: &[u16], expected: Message) -> bool
     requires { length versions.now ≤ 8 }
 {
     comes(node, offer(versions), Heard::Say(expected))
 }
 
-/// Returns whether a daemon that serves at generation 1 answers an offer without its version NoCommon, and then begins
-/// a session at an offer with its version.
+/// Offers versions to a daemon that serves at generation 1. Returns whether the daemon says `NoCommon` until an offer
+/// has version 1, and then chooses that version.
 fn chooses(node: &mut Node) -> bool {
     let choice = Message::Choice {
         session: 1,
@@ -68,7 +68,7 @@ fn chooses_a_common_version_once(rt: HostRuntime) {
     assert!(rt; so);
 }
 
-/// Returns the greatest version that is in both `own` and `offered`, if there is one.
+/// Returns the greatest version that is both in `own` and in `offered`, or none.
 fn greatest(own: &[u16], offered: &[u16]) -> Option<u16>
     requires own { length own.now ≤ 8 }
     requires offered { length offered.now ≤ 8 }
@@ -110,7 +110,7 @@ static BUSY: [Phase; 4] = [
     },
 ];
 
-/// Returns whether a daemon in this phase answers an offer of these versions Busy, and stays in the phase.
+/// Returns whether a daemon in `phase` says `Busy` to an offer of `versions`, and stays in `phase`.
 fn is_busy_for(phase: Phase, versions: &[u16]) -> bool
     requires { length versions.now ≤ 8 }
 {
@@ -125,7 +125,7 @@ fn is_busy_for(phase: Phase, versions: &[u16]) -> bool
     is_busy && reached == phase
 }
 
-/// Returns whether a daemon answers Busy in each of these phases, whether or not it knows a version that is offered.
+/// Returns whether a daemon is busy in each of `phases`, for offers with and without a version that it knows.
 fn is_busy_in_each(phases: &[Phase]) -> bool {
     for phase in phases {
         if !is_busy_for(*phase, &[9, 1])
@@ -143,7 +143,7 @@ fn is_busy_from_the_choice_until_the_data_is_out(rt: HostRuntime) {
     assert!(rt; is_busy_in_each(&BUSY));
 }
 
-/// Returns whether a daemon that has one session left begins it, and none after it.
+/// Returns whether a daemon that has one session left begins it, and begins none after that one is given up.
 fn begins_the_last(node: &mut Node) -> bool {
     let session = 4_294_967_295;
     let choice = Message::Choice {
@@ -165,7 +165,8 @@ fn begins_the_last_session_and_none_after_it(rt: HostRuntime) {
     assert!(rt; so);
 }
 
-/// Returns whether a daemon begins no session: it answers Busy to an offer of its version, and NoCommon to another.
+/// Returns whether a daemon begins no session: it is busy for version 1, which it knows, and says `NoCommon` to version
+/// 9.
 fn begins_nothing(node: &mut Node) -> bool {
     offers(node, &[1], Message::Busy) && offers(node, &[9], Message::NoCommon)
 }
@@ -193,7 +194,7 @@ const READY: Message = Message::Ready {
 
 const PONG: Message = Message::Pong { session: 1 };
 
-/// Returns whether a daemon that has drained says `expected`.
+/// Returns whether a daemon without work left says `expected` once it is drained.
 fn drains(node: &mut Node, expected: Message) -> bool {
     match node.drained(0, 0) {
         Ok(message) => is(Heard::Say(message), Heard::Say(expected)),
@@ -201,7 +202,7 @@ fn drains(node: &mut Node, expected: Message) -> bool {
     }
 }
 
-/// Returns whether `new` answers the data that `old` makes, which has no bytes, with `expected`.
+/// Returns whether `old` makes data of no bytes in its phase, and `new` answers that data with `expected`.
 fn hands_data(alloc: Global, old: &mut Node, new: &mut Node, expected: Heard) -> bool {
     match old.phase() {
         Phase::Making { version: 1, .. } => {
@@ -212,8 +213,7 @@ fn hands_data(alloc: Global, old: &mut Node, new: &mut Node, expected: Heard) ->
     }
 }
 
-/// Returns whether each message from the offer to the data is answered as it should be, and `new` gets the data of
-/// `old`.
+/// Returns whether each message of a takeover, up to the data, gets the expected answer of `old` or `new`.
 fn hands_over(alloc: Global, old: &mut Node, new: &mut Node) -> bool {
     let (session, generation, version) = (1, 1, 1);
     let make = Heard::MakeData {
@@ -244,7 +244,7 @@ fn hands_the_data_over(rt: HostRuntime) {
     assert!(rt; so);
 }
 
-/// Returns whether a daemon takes the part at this position of two, reads it, and is then in the phase `reached`.
+/// Returns whether `node` gets the part at `position` of two, reads it, and is then in the phase `reached`.
 fn reads_part(alloc: Global, node: &mut Node, position: u32, reached: Phase) -> bool {
     let (session, generation, version, count) = (1, 1, 2, 2);
     let part = Message::Part {
@@ -264,7 +264,7 @@ fn reads_part(alloc: Global, node: &mut Node, position: u32, reached: Phase) -> 
     comes(node, part, got) && feeds(node) && node.phase() == reached
 }
 
-/// Returns whether a daemon that has read its part says nothing.
+/// Returns whether a daemon that takes a part in can be told that the part was read, and says nothing.
 fn feeds(node: &mut Node) -> bool {
     let Phase::Taking { .. } = node.phase() else {
         return false;
@@ -299,7 +299,8 @@ fn reads_the_data_in_parts(rt: HostRuntime) {
     assert!(rt; so);
 }
 
-/// Returns whether a daemon whose data was restored wants to claim, and may take requests after its claim was granted.
+/// Returns whether a daemon that was raised claims from generation 1, and may take requests only once its claim is
+/// granted.
 fn claims(node: &mut Node) -> bool {
     let Phase::Raising { .. } = node.phase() else {
         return false;
@@ -330,7 +331,7 @@ fn claims_what_it_raised(rt: HostRuntime) {
     assert!(rt; so);
 }
 
-/// Returns why a daemon is not drained, if it is not.
+/// Returns why `node` is not drained, or none if it is drained.
 fn drain_fault(node: &mut Node, in_hand: usize, unposted: usize) -> Option<DrainFault> {
     match node.drained(in_hand, unposted) {
         Ok(message) => {
@@ -341,7 +342,7 @@ fn drain_fault(node: &mut Node, in_hand: usize, unposted: usize) -> Option<Drain
     }
 }
 
-/// Returns whether a daemon refuses to be drained with these counts.
+/// Returns whether `node` is refused as undrained, with `in_hand` and `unposted` left.
 fn tells_what_is_left(node: &mut Node, in_hand: usize, unposted: usize) -> bool {
     drain_fault(node, in_hand, unposted) == Some(DrainFault::Undrained { in_hand, unposted })
 }

@@ -1,11 +1,12 @@
-//! What the backing of a manifest tells.
+//! What the backing of a manifest answers.
 use crate::small::SMALL;
 use checkout::{Backing, ManifestBacking};
 use eden_base::FileId;
 use manifest::Manifest;
 use std::alloc::Global;
 
-/// Returns what the backing of a manifest tells of a file that the manifest has, and then its count of failures.
+/// Returns the permissions and the size that the backing of `manifest` has for `file`, and its count of failures.
+/// Returns none if the manifest does not have `file`.
 fn told(manifest: &Manifest, file: FileId) -> Option<(u16, u64, u64)> {
     manifest.content(file)?;
     let mut backing = ManifestBacking::of(manifest);
@@ -13,7 +14,7 @@ fn told(manifest: &Manifest, file: FileId) -> Option<(u16, u64, u64)> {
     Some((content.perm.bits(), content.size, backing.failures()))
 }
 
-/// Reads a manifest, and calls `told` on it.
+/// Reads the manifest in `text`, and calls `told` with it.
 fn told_of(alloc: Global, text: &[u8], file: FileId) -> Option<(u16, u64, u64)> {
     match Manifest::read(alloc, text) {
         Ok(manifest) => told(&manifest, file),

@@ -1,4 +1,4 @@
-//! What tells a tree from its manifest's, as names come and go.
+//! How a tree differs from its manifest's, as names come and go.
 use super::deeds::{Deed, all_go_so};
 use crate::small::SMALL;
 use eden_base::Kind;
@@ -37,7 +37,8 @@ fn leaves_out_a_name_that_came_and_went(rt: HostRuntime) {
     assert!(rt; all_go_so(rt.alloc(), SMALL, &CAME_AND_WENT));
 }
 
-/// Names are told by directory, and then byte by byte: upper case before lower case, which is before what is no ASCII.
+/// The changed names come by directory, and then byte by byte: upper case before lower case, and bytes beyond ASCII
+/// last.
 static IN_ORDER: [Deed; 8] = [
     Deed::Remove((2, b"b", Some(4))),
     Deed::Make(1, b"d", Kind::Dir, 0o700, 6),

@@ -1,40 +1,40 @@
-//! Calls of a tree and their results as data, so that a test is a table.
+//! Calls on a tree with their expected results, as data. A test is a table of such calls.
 use crate::again::{parsed, tree_of};
 use checkout::{Changes, CreateFault, Made, Tree};
 use eden_base::{FileId, Kind, Name, NoMemory, Perm};
 use manifest::LinkChange;
 use std::alloc::Global;
 
-/// A file that was made: its id, kind and permissions.
+/// A made file: its id, kind and permissions.
 pub type MadeRow = (u64, Kind, u16);
 
-/// A name: its directory, its bytes, and the file that it gives or gave.
+/// A name: its directory, its bytes, and the file that it gives or gave, or none.
 pub type Named = (u64, &'static [u8], Option<u64>);
 
-/// A file's kind, permissions, size, and how many names lead to it.
+/// A file's kind, permissions, size, and count of links.
 pub type Attributes = (Kind, u16, u64, u32);
 
 #[derive(Clone, Copy)]
 pub enum Deed {
-    /// Makes a file in a directory, under a name, and gets this id.
+    /// Makes a file in this directory, under this name, of this kind and with these permissions. The file gets this id.
     Make(u64, &'static [u8], Kind, u16, u64),
-    /// Takes a name out, and gets its file; nothing where the call's conditions don't hold.
+    /// Removes a name, and gets its file. None as the file means that the precondition of `Tree::remove` does not hold.
     Remove(Named),
     Find(Named),
     Show(u64, Option<Attributes>),
-    /// Tells a file's kind, how many names lead to it, and whether it is an empty directory.
+    /// A file's kind and count of links, and whether it is an empty directory.
     Tell(u64, Kind, u32, bool),
     IsEmpty(u64, bool),
-    /// The permissions that a file was made with.
+    /// The permissions with which a file was made, or none for a file of the manifest.
     Perm(u64, Option<u16>),
-    /// The next file.
+    /// The id that the next made file gets.
     Next(u64),
     Commit(&'static [u8; 20]),
-    /// Differs from the manifest's tree by these files, by these names, and by the next file.
+    /// The changes of the tree: the made files, the changed names, and the next file.
     Differ(&'static [MadeRow], &'static [Named], u64),
 }
 
-/// Makes a file where the call's conditions hold.
+/// Makes a file, or returns none if the precondition of `Tree::create` does not hold.
 fn created(
     tree: &mut Tree,
     dir: FileId,
@@ -56,7 +56,7 @@ fn created(
     }
 }
 
-/// Makes a file, once more where memory was refused.
+/// Makes a file, and tries once more if the call was refused.
 pub(crate) fn created_again(
     tree: &mut Tree,
     dir: FileId,
@@ -70,7 +70,7 @@ pub(crate) fn created_again(
     }
 }
 
-/// Returns whether a file is made, with this id.
+/// Makes a file at the directory and name of `place`. Returns whether the file gets the id of `what`.
 fn is_made(alloc: Global, tree: &mut Tree, place: (u64, &[u8]), what: MadeRow) -> bool {
     let (file, kind, bits) = what;
     match (parsed(alloc, place.1), Perm::of(bits)) {
@@ -83,7 +83,7 @@ fn is_made(alloc: Global, tree: &mut Tree, place: (u64, &[u8]), what: MadeRow) -
     }
 }
 
-/// Takes a name out where the call's conditions hold.
+/// Removes `name` and returns its file, or none if the precondition of `Tree::remove` does not hold.
 #[tactic(auto, using(checkout::proofs::RemoveLaws::not_full_rules))]
 fn removed(tree: &mut Tree, dir: FileId, name: &Name) -> Option<FileId> {
     let file = tree.child(dir, name)?;
@@ -97,7 +97,7 @@ fn removed(tree: &mut Tree, dir: FileId, name: &Name) -> Option<FileId> {
     }
 }
 
-/// Returns whether a name that is taken out gives its file.
+/// Removes the name of `named`, and returns whether its file is that of `named`.
 fn is_removed(alloc: Global, tree: &mut Tree, named: Named) -> bool {
     let (dir, bytes, file) = named;
     match parsed(alloc, bytes) {
@@ -106,7 +106,7 @@ fn is_removed(alloc: Global, tree: &mut Tree, named: Named) -> bool {
     }
 }
 
-/// Returns whether a name leads to its file.
+/// Returns whether the name of `named` leads to its file, or to none if `named` has none.
 fn is_found(alloc: Global, tree: &Tree, named: Named) -> bool {
     let (dir, bytes, file) = named;
     match parsed(alloc, bytes) {
@@ -120,19 +120,19 @@ fn attributes_of(tree: &Tree, file: u64) -> Option<Attributes> {
     Some((attr.kind, attr.perm.bits(), attr.size, attr.nlink))
 }
 
-/// Returns whether a file has these attributes, and a kind just where it has any.
+/// Returns whether `file` has these attributes. A file without attributes must have no kind either.
 fn is_shown(tree: &Tree, file: u64, attributes: Option<Attributes>) -> bool {
     attributes_of(tree, file) == attributes
         && tree.kind(FileId(file)).is_some() == attributes.is_some()
 }
 
-/// Returns how many names lead to a file.
+/// Returns the count of links of `file`, or none if the tree does not have `file`.
 fn nlink_of(tree: &Tree, file: FileId) -> Option<u32> {
     let attr = tree.attr(file)?;
     Some(attr.nlink)
 }
 
-/// Returns whether a tree returns these values for a file.
+/// Returns whether `tree` has these values for `file`, and says that `file` is linked if `nlink` is not 0.
 fn is_told(tree: &Tree, file: FileId, kind: Kind, nlink: u32, empty: bool) -> bool {
     let is_linked = file != FileId::ROOT && nlink != 0;
     tree.kind(file) == Some(kind)
@@ -141,7 +141,7 @@ fn is_told(tree: &Tree, file: FileId, kind: Kind, nlink: u32, empty: bool) -> bo
         && tree.is_empty_dir(file) == empty
 }
 
-/// Returns whether a file was made with these permissions.
+/// Returns whether `file` was made with the permissions `bits`, or was not made if `bits` is none.
 fn is_perm(tree: &Tree, file: u64, bits: Option<u16>) -> bool {
     match tree.perm_made(FileId(file)) {
         Some(perm) => Some(perm.bits()) == bits,
@@ -149,7 +149,7 @@ fn is_perm(tree: &Tree, file: u64, bits: Option<u16>) -> bool {
     }
 }
 
-/// Returns the changes of a tree. It asks once more where memory was refused.
+/// Returns the changes of `tree`, and asks for them once more if memory was refused.
 fn changes_again(tree: &Tree) -> Option<Changes> {
     match tree.changes() {
         Ok(changes) => Some(changes),
@@ -157,7 +157,7 @@ fn changes_again(tree: &Tree) -> Option<Changes> {
     }
 }
 
-/// Returns whether a made file is the expected one.
+/// Returns whether `made` has the values of `row`.
 fn is_row(made: &Made, row: MadeRow) -> bool {
     let (file, kind, perm) = row;
     made.file.0 == file && made.kind == kind && made.perm.bits() == perm
@@ -175,7 +175,7 @@ fn are_rows(made: &[Made], rows: &[MadeRow]) -> bool {
     true
 }
 
-/// Returns whether a changed name is the expected one.
+/// Returns whether `link` has the values of `named`.
 fn is_named(link: &LinkChange, named: Named) -> bool {
     let (dir, bytes, file) = named;
     link.dir.0 == dir && link.name.bytes() == bytes && link.target == file.map(FileId)
@@ -193,7 +193,7 @@ fn are_named(links: &[LinkChange], names: &[Named]) -> bool {
     true
 }
 
-/// Returns whether these files were made, these names differ, and this file comes next.
+/// Returns whether the changes of `tree` are just the made files `made`, the names `names`, and the next file `next`.
 pub(crate) fn differs(tree: &Tree, made: &[MadeRow], names: &[Named], next: u64) -> bool {
     match changes_again(tree) {
         Some(changes) => {
@@ -207,7 +207,7 @@ pub(crate) fn differs(tree: &Tree, made: &[MadeRow], names: &[Named], next: u64)
     }
 }
 
-/// Does a deed, and returns whether its outcome is the expected one.
+/// Makes the call of `deed`, and returns whether its result is the expected one.
 fn goes_so(alloc: Global, tree: &mut Tree, deed: Deed) -> bool {
     match deed {
         Deed::Make(dir, name, kind, perm, file) => {
@@ -225,7 +225,7 @@ fn goes_so(alloc: Global, tree: &mut Tree, deed: Deed) -> bool {
     }
 }
 
-/// Does the deeds one after another, and returns whether all go so.
+/// Makes the calls of `deeds` one after another, and returns whether each result is the expected one.
 fn each_goes_so(alloc: Global, tree: &mut Tree, deeds: &[Deed]) -> bool {
     for deed in deeds {
         if !goes_so(alloc, tree, *deed) {
@@ -235,7 +235,7 @@ fn each_goes_so(alloc: Global, tree: &mut Tree, deeds: &[Deed]) -> bool {
     true
 }
 
-/// Does the deeds one after another on the tree of a text, and returns whether all go so.
+/// Makes the calls of `deeds` on the tree of the manifest in `text`. Returns whether each result is the expected one.
 pub(crate) fn all_go_so(alloc: Global, text: &[u8], deeds: &[Deed]) -> bool {
     match tree_of(alloc, text) {
         Some(tree) => {

@@ -1,9 +1,9 @@
-//! What a tree tells of its files, as they come and go.
+//! What a tree says of its files, as they come and go.
 use super::deeds::{Deed, all_go_so};
 use crate::small::{COMMIT, SMALL};
 use eden_base::{FileId, Kind, Number, Perm};
 
-/// What `SMALL` has at a directory and a name.
+/// Directories and names with the file that `SMALL` has there, or none.
 static CHILDREN: [Deed; 6] = [
     Deed::Commit(&COMMIT),
     Deed::Find((1, b"src", Some(2))),
@@ -18,7 +18,7 @@ fn finds_the_files_of_a_small_manifest(rt: HostRuntime) {
     assert!(rt; all_go_so(rt.alloc(), SMALL, &CHILDREN));
 }
 
-/// The files of `SMALL`, with their kind, permissions, size and count of links.
+/// The files of `SMALL`, with their kind, permissions, size and count of links. Ids 0 and 6 are no files.
 static ATTRIBUTES: [Deed; 6] = [
     Deed::Show(0, None),
     Deed::Show(1, Some((Kind::Dir, 0o755, 0, 2))),
@@ -33,11 +33,11 @@ fn tells_attributes_as_a_line_has_them(rt: HostRuntime) {
     assert!(rt; all_go_so(rt.alloc(), SMALL, &ATTRIBUTES));
 }
 
-/// A directory in a directory, and a file beside them.
+/// A manifest of a directory in a directory, and a file in the root.
 const NESTED: &[u8] =
     b"commit 0123456789abcdef0123456789abcdef01234567\ndir a\ndir a/b\nfile 0644 0 c\n";
 
-/// The files of `NESTED` and one more, and whether they are empty directories.
+/// For each file of `NESTED`, and for id 5, which is no file, whether it is an empty directory.
 static NESTED_EMPTY: [Deed; 5] = [
     Deed::IsEmpty(1, false),
     Deed::IsEmpty(2, false),
@@ -51,7 +51,7 @@ fn takes_a_directory_of_directories_for_one_with_entries(rt: HostRuntime) {
     assert!(rt; all_go_so(rt.alloc(), NESTED, &NESTED_EMPTY));
 }
 
-/// A directory is made and a file in it; then they are taken out, the directory first in vain.
+/// Calls that make a directory and a file in it, and then remove both. The full directory cannot be removed.
 static FILLED: [Deed; 10] = [
     Deed::Make(1, b"d", Kind::Dir, 0o755, 6),
     Deed::Tell(6, Kind::Dir, 2, true),
@@ -70,7 +70,8 @@ fn fills_and_empties_a_directory_again_after_memory_was_refused(rt: HostRuntime)
     assert!(rt; all_go_so(rt.alloc(), SMALL, &FILLED));
 }
 
-/// What `SMALL` has is taken out, and a file is made under the name of its directory.
+/// Calls that remove `src` of `SMALL` with its files, and make a file of that name. The full directory cannot be
+/// removed.
 static TAKEN: [Deed; 11] = [
     Deed::Remove((1, b"src", None)),
     Deed::Remove((2, b"b", Some(4))),

@@ -1,4 +1,4 @@
-//! Trees that are made of changes, and the first change that no tree has.
+//! Trees that are made of changes, and the first of the changes that no tree has.
 use super::deeds::{MadeRow, Named, differs};
 use crate::again::{parsed, read_again};
 use crate::small::SMALL;
@@ -7,10 +7,10 @@ use eden_base::{FileId, Kind, Perm};
 use manifest::{LinkChange, Manifest};
 use std::alloc::Global;
 
-/// Files that were made, names with what they give, and the next file.
+/// The parts of `Changes`: the made files, the changed names with their files, and the next file.
 type Told = (&'static [MadeRow], &'static [Named], u64);
 
-/// Makes a made file of a row; none where its bits are no permissions.
+/// Makes the made file of `row`, or returns none if its bits are no permissions.
 fn made_of(row: MadeRow) -> Option<Made> {
     let (file, kind, bits) = row;
     let file = FileId(file);
@@ -26,7 +26,7 @@ fn list_made(alloc: Global, rows: &[MadeRow]) -> Option<MadeList> {
     Some(MadeList::of(made))
 }
 
-/// Returns a name with what it gives.
+/// Makes the changed name of `named`, or returns none if memory was refused.
 fn link_of(alloc: Global, named: Named) -> Option<LinkChange> {
     let (dir, bytes, file) = named;
     Some(LinkChange {
@@ -44,7 +44,7 @@ fn list_links(alloc: Global, names: &[Named]) -> Option<LinkList> {
     Some(LinkList::of(links))
 }
 
-/// Returns changes; nothing where memory was refused.
+/// Makes the changes of `told`, or returns none if memory was refused.
 fn changes_of(alloc: Global, told: Told) -> Option<Changes> {
     let (made, names, next) = told;
     let made = list_made(alloc, made)?;
@@ -56,7 +56,7 @@ fn changes_of(alloc: Global, told: Told) -> Option<Changes> {
     })
 }
 
-/// Returns changes, which it makes once more where memory was refused.
+/// Calls `changes_of`, and once more if the first call returned none.
 fn changes_again(alloc: Global, told: Told) -> Option<Changes> {
     match changes_of(alloc, told) {
         Some(changes) => Some(changes),
@@ -64,7 +64,7 @@ fn changes_again(alloc: Global, told: Told) -> Option<Changes> {
     }
 }
 
-/// Makes a tree of changes, and once more where memory was refused.
+/// Makes the tree of `manifest` with `changes`, and tries once more if memory was refused.
 fn changed(alloc: Global, manifest: &Manifest, changes: &Changes) -> Result<Tree, ChangeFault> {
     match Tree::with_changes(alloc, manifest, changes) {
         Ok(tree) => Ok(tree),
@@ -73,7 +73,8 @@ fn changed(alloc: Global, manifest: &Manifest, changes: &Changes) -> Result<Tree
     }
 }
 
-/// Returns whether a tree is made of changes and tells just them, or the first that no tree has is at this place.
+/// Makes the tree of `manifest` with `changes`. If `place` is none, returns whether the tree has just the changes of
+/// `told`. Else returns whether the change at that position is refused.
 fn is_told_again(
     alloc: Global,
     manifest: &Manifest,
@@ -92,7 +93,7 @@ fn is_told_again(
     }
 }
 
-/// Calls `is_told_again` with the changes that are told of a manifest.
+/// Calls `is_told_again` with `manifest` and the changes of `told`.
 fn goes_so_with(alloc: Global, manifest: &Manifest, told: Told, place: Option<usize>) -> bool {
     match changes_again(alloc, told) {
         Some(changes) => {
@@ -104,7 +105,7 @@ fn goes_so_with(alloc: Global, manifest: &Manifest, told: Told, place: Option<us
     }
 }
 
-/// Calls `goes_so_with` over the manifest `SMALL`.
+/// Calls `goes_so_with` with the manifest `SMALL`.
 fn goes_so(alloc: Global, told: Told, place: Option<usize>) -> bool {
     match read_again(alloc, SMALL) {
         Ok(manifest) => {
@@ -116,9 +117,14 @@ fn goes_so(alloc: Global, told: Told, place: Option<usize>) -> bool {
     }
 }
 
-/// Changes, and the place of the first that no tree has. A file moved; a directory was made, and a file in it. The next
-/// file is the manifest's; a file stands twice; a directory with names in it lost its own; two directories stand in
-/// each other.
+/// Changes, each with the position of the first that no tree has:
+///
+/// - A file moves.
+/// - A directory is made, and a file in it.
+/// - The next file is one of the manifest.
+/// - A file has two names.
+/// - A directory with names in it loses its own name.
+/// - Two directories stand in each other.
 static ROWS: [(Told, Option<usize>); 6] = [
     ((&[], &[(1, b"z", Some(3)), (2, b"a", None)], 6), None),
     (

@@ -1,4 +1,4 @@
-//! What a test does with an inode map and hears of it, as data, so that a test is a table.
+//! Calls on an inode map with their expected answers, as data. A test is a table of such calls.
 ghost use Rattle.std.specs.Prelude.{◌≤◌};
 
 use crate::again::parsed;
@@ -6,39 +6,39 @@ use eden_base::{Attr, Kind, Name, NoMemory, Number, Perm, Place};
 use inode_map::{Forgot, GiveFault, InodeMap, Kept};
 use std::alloc::Global;
 
-/// A call and what it answers, as data, so that a test is a table. For no number stands 0.
+/// A call with its expected answer. The number 0 stands for none.
 #[derive(Clone, Copy)]
 pub enum Deed {
-    /// Gives the number of a name in the directory of a number.
+    /// Gives a number to a name in the directory of a number.
     Give(u64, &'static [u8], u64),
-    /// Gives it in room that was made before.
+    /// Gives a number in room that was made before.
     GiveReady(u64, &'static [u8], u64),
-    /// Is refused a number.
+    /// Gives no number, for this cause.
     Refuse(u64, &'static [u8], GiveFault),
-    /// Looks for the number of a name.
+    /// Finds the number of a name in the directory of a number.
     Find(u64, &'static [u8], u64),
     Forget(u64, u64, Forgot),
-    /// Tells what would become of a forget.
+    /// The result that a forget would have, by `InodeMap::forgot`.
     Foresee(u64, u64, Forgot),
     After(u64, u64),
     Count(u64, u64),
-    /// The numbers of all entries with their directories and counts; for none stands 0.
+    /// All entries, each as its number, directory and count. For no directory stands 0.
     Entries(&'static [(u64, u64, u64)]),
-    /// The directory of a number.
+    /// The directory in which a number stands.
     Parent(u64, u64),
-    /// Tells whether a number is known.
+    /// Whether a number is known.
     Know(u64, bool),
     /// The next number, and how many forgets were bad.
     At(u64, u64),
-    /// Loads an attribute whose size is the number.
+    /// Loads attributes for a number, with the number as their size.
     Load(u64),
-    /// The size in the loaded attribute of a number, 0 for none.
+    /// The size in the loaded attributes of a number, or 0 if none are loaded.
     Size(u64, u64),
-    /// Unloads the oldest, where there is one.
+    /// Unloads the attributes that were used longest ago, and says whether there were any.
     Unload(bool),
 }
 
-/// Makes a map, and makes it again where memory was short.
+/// Makes a map, and tries once more if memory was refused.
 pub(crate) fn map_of(alloc: Global, limit: usize) -> Result<InodeMap, NoMemory>
     requires { 1 ≤ limit }
 {
@@ -48,7 +48,7 @@ pub(crate) fn map_of(alloc: Global, limit: usize) -> Result<InodeMap, NoMemory>
     }
 }
 
-/// Gives the number of a name, and gives it again where memory was short.
+/// Gives a number to `name` in `parent`, and tries once more if memory was refused.
 pub(crate) fn given(
     alloc: Global,
     map: &mut InodeMap,
@@ -62,7 +62,7 @@ pub(crate) fn given(
     }
 }
 
-/// Gives a number in room that was made before, and makes the room again where memory was short.
+/// Makes room, once more if memory was refused, and gives a number to `name` in `parent` there.
 pub(crate) fn given_ready(
     alloc: Global,
     map: &mut InodeMap,
@@ -75,7 +75,7 @@ pub(crate) fn given_ready(
     map.give_ready(parent, name).ok()
 }
 
-/// Loads an attribute whose size is the number, unless the number is unknown or has one.
+/// Loads attributes of size `number` for `number`. Does nothing if `number` has no entry, or has attributes loaded.
 fn load(map: &mut InodeMap, number: Number) {
     if map.entry(number).is_some() && map.attr(number).is_none() {
         let attr = Attr {
@@ -88,7 +88,7 @@ fn load(map: &mut InodeMap, number: Number) {
     }
 }
 
-/// Returns the number, or 0.
+/// Returns the value of `number`, or 0 for none.
 fn number_or_0(number: Option<Number>) -> u64 {
     match number {
         Some(number) => number.0,
@@ -96,7 +96,7 @@ fn number_or_0(number: Option<Number>) -> u64 {
     }
 }
 
-/// Gives the number of a name, and returns it.
+/// Gives a number to `name` in `parent`, and returns it, or 0 if none was given.
 fn number_given(alloc: Global, map: &mut InodeMap, parent: u64, name: &[u8]) -> u64 {
     match parsed(alloc, name) {
         Some(name) => {
@@ -108,7 +108,7 @@ fn number_given(alloc: Global, map: &mut InodeMap, parent: u64, name: &[u8]) -> 
     }
 }
 
-/// Gives it in room that was made before, and returns it.
+/// Makes room, gives a number to `name` in `parent` there, and returns it, or 0 if none was given.
 fn number_given_ready(alloc: Global, map: &mut InodeMap, parent: u64, name: &[u8]) -> u64 {
     match parsed(alloc, name) {
         Some(name) => number_or_0(given_ready(alloc, map, Number(parent), name)),
@@ -116,7 +116,7 @@ fn number_given_ready(alloc: Global, map: &mut InodeMap, parent: u64, name: &[u8
     }
 }
 
-/// Returns whether no number is given, for this cause.
+/// Returns whether the name at `place` is given no number, because of `fault`.
 fn is_refused(alloc: Global, map: &mut InodeMap, place: (u64, &[u8]), fault: GiveFault) -> bool {
     let (parent, name) = place;
     match parsed(alloc, name) {
@@ -129,7 +129,7 @@ fn is_refused(alloc: Global, map: &mut InodeMap, place: (u64, &[u8]), fault: Giv
     }
 }
 
-/// Returns the number of a name.
+/// Returns the number of `name` in `parent`, or 0.
 fn number_found(alloc: Global, map: &InodeMap, parent: u64, name: &[u8]) -> u64 {
     match parsed(alloc, name) {
         Some(name) => {
@@ -141,7 +141,7 @@ fn number_found(alloc: Global, map: &InodeMap, parent: u64, name: &[u8]) -> u64 
     }
 }
 
-/// Returns the size in the loaded attribute of a number, or 0.
+/// Returns the size in the loaded attributes of `number`, or 0 if none are loaded.
 fn size_loaded(map: &mut InodeMap, number: u64) -> u64 {
     match map.attr(Number(number)) {
         Some(attr) => attr.size,
@@ -149,7 +149,7 @@ fn size_loaded(map: &mut InodeMap, number: u64) -> u64 {
     }
 }
 
-/// Returns the number of the directory of a place, or 0.
+/// Returns the directory of `place`, or 0 if its file was unlinked.
 fn dir_or_0(place: &Place) -> u64 {
     match place {
         Place::Linked { parent, .. } => parent.0,
@@ -157,7 +157,7 @@ fn dir_or_0(place: &Place) -> u64 {
     }
 }
 
-/// Returns the number of the directory in which a number stands, or 0.
+/// Returns the directory in which `number` stands, or 0.
 fn parent_of(map: &InodeMap, number: u64) -> u64 {
     match map.entry(Number(number)) {
         Some(place) => dir_or_0(place),
@@ -165,7 +165,7 @@ fn parent_of(map: &InodeMap, number: u64) -> u64 {
     }
 }
 
-/// Returns the entries, and asks for them again where memory was short.
+/// Returns the entries of `map`, and asks for them once more if memory was refused.
 pub(crate) fn entries_of(alloc: Global, map: &InodeMap) -> Result<Vec<Kept>, NoMemory> {
     match map.to_entries(alloc) {
         Err(_refused) => map.to_entries(alloc),
@@ -173,12 +173,12 @@ pub(crate) fn entries_of(alloc: Global, map: &InodeMap) -> Result<Vec<Kept>, NoM
     }
 }
 
-/// Returns whether an entry has this number, directory and count.
+/// Returns whether `kept` has the number, directory and count of `told`.
 fn is_entry(kept: &Kept, told: (u64, u64, u64)) -> bool {
     kept.number.0 == told.0 && dir_or_0(&kept.place) == told.1 && kept.count == told.2
 }
 
-/// Returns whether these are told in order.
+/// Returns whether `entries` are those of `told`, in this order.
 fn are_entries(entries: &[Kept], told: &[(u64, u64, u64)]) -> bool {
     if entries.len() != told.len() {
         return false;
@@ -191,7 +191,7 @@ fn are_entries(entries: &[Kept], told: &[(u64, u64, u64)]) -> bool {
     true
 }
 
-/// Returns whether these are the entries, in order.
+/// Returns whether the entries of `map` are those of `told`, in this order.
 fn has_entries(alloc: Global, map: &InodeMap, told: &[(u64, u64, u64)]) -> bool {
     match entries_of(alloc, map) {
         Ok(entries) => {
@@ -203,7 +203,7 @@ fn has_entries(alloc: Global, map: &InodeMap, told: &[(u64, u64, u64)]) -> bool 
     }
 }
 
-/// Makes a call, and returns whether it answers what it says.
+/// Makes the call of `deed`, and returns whether its answer is the expected one.
 fn goes_so(alloc: Global, map: &mut InodeMap, deed: Deed) -> bool {
     match deed {
         Deed::Give(parent, name, number) => number_given(alloc, map, parent, name) == number,
@@ -229,7 +229,7 @@ fn goes_so(alloc: Global, map: &mut InodeMap, deed: Deed) -> bool {
     }
 }
 
-/// Makes the calls of a table, and returns whether each answers what it says.
+/// Makes the calls of `deeds`, and returns whether each answer is the expected one.
 pub(crate) fn each_goes_so(alloc: Global, map: &mut InodeMap, deeds: &[Deed]) -> bool {
     for deed in deeds {
         if !goes_so(alloc, map, *deed) {
@@ -239,7 +239,7 @@ pub(crate) fn each_goes_so(alloc: Global, map: &mut InodeMap, deeds: &[Deed]) ->
     true
 }
 
-/// Makes the calls of a table on a map that begins, and returns whether each answers what it says.
+/// Makes the calls of `deeds` on a new map with this `limit`. Returns whether each answer is the expected one.
 pub(crate) fn all_go_so(alloc: Global, limit: usize, deeds: &[Deed]) -> bool
     requires { 1 ≤ limit }
 {

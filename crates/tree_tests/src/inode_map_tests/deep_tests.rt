@@ -1,4 +1,4 @@
-//! The numbers of a path of a hundred directories, and the files that they name in a tree.
+//! The numbers of a path of a hundred directories, and the files that these numbers name in a tree.
 use super::deeds::{given, map_of};
 use crate::again::{parsed, tree_of};
 use checkout::Tree;
@@ -6,7 +6,7 @@ use eden_base::{FileId, Name, NoMemory, Number};
 use inode_map::InodeMap;
 use std::alloc::{AllocError, Global};
 
-/// Gives `depth` numbers, each to the name in the directory of the one before, and returns the last.
+/// Gives `depth` numbers to `name`, each in the directory of the number before, and returns the last.
 fn given_below(alloc: Global, map: &mut InodeMap, name: &Name, depth: u64) -> Option<Number> {
     let mut last = Number::ROOT;
     for _step in 0..depth {
@@ -15,14 +15,14 @@ fn given_below(alloc: Global, map: &mut InodeMap, name: &Name, depth: u64) -> Op
     Some(last)
 }
 
-/// Writes a path's line, and makes the path one directory deeper.
+/// Appends `path` to `text` as a line, and makes `path` one directory deeper.
 fn put_path(text: &mut Vec<u8>, path: &mut Vec<u8>) -> Result<(), AllocError> {
     text.extend_from_slice(path.as_slice())?;
     text.push(b'\n')?;
     path.extend_from_slice(b"/a")
 }
 
-/// Writes the lines of directories, each in the one before.
+/// Appends the lines of `depth` directories, each in the one before.
 fn put_paths(text: &mut Vec<u8>, path: &mut Vec<u8>, depth: usize) -> Result<(), AllocError> {
     for _line in 0..depth {
         put_path(text, path)?;
@@ -30,7 +30,7 @@ fn put_paths(text: &mut Vec<u8>, path: &mut Vec<u8>, depth: usize) -> Result<(),
     Ok(())
 }
 
-/// Writes the text of a hundred directories, each in the one before.
+/// Makes the text of a manifest of a hundred directories, each in the one before.
 fn nested(alloc: Global) -> Result<Vec<u8>, AllocError> {
     let mut text = Vec::from_slice(alloc, b"commit 0123456789abcdef0123456789abcdef01234567\n")?;
     let mut path = Vec::from_slice(alloc, b"dir a")?;
@@ -38,7 +38,7 @@ fn nested(alloc: Global) -> Result<Vec<u8>, AllocError> {
     Ok(text)
 }
 
-/// Writes it, again where memory was short.
+/// Calls `nested`, and once more if memory was refused.
 fn nested_again(alloc: Global) -> Option<Vec<u8>> {
     match nested(alloc) {
         Ok(text) => Some(text),
@@ -46,7 +46,7 @@ fn nested_again(alloc: Global) -> Option<Vec<u8>> {
     }
 }
 
-/// Makes the tree of that text.
+/// Makes the tree of the text of `nested`.
 fn nested_tree(alloc: Global) -> Option<Tree> {
     let text = nested_again(alloc)?;
     let tree = tree_of(alloc, text.as_slice());
@@ -54,7 +54,7 @@ fn nested_tree(alloc: Global) -> Option<Tree> {
     tree
 }
 
-/// Returns whether each number names the file that has its id, and the two behind them name none.
+/// Returns whether each number from 1 to 101 names the file with the same id, and numbers 102 and 103 name none.
 fn are_located(map: &mut InodeMap, tree: &Tree) -> bool {
     for id in 1..102u64 {
         if map.locate(tree, Number(id)) != Some(FileId(id)) {
@@ -64,7 +64,8 @@ fn are_located(map: &mut InodeMap, tree: &Tree) -> bool {
     map.locate(tree, Number(102)).is_none() && map.locate(tree, Number(103)).is_none()
 }
 
-/// Gives the numbers of a path that is one directory deeper than a tree, and returns whether they name its files.
+/// Gives 101 numbers, each in the directory of the one before, while `tree` has 100 directories. Returns whether
+/// `are_located` is true then.
 fn finds_each(alloc: Global, map: &mut InodeMap, tree: &Tree) -> bool {
     match parsed(alloc, b"a") {
         Some(name) => {
@@ -76,7 +77,7 @@ fn finds_each(alloc: Global, map: &mut InodeMap, tree: &Tree) -> bool {
     }
 }
 
-/// Calls `finds_each` on a new map.
+/// Calls `finds_each` with a new map.
 fn finds_each_in(alloc: Global, tree: &Tree) -> bool {
     match map_of(alloc, 4) {
         Ok(map) => {
@@ -89,7 +90,7 @@ fn finds_each_in(alloc: Global, tree: &Tree) -> bool {
     }
 }
 
-/// Calls `finds_each_in` with a tree of a hundred directories.
+/// Calls `finds_each_in` with the tree of a hundred directories.
 fn finds_each_nested(alloc: Global) -> bool {
     match nested_tree(alloc) {
         Some(tree) => {

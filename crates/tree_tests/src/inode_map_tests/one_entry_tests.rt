@@ -1,4 +1,4 @@
-//! Maps that are made of one entry: at the greatest count and the last number, and of a file without a name.
+//! Maps of one entry: one with the last number and almost the greatest count, and one whose file has no name.
 ghost use Rattle.std.specs.Prelude.{◌+◌, ◌<◌, ◌≤◌};
 ghost use Rattle.eden_base.specs.Limits.{end_of_numbers};
 
@@ -9,14 +9,14 @@ use eden_base::{FileId, NoMemory, Number, Place};
 use inode_map::{Forgot, GiveFault, InodeMap, Kept};
 use std::alloc::Global;
 
-/// Where an entry stands, as data: under a name of the root, or nowhere, with the mark of a file.
+/// A place as data: a name in the root, or the mark of an unlinked file.
 #[derive(Clone, Copy)]
 enum Spot {
     Named(&'static [u8]),
     Marked(u64),
 }
 
-/// Makes the place of a spot, unless its bytes are no name.
+/// Makes the place of `spot`, or returns none if memory was refused.
 fn place_of(alloc: Global, spot: Spot) -> Option<Place> {
     match spot {
         Spot::Named(bytes) => Some(Place::Linked {
@@ -27,7 +27,7 @@ fn place_of(alloc: Global, spot: Spot) -> Option<Place> {
     }
 }
 
-/// Makes a map of one entry, whose number is the last that was given.
+/// Makes a map of one entry. Its number is the last that was given.
 fn map_of_place(
     alloc: Global,
     number: Number,
@@ -48,7 +48,7 @@ fn map_of_place(
     InodeMap::of_entries(alloc, entries, next, 1)
 }
 
-/// Calls `map_of_place` with the place of a spot, and once more where memory was refused.
+/// Calls `map_of_place` with the place of `spot`, and once more if memory was refused.
 fn map_of_one(alloc: Global, number: Number, spot: Spot, count: u64) -> Option<InodeMap>
     requires above_root { 2 ≤ number.0 }
     requires fits { number.0 < end_of_numbers }
@@ -64,8 +64,7 @@ fn map_of_one(alloc: Global, number: Number, spot: Spot, count: u64) -> Option<I
     }
 }
 
-/// A map of one entry, under a name of the root, whose number is the last, and which is held as often as may be
-/// but once.
+/// Calls on a map of one entry: the last number, under `src` in the root, with the greatest count less one.
 static AT_THE_ENDS: [Deed; 9] = [
     Deed::At(9223372036854775807, 0),
     Deed::Give(1, b"src", 9223372036854775806),
@@ -78,7 +77,7 @@ static AT_THE_ENDS: [Deed; 9] = [
     Deed::Know(9223372036854775806, false),
 ];
 
-/// Returns whether the calls on that map go so.
+/// Makes the map of `AT_THE_ENDS`. Returns whether each call on the map goes as its row says.
 fn gives_up_at_the_ends(alloc: Global) -> bool {
     let spot = Spot::Named(b"src");
     match map_of_one(alloc, Number(9223372036854775806), spot, 4294967294) {
@@ -105,14 +104,14 @@ static MARKED: [Deed; 5] = [
     Deed::Forget(5, 1, Forgot::Dropped),
 ];
 
-/// Returns whether number 5 names file 7 until it is forgotten.
+/// Returns whether number 5 names file 7 until all its lookups are forgotten, and no file afterwards.
 fn names_until_forgotten(alloc: Global, map: &mut InodeMap, tree: &Tree) -> bool {
     map.locate(tree, Number(5)) == Some(FileId(7))
         && each_goes_so(alloc, map, &MARKED)
         && map.locate(tree, Number(5)).is_none()
 }
 
-/// Calls `names_until_forgotten` on a map in which number 5 is unlinked.
+/// Calls `names_until_forgotten` with a map in which number 5 has the mark of file 7, and count 2.
 fn names_a_mark(alloc: Global, tree: &Tree) -> bool {
     match map_of_one(alloc, Number(5), Spot::Marked(7), 2) {
         Some(map) => {
@@ -125,7 +124,7 @@ fn names_a_mark(alloc: Global, tree: &Tree) -> bool {
     }
 }
 
-/// Calls `names_a_mark` with a tree without files.
+/// Calls `names_a_mark` with the tree of a manifest without files.
 fn names_a_mark_of_nothing(alloc: Global) -> bool {
     match tree_of(alloc, b"commit 0123456789abcdef0123456789abcdef01234567\n") {
         Some(tree) => {

@@ -1,9 +1,9 @@
-//! A long sequence of calls, on a map and on a plain list of the same entries.
+//! A long sequence of calls, made on a map and on a plain list that should have the same entries.
 use eden_base::{FileId, Name, NameFault, NoMemory, Number, Place};
 use inode_map::{Forgot, GiveFault, InodeMap};
 use std::alloc::{AllocError, Global};
 
-/// An entry under a name of one byte in a directory, or under none: then the directory is 0.
+/// An entry of the list. Its name is one byte, in the directory `parent`; if `parent` is 0, the entry is unlinked.
 #[derive(Clone, Copy)]
 struct Listed {
     number: u64,
@@ -12,7 +12,7 @@ struct Listed {
     count: u64,
 }
 
-/// The entries by rising number, the next number, and how many forgets were bad.
+/// The plain list: the entries by rising number, the next number, and how many forgets were bad.
 #[derive(Drop)]
 struct Plain {
     entries: Vec<Listed>,
@@ -108,7 +108,8 @@ impl Plain {
     }
 }
 
-/// Returns whether the map has this entry, under this name or with the mark of the file of its number.
+/// Returns whether `map` has `entry` with its count and its name. An unlinked entry must have the mark of the file
+/// whose id is its number.
 fn has(map: &InodeMap, entry: &Listed) -> bool {
     let number = Number(entry.number);
     let is_there = match map.entry(number) {
@@ -123,7 +124,7 @@ fn has(map: &InodeMap, entry: &Listed) -> bool {
     is_there && map.count(number) == entry.count
 }
 
-/// Returns whether the map has the entries of the list, and no others.
+/// Returns whether `map` has just the entries of `plain`, the same next number, and as many bad forgets.
 fn agrees(map: &InodeMap, plain: &Plain) -> bool {
     let mut last = Number::ROOT;
     for entry in &plain.entries {
@@ -135,7 +136,7 @@ fn agrees(map: &InodeMap, plain: &Plain) -> bool {
     map.after(last).is_none() && map.next() == plain.next && map.bad_items() == plain.bad_items
 }
 
-/// Takes the name of a number away in both, if it has one, is held, and nothing stands below it.
+/// Unlinks `number` in `map` and in `plain`, if the number has a name, is counted, and has no kids.
 fn unlink(map: &mut InodeMap, plain: &mut Plain, number: u64) {
     let Some(Place::Linked { .. }) = map.entry(Number(number)) else {
         return;
@@ -148,7 +149,7 @@ fn unlink(map: &mut InodeMap, plain: &mut Plain, number: u64) {
     plain.unlink(number);
 }
 
-/// Gives the number of a name, in room that is made first where it is told so.
+/// Gives a number to `name` in `parent`. If `is_reserved`, makes room first and gives the number there.
 fn given(
     alloc: Global,
     map: &mut InodeMap,
@@ -164,7 +165,7 @@ fn given(
     given
 }
 
-/// Gives the number of a name in both. The map makes room for it first where it is told so.
+/// Calls `given` on `map`, and gives a number in `plain` too. Returns whether both numbers are the same.
 fn give(
     alloc: Global,
     map: &mut InodeMap,
@@ -179,7 +180,7 @@ fn give(
     Ok(matches!((given, listed), (Ok(number), Ok(other)) if number.0 == other))
 }
 
-/// Makes one call on both, and returns whether both answered the same.
+/// Makes one call, chosen by `dice`, on `map` and on `plain`. Returns whether both answer the same.
 fn step(
     alloc: Global,
     map: &mut InodeMap,
@@ -208,8 +209,8 @@ fn step(
     }
 }
 
-/// Makes a thousand calls on a map and a plain list. Returns whether both answered the same each time and agree after
-/// each.
+/// Makes a thousand calls on `map` and `plain`. Returns whether both answer the same each time, and agree after each
+/// call.
 fn agree_for_long(alloc: Global, map: &mut InodeMap, plain: &mut Plain) -> Result<bool, NameFault> {
     let mut dice = 20260u64;
     for _call in 0..1000u32 {
@@ -223,7 +224,8 @@ fn agree_for_long(alloc: Global, map: &mut InodeMap, plain: &mut Plain) -> Resul
     Ok(true)
 }
 
-/// Calls `agree_for_long`, and returns whether it gave many numbers, bad forgets and entries.
+/// Calls `agree_for_long` with an empty list. Returns whether both agree, the next number is above 200, more than 50
+/// forgets were bad, and more than 10 entries are left.
 fn agree_on_much(alloc: Global, map: &mut InodeMap) -> bool {
     let mut plain = Plain {
         entries: Vec::new(alloc),
@@ -236,7 +238,7 @@ fn agree_on_much(alloc: Global, map: &mut InodeMap) -> bool {
     agreed == Ok(true) && is_much
 }
 
-/// Calls `agree_on_much` on a new map.
+/// Calls `agree_on_much` with a new map.
 fn agree(alloc: Global) -> bool {
     match InodeMap::new(alloc, 4) {
         Ok(map) => {

@@ -1,4 +1,4 @@
-//! Maps in which many numbers are given, and those of names of each length.
+//! Maps in which many numbers are given, maps with names of each length, and maps with each limit.
 ghost use Rattle.std.specs.Prelude.{◌≤◌};
 
 use super::LONGEST_NAME;
@@ -16,7 +16,7 @@ pub enum Giving {
     InRoom,
 }
 
-/// Gives the number of a name, and returns it.
+/// Gives a number to `name` in `parent`, in the way of `giving`, and returns it.
 fn number_of(
     alloc: Global,
     map: &mut InodeMap,
@@ -34,7 +34,7 @@ fn number_of(
     }
 }
 
-/// Returns whether a map tells `count` entries.
+/// Returns whether `map` has `count` entries.
 fn has_entries(alloc: Global, map: &InodeMap, count: usize) -> bool {
     match entries_of(alloc, map) {
         Ok(entries) => {
@@ -46,7 +46,7 @@ fn has_entries(alloc: Global, map: &InodeMap, count: usize) -> bool {
     }
 }
 
-/// Returns whether the name that is a number in digits gets that number.
+/// Returns whether the name that is `number` in digits gets this `number`.
 fn is_numbered(
     alloc: Global,
     map: &mut InodeMap,
@@ -67,7 +67,8 @@ fn is_numbered(
     }
 }
 
-/// Gives `count` numbers, each in the directory of the one before it or all in the root.
+/// Gives `count` numbers, each in the directory of the one before if `deep`, else all in the root. Returns whether each
+/// number is the expected one.
 fn gives(alloc: Global, map: &mut InodeMap, count: u64, deep: bool, giving: Giving) -> bool {
     let mut parent = Number::ROOT;
     for step in 0..count {
@@ -82,7 +83,7 @@ fn gives(alloc: Global, map: &mut InodeMap, count: u64, deep: bool, giving: Givi
     true
 }
 
-/// Calls `gives` on a new map, and returns whether it has an entry for each number.
+/// Calls `gives` with a new map, and returns whether the map has an entry for each number.
 pub(crate) fn are_given(alloc: Global, count: u64, deep: bool, giving: Giving) -> bool {
     match map_of(alloc, 4) {
         Ok(map) => {
@@ -96,7 +97,7 @@ pub(crate) fn are_given(alloc: Global, count: u64, deep: bool, giving: Giving) -
     }
 }
 
-/// Gives a number to a name of `len` bytes, and returns whether the map tells an entry for each length up to it.
+/// Gives a number to a name of `len` bytes. Returns whether the map then has `len` entries.
 fn is_name_given(alloc: Global, map: &mut InodeMap, len: usize) -> bool {
     match parsed(alloc, &LONGEST_NAME[..len.min(255)]) {
         Some(name) => {
@@ -108,7 +109,7 @@ fn is_name_given(alloc: Global, map: &mut InodeMap, len: usize) -> bool {
     }
 }
 
-/// Gives numbers to names of each length.
+/// Calls `is_name_given` with each length from 1 to 255.
 fn gives_names(alloc: Global, map: &mut InodeMap) -> bool {
     for len in 1..256usize {
         if !is_name_given(alloc, map, len) {
@@ -118,7 +119,7 @@ fn gives_names(alloc: Global, map: &mut InodeMap) -> bool {
     true
 }
 
-/// Calls `gives_names` on a new map.
+/// Calls `gives_names` with a new map.
 pub(crate) fn are_names_given(alloc: Global) -> bool {
     match map_of(alloc, 4) {
         Ok(map) => {
@@ -131,7 +132,7 @@ pub(crate) fn are_names_given(alloc: Global) -> bool {
     }
 }
 
-/// Returns whether a map is made that keeps `limit` attributes loaded.
+/// Returns whether a map can be made that keeps up to `limit` attributes loaded.
 fn is_limit_taken(alloc: Global, limit: usize) -> bool
     requires { 1 ≤ limit }
 {
@@ -144,7 +145,7 @@ fn is_limit_taken(alloc: Global, limit: usize) -> bool
     }
 }
 
-/// Returns whether a map may begin with each of the limits 1, 2, 4 up to 65,536, and with none above.
+/// Returns whether a map can be made with each of the limits 1, 2, 4 and so on to 65,536, and none with 65,537.
 pub(crate) fn is_each_limit_taken(alloc: Global) -> bool {
     for shift in 0..17u32 {
         if !is_limit_taken(alloc, 1 << shift) {

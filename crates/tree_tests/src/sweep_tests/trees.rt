@@ -1,4 +1,4 @@
-//! Trees in which many files are made, and names of each length.
+//! Trees in which many directories are made, and names of each length.
 use super::LONGEST_NAME;
 use crate::again::{parsed, tree_of};
 use crate::checkout_tests::deeds::created_again;
@@ -7,10 +7,10 @@ use checkout::Tree;
 use eden_base::{FileId, Kind, Name, NoMemory, Perm};
 use std::alloc::Global;
 
-/// The first file that is made in the tree of the small manifest.
+/// The id of the first file that is made in the tree of `SMALL`.
 const FIRST: u64 = 6;
 
-/// Returns whether a tree tells how it differs from its manifest, by `files` files.
+/// Returns whether the changes of `tree` have `files` made files.
 fn differs_by(tree: &Tree, files: usize) -> bool {
     match tree.changes() {
         Ok(changes) => {
@@ -22,12 +22,12 @@ fn differs_by(tree: &Tree, files: usize) -> bool {
     }
 }
 
-/// Returns whether a directory is made under a name.
+/// Makes a directory under `name` in `dir`, and returns whether it gets the id `file`.
 fn is_made(tree: &mut Tree, dir: FileId, name: &Name, file: FileId) -> bool {
     created_again(tree, dir, name, Kind::Dir, Perm::DIRECTORY) == Some(file)
 }
 
-/// Makes a directory under the digits of its id.
+/// Makes a directory under the digits of `file`, and returns whether it gets the id `file`.
 fn is_numbered(alloc: Global, tree: &mut Tree, dir: FileId, file: u64) -> bool {
     let mut text = String::new(alloc);
     let is_put = write!(text, "{file}").is_ok();
@@ -43,7 +43,7 @@ fn is_numbered(alloc: Global, tree: &mut Tree, dir: FileId, file: u64) -> bool {
     }
 }
 
-/// Makes `count` directories, each in the one before it or all in the root.
+/// Makes `count` directories, each in the one before if `deep`, else all in the root. Returns whether all are made.
 fn makes(alloc: Global, tree: &mut Tree, count: u64, deep: bool) -> bool {
     let mut dir = FileId::ROOT;
     for step in 0..count {
@@ -58,7 +58,7 @@ fn makes(alloc: Global, tree: &mut Tree, count: u64, deep: bool) -> bool {
     true
 }
 
-/// Calls `makes` on a new tree, and returns whether its changes have each directory.
+/// Calls `makes` with a new tree, and returns whether the changes of the tree have each directory.
 pub(crate) fn are_made(alloc: Global, count: u64, deep: bool) -> bool {
     match tree_of(alloc, SMALL) {
         Some(tree) => {
@@ -72,7 +72,7 @@ pub(crate) fn are_made(alloc: Global, count: u64, deep: bool) -> bool {
     }
 }
 
-/// Makes a directory under a name of `len` bytes, and returns whether the tree tells the names up to it.
+/// Makes a directory under a name of `len` bytes. Returns whether the tree then tells `len` made files.
 fn is_name_made(alloc: Global, tree: &mut Tree, len: usize) -> bool {
     match parsed(alloc, &LONGEST_NAME[..len.min(255)]) {
         Some(name) => {
@@ -85,7 +85,7 @@ fn is_name_made(alloc: Global, tree: &mut Tree, len: usize) -> bool {
     }
 }
 
-/// Makes directories under names of each length.
+/// Calls `is_name_made` with each length from 1 to 255.
 fn makes_names(alloc: Global, tree: &mut Tree) -> bool {
     for len in 1..256usize {
         if !is_name_made(alloc, tree, len) {
@@ -95,7 +95,7 @@ fn makes_names(alloc: Global, tree: &mut Tree) -> bool {
     true
 }
 
-/// Calls `makes_names` on a new tree.
+/// Calls `makes_names` with a new tree.
 pub(crate) fn are_names_made(alloc: Global) -> bool {
     match tree_of(alloc, SMALL) {
         Some(tree) => {

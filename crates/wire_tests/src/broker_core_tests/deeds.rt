@@ -1,4 +1,4 @@
-//! Calls of a broker and their results as data, so that a test is a table.
+//! Calls on a broker with their expected results, as data. A test is a table of such calls.
 use crate::again::parse;
 use broker_core::{Broker, DeliverFault, IssueFault, MountFault, PostFault, Seat, TakeFault};
 use eden_base::{Attr, ClaimFault, DaemonId, Errno, Kind, Number, Perm};
@@ -14,7 +14,7 @@ const FILE: Attr = Attr {
     nlink: 1,
 };
 
-/// A request of the kernel as data. A look-up is of a name of the root, and a batch is of one item.
+/// A request of the kernel as data. A lookup is of a name in the root, and a batch has one item.
 #[derive(Clone, Copy)]
 pub enum Wish {
     LookUp,
@@ -23,7 +23,7 @@ pub enum Wish {
     ForgetBatch(u64, u64),
 }
 
-/// An answer of a daemon as data. What it tells of a number is always the same.
+/// An answer of a daemon as data. All numbers get the same attributes.
 #[derive(Clone, Copy)]
 pub enum Said {
     Entry(u64),
@@ -32,53 +32,53 @@ pub enum Said {
     Error(Errno),
 }
 
-/// A call and its result. Where no daemon is named it is daemon 1 at generation 1.
+/// A call with its expected result. A call that names no daemon is made by daemon 1 at generation 1.
 #[derive(Clone, Copy)]
 pub enum Deed {
     Seat(Option<Seat>),
-    /// Tells why no daemon can mount.
+    /// The refusal that a mount would get, or none.
     MayMount(Option<MountFault>),
-    /// Mounts where nothing refuses it, at this generation.
+    /// A daemon mounts at this generation, by the call that has to be allowed before.
     Mount(u64, u64),
     TryMount(u64, Result<u64, MountFault>),
     Issue(Wish, Result<Option<u64>, IssueFault>),
-    /// Issues the wish this often, and is taken each time.
+    /// Issues the wish this often, and the broker takes it each time.
     IssueEach(Wish, u64),
-    /// Tells why no ask is taken.
+    /// The refusal that a take would get, or none.
     MayTake(Option<TakeFault>),
     /// Takes an ask with this unique.
     Take(u64),
     /// A daemon at a generation takes an ask with this unique.
     TakeAs(u64, u64, u64),
-    /// Takes this count of items, none of an ask, or nothing.
+    /// Takes this many items. `Some(0)` stands for an ask, and none for a refused take.
     TakeItems(Option<usize>),
     /// Takes a batch of these items.
     TakeBatch(&'static [Item]),
-    /// A daemon at a generation takes nothing, for this cause, and may not.
+    /// A daemon at a generation is refused a take for this cause. `take_refusal` says the same before.
     TakeNothing(u64, u64, TakeFault),
     /// Posts the answer to the ask of a unique.
     Post(u64, Said, Result<(), PostFault>),
-    /// A daemon at a generation posts it, and is refused.
+    /// A daemon at a generation posts the answer to the ask of a unique, and is refused.
     PostNothing(u64, u64, u64, Said, PostFault),
     /// Delivers the answer to the ask of a unique.
     Deliver(u64, Said),
     DeliverNothing(DeliverFault),
-    /// Sends a look-up its whole way this often, and this answer reaches the kernel each time.
+    /// Issues, takes, posts and delivers a lookup this often, each time with this answer.
     LookUpEach(u64, Said),
-    /// Sends a look-up its whole way for each number from 2 to this one.
+    /// Issues, takes, posts and delivers a lookup for each number from 2 to this one.
     LookUpNumbers(u64),
-    /// A daemon claims the seat at a generation.
+    /// A daemon claims the seat from a generation.
     Claim(u64, u64, Result<u64, ClaimFault>),
-    /// A daemon is gone.
+    /// A daemon is gone, as its connection ended.
     Gone(u64),
     Held(u64, u64),
-    /// Tells the least held number above a number.
+    /// The least held number above a number.
     HeldAfter(u64, Option<u64>),
     /// How often a number is held, is given out by posted replies, and is taken back by waiting items.
     Stand(u64, [u64; 3]),
 }
 
-/// Makes a batch of one item, and once more where memory was refused.
+/// Makes a batch of `item` alone, and tries once more if memory was refused.
 fn batch(alloc: Global, item: Item) -> Option<Batch> {
     let items = [item];
     match Batch::of(alloc, &items) {
@@ -94,7 +94,7 @@ fn item(node: u64, k: u64) -> Item {
     }
 }
 
-/// Makes the request of a wish.
+/// Makes the request of `wish`, or none if memory was refused.
 fn request(alloc: Global, wish: Wish) -> Option<Request> {
     match wish {
         Wish::LookUp => Some(Request::Lookup {
@@ -107,7 +107,7 @@ fn request(alloc: Global, wish: Wish) -> Option<Request> {
     }
 }
 
-/// Makes the reply to the ask of a unique.
+/// Makes the reply to the ask of `unique` with the answer `said`.
 fn reply(unique: u64, said: Said) -> Reply {
     let answer = match said {
         Said::Entry(number) => Answer::Entry {
@@ -124,7 +124,7 @@ fn reply(unique: u64, said: Said) -> Reply {
     Reply { unique, answer }
 }
 
-/// Issues a request, and once more where memory was refused.
+/// Issues `request`, and once more if memory was refused.
 fn issue(broker: &mut Broker, request: &Request) -> Result<Option<u64>, IssueFault> {
     match broker.issue(request) {
         Err(IssueFault::NoMemory) => broker.issue(request),
@@ -132,7 +132,7 @@ fn issue(broker: &mut Broker, request: &Request) -> Result<Option<u64>, IssueFau
     }
 }
 
-/// Issues a wish, and returns whether the result is the expected one.
+/// Issues the request of `wish`, and returns whether the result is `issued`.
 fn is_issued(
     alloc: Global,
     broker: &mut Broker,
@@ -149,7 +149,7 @@ fn is_issued(
     }
 }
 
-/// Issues a request `times` times, and returns whether it was taken each time.
+/// Issues `request` `times` times, and returns whether the broker takes it each time.
 fn issues(broker: &mut Broker, request: &Request, times: u64) -> bool {
     for _ in 0..times {
         if issue(broker, request).is_err() {
@@ -159,7 +159,7 @@ fn issues(broker: &mut Broker, request: &Request, times: u64) -> bool {
     true
 }
 
-/// Issues a wish `times` times, and returns whether it was taken each time.
+/// Issues the request of `wish` `times` times, and returns whether the broker takes it each time.
 fn is_issued_each(alloc: Global, broker: &mut Broker, wish: Wish, times: u64) -> bool {
     match request(alloc, wish) {
         Some(request) => {
@@ -171,7 +171,7 @@ fn is_issued_each(alloc: Global, broker: &mut Broker, wish: Wish, times: u64) ->
     }
 }
 
-/// Mounts where nothing refuses it, and returns the generation.
+/// Mounts for `daemon` and returns the generation. Returns none, and does nothing, if `mount_refusal` has a cause.
 fn mounted(broker: &mut Broker, daemon: DaemonId) -> Option<u64> {
     match broker.mount_refusal() {
         Some(_fault) => None,
@@ -179,7 +179,7 @@ fn mounted(broker: &mut Broker, daemon: DaemonId) -> Option<u64> {
     }
 }
 
-/// Delivers a reply, and tries once more where memory was refused.
+/// Delivers a reply, and tries once more if memory was refused.
 fn deliver(broker: &mut Broker) -> Result<Reply, DeliverFault> {
     match broker.deliver() {
         Err(DeliverFault::NoMemory) => broker.deliver(),
@@ -187,7 +187,7 @@ fn deliver(broker: &mut Broker) -> Result<Reply, DeliverFault> {
     }
 }
 
-/// Takes for a daemon at a generation, and returns the unique of what came, 0 of items and of an empty queue.
+/// Takes for `daemon` at `generation`. Returns the unique of the ask, or 0 if items or nothing came.
 fn unique_taken(broker: &mut Broker, daemon: DaemonId, generation: u64) -> u64 {
     match broker.take(daemon, generation) {
         Ok(ask) => {
@@ -199,7 +199,7 @@ fn unique_taken(broker: &mut Broker, daemon: DaemonId, generation: u64) -> u64 {
     }
 }
 
-/// Returns how many items a request has, 0 of an ask.
+/// Returns how many items `request` has, 0 for an ask.
 fn items_of(request: &Request) -> usize {
     match request {
         Request::Forget(_) => 1,
@@ -208,7 +208,7 @@ fn items_of(request: &Request) -> usize {
     }
 }
 
-/// Takes, and returns how many items came, 0 for an ask.
+/// Takes for daemon 1 at generation 1. Returns how many items came, 0 for an ask, or none if nothing came.
 fn items_taken(broker: &mut Broker) -> Option<usize> {
     match broker.take(DAEMON, 1) {
         Ok(ask) => {
@@ -220,7 +220,7 @@ fn items_taken(broker: &mut Broker) -> Option<usize> {
     }
 }
 
-/// Returns whether a request is a batch of these items.
+/// Returns whether `request` is a batch of `items`.
 fn is_batch(request: &Request, items: &[Item]) -> bool {
     match request {
         Request::BatchForget(batch) => batch.as_slice() == items,
@@ -228,7 +228,7 @@ fn is_batch(request: &Request, items: &[Item]) -> bool {
     }
 }
 
-/// Takes, and returns whether a batch of these items came.
+/// Takes for daemon 1 at generation 1, and returns whether a batch of `items` came.
 fn is_batch_taken(broker: &mut Broker, items: &[Item]) -> bool {
     match broker.take(DAEMON, 1) {
         Ok(ask) => {
@@ -240,7 +240,7 @@ fn is_batch_taken(broker: &mut Broker, items: &[Item]) -> bool {
     }
 }
 
-/// Returns whether a daemon takes nothing, for this cause, and may not.
+/// Returns whether `daemon` at `generation` is refused a take with `fault`, and `take_refusal` says the same before.
 fn is_refused(broker: &mut Broker, daemon: DaemonId, generation: u64, fault: TakeFault) -> bool {
     if broker.take_refusal(daemon, generation) != Some(fault) {
         return false;
@@ -251,7 +251,7 @@ fn is_refused(broker: &mut Broker, daemon: DaemonId, generation: u64, fault: Tak
     }
 }
 
-/// Sends an ask its whole way, and returns whether this answer reached the kernel.
+/// Issues, takes, posts and delivers `request`. Returns whether the answer `said` reaches the kernel.
 fn answers(broker: &mut Broker, request: &Request, said: Said) -> bool {
     let Ok(Some(unique)) = issue(broker, request) else {
         return false;
@@ -262,7 +262,7 @@ fn answers(broker: &mut Broker, request: &Request, said: Said) -> bool {
         && deliver(broker) == Ok(reply)
 }
 
-/// Sends an ask its whole way `times` times, and returns whether this answer reached the kernel each time.
+/// Calls `answers` `times` times, and returns whether the answer reaches the kernel each time.
 fn answers_each(broker: &mut Broker, request: &Request, times: u64, said: Said) -> bool {
     for _ in 0..times {
         if !answers(broker, request, said) {
@@ -272,7 +272,7 @@ fn answers_each(broker: &mut Broker, request: &Request, times: u64, said: Said) 
     true
 }
 
-/// Calls `answers_each` with a look-up.
+/// Calls `answers_each` with a lookup.
 fn is_found_each(alloc: Global, broker: &mut Broker, times: u64, said: Said) -> bool {
     match request(alloc, Wish::LookUp) {
         Some(request) => {
@@ -284,7 +284,7 @@ fn is_found_each(alloc: Global, broker: &mut Broker, times: u64, said: Said) -> 
     }
 }
 
-/// Sends a look-up its whole way for each number from 2 to `last`, and returns whether each reached the kernel.
+/// Calls `answers` with an entry of each number from 2 to `last`, and returns whether each reaches the kernel.
 fn answers_numbers(broker: &mut Broker, request: &Request, last: u64) -> bool {
     for number in 2..last {
         if !answers(broker, request, Said::Entry(number)) {
@@ -294,7 +294,7 @@ fn answers_numbers(broker: &mut Broker, request: &Request, last: u64) -> bool {
     answers(broker, request, Said::Entry(last))
 }
 
-/// Calls `answers_numbers` with a look-up.
+/// Calls `answers_numbers` with a lookup.
 fn are_numbers_found(alloc: Global, broker: &mut Broker, last: u64) -> bool {
     match request(alloc, Wish::LookUp) {
         Some(request) => {
@@ -306,15 +306,15 @@ fn are_numbers_found(alloc: Global, broker: &mut Broker, last: u64) -> bool {
     }
 }
 
-/// Returns whether a number is held, given out by posted replies, and taken back by waiting items as often as `counts`
-/// say.
+/// Returns whether `number` is held, given out by posted replies, and taken back by waiting items, as often as `counts`
+/// say in this order.
 fn stands(broker: &Broker, number: Number, counts: [u64; 3]) -> bool {
     broker.held(number) == counts[0]
         && broker.entries_posted(number) == counts[1]
         && broker.forgets_waiting(number) == counts[2]
 }
 
-/// Makes a call, and returns whether its result is the expected one.
+/// Makes the call of `deed`, and returns whether its result is the expected one.
 fn goes_so(alloc: Global, broker: &mut Broker, deed: Deed) -> bool {
     match deed {
         Deed::Seat(seat) => broker.seat() == seat,
@@ -354,7 +354,7 @@ fn goes_so(alloc: Global, broker: &mut Broker, deed: Deed) -> bool {
     }
 }
 
-/// Makes the calls of a table, and returns whether each result is the expected one.
+/// Makes the calls of `deeds`, and returns whether each result is the expected one.
 fn each_goes_so(alloc: Global, broker: &mut Broker, deeds: &[Deed]) -> bool {
     for deed in deeds {
         if !goes_so(alloc, broker, *deed) {
@@ -364,7 +364,7 @@ fn each_goes_so(alloc: Global, broker: &mut Broker, deeds: &[Deed]) -> bool {
     true
 }
 
-/// Makes a broker, and once more where memory was refused.
+/// Makes a broker, and tries once more if memory was refused.
 fn new_broker(alloc: Global) -> Option<Broker> {
     match Broker::new(alloc) {
         Ok(broker) => Some(broker),
@@ -372,7 +372,7 @@ fn new_broker(alloc: Global) -> Option<Broker> {
     }
 }
 
-/// Makes the calls of a table on a new broker, and returns whether each result is the expected one.
+/// Makes the calls of `deeds` on a new broker, and returns whether each result is the expected one.
 pub(crate) fn all_go_so(alloc: Global, deeds: &[Deed]) -> bool {
     match new_broker(alloc) {
         Some(broker) => {

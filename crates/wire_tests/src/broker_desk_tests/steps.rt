@@ -1,4 +1,4 @@
-//! Steps at a desk, with the outcome of each. A step that was refused memory is made once more.
+//! Steps at a desk, with their expected outcomes. The steps take their memory for granted.
 use broker_desk::{Desk, Peer, Response};
 use byte_codec::Bytes;
 use eden_base::{Attr, DaemonId, Errno, Kind, Name, NoMemory, Number, Perm};
@@ -13,20 +13,20 @@ pub enum Says {
     Attach(u64),
     Mount,
     Take(u64),
-    /// At a generation, an error for a unique.
+    /// A reply at a generation: an error, to the ask of a unique.
     Post(u64, u64),
-    /// At a generation, an entry for a unique, of a number.
+    /// A reply at a generation: an entry of a number, to the ask of a unique.
     PostEntry(u64, u64, u64),
-    /// At a generation, bytes that are no reply.
+    /// A reply at a generation: bytes that are no reply.
     PostNoReply(u64),
     Claim(u64),
-    /// What the broker alone says.
+    /// A frame that only the broker sends.
     AnAnswer,
-    /// What daemons say to each other.
+    /// A frame that daemons send each other.
     AMessage,
 }
 
-/// What it is told.
+/// What a daemon is told.
 #[derive(Clone, Copy, PartialEq, Eq)]
 pub enum Told {
     Attached(u64),
@@ -35,29 +35,29 @@ pub enum Told {
     Ended,
     Stale(u64),
     Empty,
-    /// A request of this unique.
+    /// An ask of this unique, or a forget, which has unique 0.
     Ask(u64),
     Posted,
     NotAsked,
     Claimed(u64),
     Unanswered(u64),
     Close,
-    /// Nothing that these tests expect.
+    /// A frame that no step expects, or none, as memory was refused.
     Other,
 }
 
-/// A step, with its outcome.
+/// A step, with its expected outcome.
 #[derive(Clone, Copy)]
 pub enum Step {
-    /// On a connection, counted from 0, the daemon says this and is told that.
+    /// The daemon on the connection of this index says a frame, and is told the answer.
     On(usize, Says, Told),
-    /// A connection ends.
+    /// The connection of this index ends.
     Leaves(usize),
     /// The kernel looks `a` up in the root, and the ask has this unique.
     Issues(u64),
-    /// The kernel forgets a number once.
+    /// The kernel takes back one lookup of this number.
     Forgets(u64),
-    /// The reply of this unique reaches the kernel.
+    /// The reply to this unique reaches the kernel.
     Delivers(u64),
     /// The desk is closed.
     Closes,
@@ -65,14 +65,14 @@ pub enum Step {
     Runs(usize),
 }
 
-/// Writes a reply as a Post has it.
+/// Writes the reply of `unique` and `answer` as the bytes of a Post.
 fn reply_bytes(alloc: Global, unique: u64, answer: Answer) -> Result<Bytes, NoMemory> {
     let mut bytes = [0; 160];
     let len = write_reply(&Reply { unique, answer }, &mut bytes);
     Ok(Bytes::of(Vec::from_slice(alloc, &bytes[..len])?))
 }
 
-/// Makes the answer that gives a number out.
+/// Makes the answer that gives this `number` out.
 fn entry(number: u64) -> Option<Answer> {
     Some(Answer::Entry {
         number: Number(number),
@@ -85,7 +85,7 @@ fn entry(number: u64) -> Option<Answer> {
     })
 }
 
-/// Makes the frame that a daemon sends.
+/// Makes the frame of `says`.
 fn frame_of(alloc: Global, says: Says) -> Result<Frame, NoMemory> {
     Ok(match says {
         Says::Attach(daemon) => Frame::Attach(DaemonId(daemon)),
@@ -109,7 +109,7 @@ fn frame_of(alloc: Global, says: Says) -> Result<Frame, NoMemory> {
     })
 }
 
-/// Returns the unique of a request's bytes.
+/// Returns the unique of the request in these bytes, or none if they are no request.
 fn unique_of(alloc: Global, request: &Bytes) -> Option<u64> {
     let ask = read_request(alloc, request.as_slice()).ok()?;
     let unique = ask.unique;
@@ -117,7 +117,7 @@ fn unique_of(alloc: Global, request: &Bytes) -> Option<u64> {
     Some(unique)
 }
 
-/// Tells what a response says.
+/// Returns what `response` tells the daemon.
 fn told_of(alloc: Global, response: &Response) -> Told {
     match response {
         Response::Closes => Told::Close,
@@ -139,7 +139,7 @@ fn told_of(alloc: Global, response: &Response) -> Told {
     }
 }
 
-/// Answers a frame, and tells what was said.
+/// Answers the frame of `says` on the connection of `peer`, and returns what the daemon is told.
 fn answered(alloc: Global, desk: &mut Desk, peer: &mut Peer, says: Says) -> Told {
     let Ok(frame) = frame_of(alloc, says) else {
         return Told::Other;
@@ -151,7 +151,7 @@ fn answered(alloc: Global, desk: &mut Desk, peer: &mut Peer, says: Says) -> Told
     told
 }
 
-/// Looks `a` up in the root.
+/// Issues a LOOKUP of `a` in the root, and returns its unique.
 fn look_up(alloc: Global, desk: &mut Desk) -> Option<u64> {
     let request = Request::Lookup {
         dir: Number::ROOT,
@@ -162,7 +162,7 @@ fn look_up(alloc: Global, desk: &mut Desk) -> Option<u64> {
     issued.ok()?
 }
 
-/// Makes one step, and returns whether it goes as it says.
+/// Makes `step`, and returns whether its outcome is the expected one.
 fn goes_so(alloc: Global, desk: &mut Desk, peers: &mut [Peer; 4], step: Step) -> bool {
     match step {
         Step::On(at, says, told) => match peers.get_mut(at) {
@@ -193,7 +193,7 @@ fn goes_so(alloc: Global, desk: &mut Desk, peers: &mut [Peer; 4], step: Step) ->
     }
 }
 
-/// Makes all steps at a new desk with four connections, and returns whether each goes as it says.
+/// Makes `steps` at a new desk with four connections, and returns whether each outcome is the expected one.
 pub fn all_go_so(alloc: Global, steps: &[Step]) -> bool {
     let Ok(mut desk) = Desk::new(alloc) else {
         return false;
@@ -207,7 +207,7 @@ pub fn all_go_so(alloc: Global, steps: &[Step]) -> bool {
     so
 }
 
-/// Returns whether 1,024 daemons get a number, one after another, and none after them.
+/// Attaches 1,025 daemons one after another. Returns whether 1,024 get a number, and the last one is told Ended.
 pub fn numbers_up_to_1024(alloc: Global) -> bool {
     let Ok(mut desk) = Desk::new(alloc) else {
         return false;

@@ -4,7 +4,7 @@ use frames::FrameFault;
 /// The text of a Claim from generation 1.
 pub static CLAIM: [u8; 13] = [0, 0, 0, 8, 9, 0, 0, 0, 0, 0, 0, 0, 1];
 
-/// A frame of each kind, the longest offer, and a part of no bytes.
+/// The text of a frame of each kind, and those of the longest offer and of a part without bytes.
 pub static TEXTS: [&[u8]; 28] = [
     &[0, 0, 0, 8, 1, 0, 0, 0, 0, 0, 0, 1, 2],
     &[0, 0, 0, 3, 2, 7, 8, 9],
@@ -42,7 +42,7 @@ pub static TEXTS: [&[u8]; 28] = [
     ],
 ];
 
-/// Streams with their faults. Each ends where the fault is first seen, or within a frame.
+/// Streams with their faults. A stream ends with the byte that shows its fault; a torn one ends within a frame.
 pub static FAULTS: [(&[u8], FrameFault); 20] = [
     (&[0, 1, 0, 1], FrameFault::TooLong),
     (&[255, 255, 255, 255, 9], FrameFault::TooLong),

@@ -1,4 +1,4 @@
-//! The calls that take memory, each made once more where it was refused, and their results.
+//! Calls that take memory, each made once more if memory was refused, and comparisons of their results.
 ghost use Rattle.std.specs.Prelude.{◌≡◌, IfOk};
 ghost use Rattle.fuse_wire.specs.Request.{IsSendable};
 
@@ -10,7 +10,7 @@ use fuse_wire::{
 };
 use std::alloc::Global;
 
-/// Calls `read_request`, and once more where memory was refused.
+/// Calls `read_request`, and once more if memory was refused.
 pub(crate) fn read(alloc: Global, bytes: &[u8]) -> Result<Ask, WireFault>
     ensures sendable { IfOk result (λ ask. IsSendable ask.what) }
 {
@@ -21,7 +21,7 @@ pub(crate) fn read(alloc: Global, bytes: &[u8]) -> Result<Ask, WireFault>
     }
 }
 
-/// Calls `write_request`, and once more where memory was refused.
+/// Calls `write_request`, and once more if memory was refused.
 fn write(alloc: Global, ask: &Ask) -> Result<Vec<u8>, NoMemory>
     requires { IsSendable ask.now.what }
 {
@@ -31,7 +31,7 @@ fn write(alloc: Global, ask: &Ask) -> Result<Vec<u8>, NoMemory>
     }
 }
 
-/// Calls `Request::copy`, and once more where memory was refused.
+/// Calls `Request::copy`, and once more if memory was refused.
 fn copy(alloc: Global, request: &Request) -> Result<Request, NoMemory>
     ensures copy { IfOk result (λ copy. copy ≡ request.now) }
 {
@@ -41,7 +41,7 @@ fn copy(alloc: Global, request: &Request) -> Result<Request, NoMemory>
     }
 }
 
-/// Calls `BatchRoom::new`, and once more where memory was refused.
+/// Calls `BatchRoom::new`, and once more if memory was refused.
 fn batch_room(alloc: Global) -> Result<BatchRoom, NoMemory> {
     match BatchRoom::new(alloc) {
         Ok(room) => Ok(room),
@@ -49,7 +49,7 @@ fn batch_room(alloc: Global) -> Result<BatchRoom, NoMemory> {
     }
 }
 
-/// Calls `Batch::of`, and once more where memory was refused.
+/// Calls `Batch::of`, and once more if memory was refused.
 fn batch_of(alloc: Global, items: &Items) -> Result<Batch, NoMemory>
     ensures items { IfOk result (λ batch. batch ≡ items.now) }
 {
@@ -59,7 +59,7 @@ fn batch_of(alloc: Global, items: &Items) -> Result<Batch, NoMemory>
     }
 }
 
-/// Calls `Batch::copy`, and once more where memory was refused.
+/// Calls `Batch::copy`, and once more if memory was refused.
 fn copy_of(alloc: Global, batch: &Batch) -> Result<Batch, NoMemory> {
     match batch.copy(alloc) {
         Ok(copy) => Ok(copy),
@@ -67,12 +67,12 @@ fn copy_of(alloc: Global, batch: &Batch) -> Result<Batch, NoMemory> {
     }
 }
 
-/// Takes room for the names and the batch of a request.
+/// Makes rooms for two names and a batch, as many as one request needs.
 fn rooms(alloc: Global) -> Result<(NameRoom, NameRoom, BatchRoom), NoMemory> {
     Ok((room(alloc)?, room(alloc)?, batch_room(alloc)?))
 }
 
-/// Returns whether an ask is written as these bytes.
+/// Returns whether `ask` is written as `written`.
 pub(crate) fn is_written(alloc: Global, ask: &Ask, written: &[u8]) -> bool
     requires { IsSendable ask.now.what }
 {
@@ -86,7 +86,7 @@ pub(crate) fn is_written(alloc: Global, ask: &Ask, written: &[u8]) -> bool
     }
 }
 
-/// Returns whether the request of the bytes is written as these.
+/// Returns whether the request that is read from `bytes` is written as `written`.
 pub(crate) fn is_written_again(alloc: Global, bytes: &[u8], written: &[u8]) -> bool {
     match read(alloc, bytes) {
         Ok(ask) => {
@@ -98,7 +98,7 @@ pub(crate) fn is_written_again(alloc: Global, bytes: &[u8], written: &[u8]) -> b
     }
 }
 
-/// Returns whether the copy of a request equals it.
+/// Returns whether a copy of `request` equals `request`.
 fn is_copied(alloc: Global, request: &Request) -> bool {
     match copy(alloc, request) {
         Ok(copy) => {
@@ -110,7 +110,7 @@ fn is_copied(alloc: Global, request: &Request) -> bool {
     }
 }
 
-/// Returns whether the copy of a request into rooms equals it.
+/// Returns whether a copy of `request` into rooms equals `request`.
 fn is_copied_to_rooms(alloc: Global, request: &Request) -> bool {
     match rooms(alloc) {
         Ok((first, second, batch)) => {
@@ -123,7 +123,7 @@ fn is_copied_to_rooms(alloc: Global, request: &Request) -> bool {
     }
 }
 
-/// Reads a request to rooms. Returns none where memory was refused.
+/// Reads the request in `bytes` into rooms. Returns `NoMemory` if memory for the rooms was refused.
 fn read_to_rooms(alloc: Global, bytes: &[u8]) -> Result<Ask, WireFault> {
     match rooms(alloc) {
         Ok((first, second, batch)) => read_request_to(first, second, batch, bytes),
@@ -131,7 +131,7 @@ fn read_to_rooms(alloc: Global, bytes: &[u8]) -> Result<Ask, WireFault> {
     }
 }
 
-/// Returns whether the request that is read into rooms equals an ask.
+/// Returns whether the request in `bytes`, read into rooms, equals `ask`.
 fn is_read_to_rooms(alloc: Global, bytes: &[u8], ask: &Ask) -> bool {
     match read_to_rooms(alloc, bytes) {
         Ok(read) => {
@@ -143,8 +143,8 @@ fn is_read_to_rooms(alloc: Global, bytes: &[u8], ask: &Ask) -> bool {
     }
 }
 
-/// Returns whether the request of the bytes is written as these bytes again, and equals its copies and what is read
-/// into rooms.
+/// Returns whether the request in `bytes` is written as `bytes` again, and equals its copies and the request that is
+/// read into rooms.
 pub(crate) fn is_kept(alloc: Global, bytes: &[u8]) -> bool {
     match read(alloc, bytes) {
         Ok(ask) => {
@@ -159,7 +159,7 @@ pub(crate) fn is_kept(alloc: Global, bytes: &[u8]) -> bool {
     }
 }
 
-/// Returns whether the bytes are no request, for this cause.
+/// Returns whether `bytes` are refused as a request, with this `fault`.
 pub(crate) fn is_refused(alloc: Global, bytes: &[u8], fault: WireFault) -> bool {
     match read_request(alloc, bytes) {
         Ok(ask) => {
@@ -170,7 +170,7 @@ pub(crate) fn is_refused(alloc: Global, bytes: &[u8], fault: WireFault) -> bool 
     }
 }
 
-/// Returns whether the copies of a batch equal it.
+/// Returns whether a copy of `batch` equals `batch`.
 fn is_batch_copied(alloc: Global, batch: &Batch) -> bool {
     match copy_of(alloc, batch) {
         Ok(copy) => {
@@ -182,7 +182,7 @@ fn is_batch_copied(alloc: Global, batch: &Batch) -> bool {
     }
 }
 
-/// Returns whether the copy of a batch into a room equals it.
+/// Returns whether a copy of `batch` into a room equals `batch`.
 fn is_batch_copied_to_room(alloc: Global, batch: &Batch) -> bool {
     match batch_room(alloc) {
         Ok(room) => batch.copy_to(room) == *batch,
@@ -190,7 +190,7 @@ fn is_batch_copied_to_room(alloc: Global, batch: &Batch) -> bool {
     }
 }
 
-/// Returns whether a batch of items has just these, and equals each of its copies.
+/// Returns whether a batch of `items` has just these items, and equals its two copies.
 fn is_batch_kept(alloc: Global, items: &Items) -> bool {
     match batch_of(alloc, items) {
         Ok(batch) => {
@@ -204,7 +204,7 @@ fn is_batch_kept(alloc: Global, items: &Items) -> bool {
     }
 }
 
-/// Reads the items of a batch, and calls `is_batch_kept` with them.
+/// Reads the items of the request in `bytes`, and calls `is_batch_kept` with them.
 pub(crate) fn are_items_kept(alloc: Global, bytes: &[u8]) -> bool {
     match read_items(bytes) {
         Ok(items) => is_batch_kept(alloc, &items),
@@ -212,14 +212,14 @@ pub(crate) fn are_items_kept(alloc: Global, bytes: &[u8]) -> bool {
     }
 }
 
-/// Returns whether the reply is written as these bytes.
+/// Returns whether `reply` is written as `bytes`.
 pub(crate) fn is_spelled(reply: &Reply, bytes: &[u8]) -> bool {
     let mut out = [7u8; 160];
     let len = write_reply(reply, &mut out);
     &out[..len] == bytes
 }
 
-/// Returns whether the reply is written as these bytes, and these are read as one that is.
+/// Returns whether `reply`, and the reply that is read from `bytes`, are both written as `bytes`.
 pub(crate) fn is_reply_kept(reply: &Reply, bytes: &[u8]) -> bool {
     match read_reply(bytes) {
         Ok(again) => is_spelled(reply, bytes) && is_spelled(&again, bytes),

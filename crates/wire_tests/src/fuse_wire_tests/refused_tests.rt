@@ -5,7 +5,7 @@ use eden_base::NameFault;
 use fuse_wire::WireFault;
 use std::alloc::Global;
 
-/// Returns the lookup with one byte set.
+/// Returns `LOOKUP` with `byte` at the index `at`.
 fn lookup_with(at: usize, byte: u8) -> [u8; 44] {
     let mut bytes = LOOKUP;
     if let Some(place) = bytes.get_mut(at) {
@@ -14,14 +14,14 @@ fn lookup_with(at: usize, byte: u8) -> [u8; 44] {
     bytes
 }
 
-/// Returns an OPEN that says it is one byte longer.
+/// Returns `OPEN` with a header that says it is one byte longer.
 fn longer_open() -> [u8; 40] {
     let mut bytes = OPEN;
     bytes[0] = 41;
     bytes
 }
 
-/// Returns a lookup of no byte but the NUL.
+/// Returns a LOOKUP whose body is a NUL alone, so its name is empty.
 fn lone() -> [u8; 41] {
     let mut bytes = [0u8; 41];
     bytes[0] = 41;
@@ -29,7 +29,8 @@ fn lone() -> [u8; 41] {
     bytes
 }
 
-/// Returns whether another length, a cut header, a name without its end, with a NUL and with nothing else are refused.
+/// Returns whether requests are refused with a wrong length, with a cut header, and with a name that is empty, has a
+/// NUL inside, or has none at its end.
 fn refuses_broken(alloc: Global) -> bool {
     is_refused(alloc, &longer_open(), WireFault::BadLength)
         && is_refused(alloc, &OPEN[..39], WireFault::Short)

@@ -1,4 +1,5 @@
-//! Each answer and each error both ways, replies that are refused, and the replies to requests that can't be read.
+//! Each answer and each error, written and read; replies that are refused; and the replies to requests that can't be
+//! read.
 use super::TWO;
 use super::calls::is_reply_kept;
 use super::vectors::*;
@@ -28,7 +29,7 @@ const DIR: Attr = Attr {
 
 const FOUR: Number = Number(4);
 
-/// The answer to an ask of a unique, and its bytes.
+/// A reply and its bytes: the unique, the answer, and both as they are written.
 pub type Spelled = (u64, Answer, &'static [u8]);
 
 const ANSWERS: [Spelled; 4] = [
@@ -59,7 +60,7 @@ const ANSWERS: [Spelled; 4] = [
     (6, Answer::Done, &DONE),
 ];
 
-/// Returns whether each of these replies is written as its bytes, and read from them.
+/// Calls `is_reply_kept` with each reply and its bytes, and returns whether all are kept.
 pub(crate) fn are_replies_kept(replies: &[Spelled]) -> bool {
     for (unique, answer, bytes) in replies {
         let reply = Reply {
@@ -78,7 +79,7 @@ fn writes_and_reads_each_answer(rt: HostRuntime) {
     assert!(rt; are_replies_kept(&ANSWERS));
 }
 
-/// Each error, and the lowest byte of it in a reply.
+/// Each error, and the lowest byte of its code in a reply.
 static ERRORS: [(Errno, u8); 13] = [
     (Errno::ENOENT, 0xfe),
     (Errno::EIO, 0xfb),
@@ -95,12 +96,13 @@ static ERRORS: [(Errno, u8); 13] = [
     (Errno::ESTALE, 0x8c),
 ];
 
-/// Returns the bytes of an error for unique 7.
+/// Returns the bytes of a reply to unique 7 with an error. The lowest byte of the error's code is `low`.
 pub(crate) fn error_bytes(low: u8) -> [u8; 16] {
     [16, 0, 0, 0, low, 0xff, 0xff, 0xff, 7, 0, 0, 0, 0, 0, 0, 0]
 }
 
-/// Returns whether each of these errors is written and read so.
+/// Returns whether a reply with each error is written as `error_bytes` of the byte beside the error, and read from
+/// these bytes.
 fn are_errors_kept(errors: &[(Errno, u8)]) -> bool {
     for (errno, low) in errors {
         let reply = Reply {
@@ -119,12 +121,12 @@ fn writes_and_reads_each_error(rt: HostRuntime) {
     assert!(rt; are_errors_kept(&ERRORS));
 }
 
-/// Returns whether the bytes are no reply, for this cause.
+/// Returns whether `bytes` are refused as a reply, with this `fault`.
 fn is_no_reply(bytes: &[u8], fault: WireFault) -> bool {
     read_reply(bytes) == Err(fault)
 }
 
-/// Returns the entry with one byte set.
+/// Returns `ENTRY` with `byte` at the index `at`.
 fn entry_with(at: usize, byte: u8) -> [u8; 144] {
     let mut bytes = ENTRY;
     if let Some(place) = bytes.get_mut(at) {
@@ -133,7 +135,8 @@ fn entry_with(at: usize, byte: u8) -> [u8; 144] {
     bytes
 }
 
-/// Returns whether other replies are refused: another error, a cut header, a cut body, a byte that is kept, a link.
+/// Returns whether these replies are refused: an unknown error, a cut header, a cut body, a generation that is not 0,
+/// and a symbolic link.
 fn refuses_each() -> bool {
     is_no_reply(&error_bytes(0xff), WireFault::BadBody)
         && is_no_reply(&DONE[..15], WireFault::Short)
@@ -157,7 +160,7 @@ const EINVAL: Reply = Reply {
     answer: Answer::Error(Errno::EINVAL),
 };
 
-/// Returns whether forgets and a cut header are not answered, and asks are.
+/// Returns whether a fault of a forget or of a cut header gets no reply, and a fault of an ask gets one.
 fn answers_asks_alone() -> bool {
     fault_reply(&FORGET, &WireFault::BadBody).is_none()
         && fault_reply(&BATCH_FORGET, &WireFault::BadCount).is_none()

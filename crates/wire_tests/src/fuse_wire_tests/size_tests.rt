@@ -1,4 +1,4 @@
-//! Names of all lengths, batches of many, and the first length of each that is refused.
+//! Names and batches of many lengths, and for both the first length that is refused.
 ghost use Rattle.std.specs.Prelude.{◌<◌, ◌≤◌, ◌^◌};
 
 use super::calls::{is_kept, is_refused, is_spelled};
@@ -8,7 +8,7 @@ use eden_base::{NameFault, NoMemory};
 use fuse_wire::{WireFault, fault_reply};
 use std::alloc::{AllocError, Global};
 
-/// Puts a request of `len` bytes, whose body begins with `front`, goes on with `byte` repeated, and ends with NUL.
+/// Appends a request of `len` bytes to `bytes`. Its body is `front`, then `byte` again and again, and a NUL at the end.
 fn fill(bytes: &mut Vec<u8>, opcode: u8, front: &[u8], len: u32, byte: u8) -> Result<(), AllocError>
     requires { 1 ≤ len }
 {
@@ -21,7 +21,7 @@ fn fill(bytes: &mut Vec<u8>, opcode: u8, front: &[u8], len: u32, byte: u8) -> Re
     Ok(())
 }
 
-/// Makes a request with a body of `body_len` bytes.
+/// Makes a request with a body of `body_len` bytes, as `fill` does.
 fn filled(
     alloc: Global,
     opcode: u8,
@@ -41,7 +41,7 @@ fn filled(
     Ok(bytes)
 }
 
-/// Makes a lookup of a name of `name_len` bytes, and once more where memory was refused.
+/// Makes a LOOKUP of a name of `name_len` bytes, and once more if memory was refused.
 fn lookup_of(alloc: Global, name_len: u16) -> Result<Vec<u8>, NoMemory> {
     let body_len = u32::from(name_len) + 1;
     match filled(alloc, 1, &[], body_len, b'n') {
@@ -50,7 +50,7 @@ fn lookup_of(alloc: Global, name_len: u16) -> Result<Vec<u8>, NoMemory> {
     }
 }
 
-/// Makes a batch of `count` items, and once more where memory was refused.
+/// Makes a batch of `count` items, and once more if memory was refused.
 fn batch_text(alloc: Global, count: u16) -> Result<Vec<u8>, NoMemory> {
     let body_len = 8 + 16 * u32::from(count);
     let front = count.to_le_bytes();
@@ -60,7 +60,7 @@ fn batch_text(alloc: Global, count: u16) -> Result<Vec<u8>, NoMemory> {
     }
 }
 
-/// Returns whether a lookup of a name of `len` bytes is kept.
+/// Returns whether a LOOKUP of a name of `len` bytes is kept, by `is_kept`.
 fn is_name_kept(alloc: Global, len: u16) -> bool {
     match lookup_of(alloc, len) {
         Ok(text) => {
@@ -72,7 +72,7 @@ fn is_name_kept(alloc: Global, len: u16) -> bool {
     }
 }
 
-/// Calls `is_name_kept` with each length up to 255.
+/// Calls `is_name_kept` with each length from 1 to 255.
 fn is_each_name_kept(alloc: Global) -> bool {
     for len in 1..256u16 {
         if !is_name_kept(alloc, len) {
@@ -89,7 +89,7 @@ fn keeps_names_of_all_lengths(rt: HostRuntime) {
 
 static COUNTS: [u16; 12] = [0, 1, 2, 3, 8, 28, 29, 30, 64, 100, 255, 256];
 
-/// Returns whether a batch of `count` items is kept.
+/// Returns whether a batch of `count` items is kept, by `is_kept`.
 fn is_count_kept(alloc: Global, count: u16) -> bool {
     match batch_text(alloc, count) {
         Ok(text) => {
@@ -101,7 +101,7 @@ fn is_count_kept(alloc: Global, count: u16) -> bool {
     }
 }
 
-/// Calls `is_count_kept` with each count.
+/// Calls `is_count_kept` with each of `counts`.
 fn is_each_count_kept(alloc: Global, counts: &[u16]) -> bool {
     for count in counts {
         if !is_count_kept(alloc, *count) {
@@ -118,7 +118,7 @@ fn keeps_batches_of_many_lengths(rt: HostRuntime) {
 
 const TOO_LONG: WireFault = WireFault::BadName(NameFault::TooLong);
 
-/// Returns whether a fault of a request is answered by these bytes.
+/// Returns whether the reply to `request` with this `fault` is written as `bytes`.
 fn is_answered(request: &[u8], fault: &WireFault, bytes: &[u8]) -> bool {
     match fault_reply(request, fault) {
         Some(reply) => is_spelled(&reply, bytes),
@@ -126,7 +126,7 @@ fn is_answered(request: &[u8], fault: &WireFault, bytes: &[u8]) -> bool {
     }
 }
 
-/// Returns whether a name of 256 bytes is refused, and answered ENAMETOOLONG.
+/// Returns whether a LOOKUP of a name of 256 bytes is refused, and answered ENAMETOOLONG.
 fn refuses_a_longer_name(alloc: Global) -> bool {
     match lookup_of(alloc, 256) {
         Ok(longer) => {
@@ -144,7 +144,7 @@ fn reads_no_name_of_256_bytes(rt: HostRuntime) {
     assert!(rt; refuses_a_longer_name(rt.alloc()));
 }
 
-/// Returns whether 256 items are read, of a text of 4,144 bytes.
+/// Returns whether a batch of 256 items has 4,144 bytes, and all its items are read.
 fn reads_all_items(alloc: Global) -> bool {
     match batch_text(alloc, 256) {
         Ok(full) => {
@@ -156,7 +156,7 @@ fn reads_all_items(alloc: Global) -> bool {
     }
 }
 
-/// Returns whether one more is refused.
+/// Returns whether a batch of 257 items is refused.
 fn refuses_an_item_more(alloc: Global) -> bool {
     match batch_text(alloc, 257) {
         Ok(over) => {

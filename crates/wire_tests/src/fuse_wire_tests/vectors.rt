@@ -6,14 +6,14 @@ pub const LOOKUP: [u8; 44] = [
     0, 0, 0, 0, 0, 0, 0, 0, 0, 115, 114, 99, 0,
 ];
 
-/// LOOKUP in directory 1, with unique 3, of a name of 17 bytes: such a name takes memory.
+/// LOOKUP of a name of 17 bytes in directory 1, with unique 3. A name of that length takes memory.
 pub const LONG_LOOKUP: [u8; 58] = [
     58, 0, 0, 0, 1, 0, 0, 0, 3, 0, 0, 0, 0, 0, 0, 0, 1, 0, 0, 0, 0, 0, 0, 0, 0, 0, 0, 0, 0, 0, 0,
     0, 0, 0, 0, 0, 0, 0, 0, 0, 110, 110, 110, 110, 110, 110, 110, 110, 110, 110, 110, 110, 110,
     110, 110, 110, 110, 0,
 ];
 
-/// FORGET that takes number 2 back twice.
+/// FORGET that takes back two lookups of number 2.
 pub const FORGET: [u8; 48] = [
     48, 0, 0, 0, 2, 0, 0, 0, 0, 0, 0, 0, 0, 0, 0, 0, 2, 0, 0, 0, 0, 0, 0, 0, 0, 0, 0, 0, 0, 0, 0,
     0, 0, 0, 0, 0, 0, 0, 0, 0, 2, 0, 0, 0, 0, 0, 0, 0,
@@ -25,7 +25,7 @@ pub const GETATTR: [u8; 56] = [
     0, 0, 0, 0, 0, 0, 0, 0, 0, 0, 0, 0, 0, 0, 0, 0, 0, 0, 0, 0, 0, 0, 0, 0, 0,
 ];
 
-/// MKDIR of `d` in directory 1 with 0o700, with unique 5.
+/// MKDIR of `d` in directory 1 with permissions 0o700, with unique 5.
 pub const MKDIR: [u8; 50] = [
     50, 0, 0, 0, 9, 0, 0, 0, 5, 0, 0, 0, 0, 0, 0, 0, 1, 0, 0, 0, 0, 0, 0, 0, 0, 0, 0, 0, 0, 0, 0,
     0, 0, 0, 0, 0, 0, 0, 0, 0, 192, 1, 0, 0, 0, 0, 0, 0, 100, 0,
@@ -43,31 +43,31 @@ pub const RMDIR: [u8; 42] = [
     0, 0, 0, 0, 0, 0, 0, 0, 0, 100, 0,
 ];
 
-/// CREATE of `a` in directory 1 with 0o644, with unique 8.
+/// CREATE of `a` in directory 1 with permissions 0o644, with unique 8.
 pub const CREATE: [u8; 58] = [
     58, 0, 0, 0, 35, 0, 0, 0, 8, 0, 0, 0, 0, 0, 0, 0, 1, 0, 0, 0, 0, 0, 0, 0, 0, 0, 0, 0, 0, 0, 0,
     0, 0, 0, 0, 0, 0, 0, 0, 0, 0, 0, 0, 0, 164, 129, 0, 0, 0, 0, 0, 0, 0, 0, 0, 0, 97, 0,
 ];
 
-/// That CREATE as a kernel sends it: with flags, a umask and the caller's ids.
+/// `CREATE` as a kernel sends it: with flags, a umask and the ids of the caller.
 pub const CREATE_OF_KERNEL: [u8; 58] = [
     58, 0, 0, 0, 35, 0, 0, 0, 8, 0, 0, 0, 0, 0, 0, 0, 1, 0, 0, 0, 0, 0, 0, 0, 232, 3, 0, 0, 232, 3,
     0, 0, 146, 16, 0, 0, 0, 0, 0, 0, 65, 130, 0, 0, 164, 129, 0, 0, 18, 0, 0, 0, 0, 0, 0, 0, 97, 0,
 ];
 
-/// That MKDIR as a kernel sends it: with a umask and the caller's ids.
+/// `MKDIR` as a kernel sends it: with a umask and the ids of the caller.
 pub const MKDIR_OF_KERNEL: [u8; 50] = [
     50, 0, 0, 0, 9, 0, 0, 0, 5, 0, 0, 0, 0, 0, 0, 0, 1, 0, 0, 0, 0, 0, 0, 0, 232, 3, 0, 0, 232, 3,
     0, 0, 146, 16, 0, 0, 0, 0, 0, 0, 192, 1, 0, 0, 18, 0, 0, 0, 100, 0,
 ];
 
-/// That GETATTR as a kernel sends it: with a file handle.
+/// `GETATTR` as a kernel sends it: with a file handle.
 pub const GETATTR_OF_KERNEL: [u8; 56] = [
     56, 0, 0, 0, 3, 0, 0, 0, 4, 0, 0, 0, 0, 0, 0, 0, 2, 0, 0, 0, 0, 0, 0, 0, 0, 0, 0, 0, 0, 0, 0,
     0, 0, 0, 0, 0, 0, 0, 0, 0, 1, 0, 0, 0, 0, 0, 0, 0, 9, 0, 0, 0, 0, 0, 0, 0,
 ];
 
-/// BATCH_FORGET that takes number 2 back once and number 3 twice.
+/// BATCH_FORGET that takes back one lookup of number 2 and two of number 3.
 pub const BATCH_FORGET: [u8; 80] = [
     80, 0, 0, 0, 42, 0, 0, 0, 0, 0, 0, 0, 0, 0, 0, 0, 0, 0, 0, 0, 0, 0, 0, 0, 0, 0, 0, 0, 0, 0, 0,
     0, 0, 0, 0, 0, 0, 0, 0, 0, 2, 0, 0, 0, 0, 0, 0, 0, 2, 0, 0, 0, 0, 0, 0, 0, 1, 0, 0, 0, 0, 0, 0,
@@ -80,7 +80,7 @@ pub const OPEN: [u8; 40] = [
     0, 0, 0, 0, 0, 0, 0, 0, 0,
 ];
 
-/// The reply to unique 3: the entry of number 2, a directory of 0o755.
+/// The reply to unique 3: the entry of number 2, a directory with permissions 0o755.
 pub const ENTRY: [u8; 144] = [
     144, 0, 0, 0, 0, 0, 0, 0, 3, 0, 0, 0, 0, 0, 0, 0, 2, 0, 0, 0, 0, 0, 0, 0, 0, 0, 0, 0, 0, 0, 0,
     0, 0, 0, 0, 0, 0, 0, 0, 0, 0, 0, 0, 0, 0, 0, 0, 0, 0, 0, 0, 0, 0, 0, 0, 0, 2, 0, 0, 0, 0, 0, 0,
@@ -89,7 +89,7 @@ pub const ENTRY: [u8; 144] = [
     0, 0, 0, 0, 0, 0, 0, 0, 0, 0, 0, 16, 0, 0, 0, 0, 0, 0,
 ];
 
-/// The reply to unique 8: number 4, a new file of 0o644 that is opened.
+/// The reply to unique 8: number 4, a new file with permissions 0o644, which is opened.
 pub const OPENED: [u8; 160] = [
     160, 0, 0, 0, 0, 0, 0, 0, 8, 0, 0, 0, 0, 0, 0, 0, 4, 0, 0, 0, 0, 0, 0, 0, 0, 0, 0, 0, 0, 0, 0,
     0, 0, 0, 0, 0, 0, 0, 0, 0, 0, 0, 0, 0, 0, 0, 0, 0, 0, 0, 0, 0, 0, 0, 0, 0, 4, 0, 0, 0, 0, 0, 0,
@@ -99,7 +99,7 @@ pub const OPENED: [u8; 160] = [
     0, 0, 0, 0,
 ];
 
-/// The reply to unique 4: the attributes of number 2, a file of 12 bytes and 0o644.
+/// The reply to unique 4: the attributes of number 2, a file of 12 bytes with permissions 0o644.
 pub const ATTRS: [u8; 120] = [
     120, 0, 0, 0, 0, 0, 0, 0, 4, 0, 0, 0, 0, 0, 0, 0, 0, 0, 0, 0, 0, 0, 0, 0, 0, 0, 0, 0, 0, 0, 0,
     0, 2, 0, 0, 0, 0, 0, 0, 0, 12, 0, 0, 0, 0, 0, 0, 0, 0, 0, 0, 0, 0, 0, 0, 0, 0, 0, 0, 0, 0, 0,
@@ -107,5 +107,5 @@ pub const ATTRS: [u8; 120] = [
     129, 0, 0, 1, 0, 0, 0, 0, 0, 0, 0, 0, 0, 0, 0, 0, 0, 0, 0, 0, 16, 0, 0, 0, 0, 0, 0,
 ];
 
-/// The reply to unique 6, without a value.
+/// The reply to unique 6: done, without a body.
 pub const DONE: [u8; 16] = [16, 0, 0, 0, 0, 0, 0, 0, 6, 0, 0, 0, 0, 0, 0, 0];

@@ -1,4 +1,4 @@
-//! Each field of a message has its place and its width.
+//! Each field of a message has the right position and width.
 ghost use Rattle.std.specs.Prelude.{IfSome};
 ghost use Rattle.fuse_wire.specs.Request.{IsSendable};
 
@@ -17,7 +17,7 @@ const NODE: Number = Number(0x201f1e1d1c1b1a19);
 
 const PERM: Perm = Perm { bits: 0o7777 };
 
-/// Which request is made. Its name, where it has one, is `name`.
+/// A request by its kind. Its name, if the kind has one, is `name`.
 #[derive(Clone, Copy)]
 enum Wish {
     Lookup,
@@ -30,7 +30,7 @@ enum Wish {
     Forget,
 }
 
-/// Makes a request that goes to a name.
+/// Makes the request of `wish` with `name`, or none if that kind has no name.
 fn named(wish: Wish, name: Name) -> Option<Request>
     ensures sendable { IfSome result IsSendable }
 {
@@ -50,7 +50,7 @@ const ITEM: Item = Item {
     k: 0x4847464544434241,
 };
 
-/// Makes a request.
+/// Makes the request of `wish`, or none if memory was refused.
 #[tactic(auto, unfolding(fuse_wire::specs::Request::opcode_of))]
 fn request(alloc: Global, wish: Wish) -> Option<Request>
     ensures sendable { IfSome result IsSendable }
@@ -64,7 +64,7 @@ fn request(alloc: Global, wish: Wish) -> Option<Request>
     }
 }
 
-/// Returns whether a request is written as these bytes.
+/// Returns whether the request of `wish` is written as `written`.
 fn is_sent(alloc: Global, wish: Wish, written: &[u8]) -> bool {
     match request(alloc, wish) {
         Some(what) => {
@@ -80,7 +80,7 @@ fn is_sent(alloc: Global, wish: Wish, written: &[u8]) -> bool {
     }
 }
 
-/// A request, its bytes, and the same with what is ignored filled in.
+/// A request, its bytes, and the same bytes with the ignored fields filled in.
 type Sent = (Wish, &'static [u8], &'static [u8]);
 
 static SENT: [Sent; 8] = [
@@ -94,7 +94,7 @@ static SENT: [Sent; 8] = [
     (Wish::Forget, &FORGET, &FORGET_FILLED),
 ];
 
-/// Returns whether each request is written as its bytes, and so is what is read of the filled ones.
+/// Returns whether each request, and what is read from its filled bytes, is written as its bytes.
 fn are_kept(alloc: Global, sent: &[Sent]) -> bool {
     for (wish, written, filled) in sent {
         if !is_sent(alloc, *wish, written) || !is_written_again(alloc, filled, written) {

@@ -1,8 +1,9 @@
-//! Messages whose bytes tell where each field lies and how wide it is: the bytes of a field differ from one another,
-//! and from those of the other fields. A C compiler laid them out by the structs of `linux/fuse.h` (7.38), on a
+//! Messages that show the position and the width of each field: the bytes of a value differ from one another, and from
+//! those of other values. A C compiler laid the messages out by the structs of `linux/fuse.h` (7.38), on a
 //! little-endian machine.
 
-/// LOOKUP of `name`, with zeros in the fields that the reader ignores. So are those below.
+/// LOOKUP of `name`, with zeros in the fields that the reader ignores. Below, only the `_FILLED` messages have other
+/// bytes there.
 pub const LOOKUP: [u8; 45] = [
     45, 0, 0, 0, 1, 0, 0, 0, 17, 18, 19, 20, 21, 22, 23, 24, 25, 26, 27, 28, 29, 30, 31, 32, 0, 0,
     0, 0, 0, 0, 0, 0, 0, 0, 0, 0, 0, 0, 0, 0, 110, 97, 109, 101, 0,
@@ -14,7 +15,7 @@ pub const LOOKUP_FILLED: [u8; 45] = [
     34, 35, 36, 37, 38, 39, 40, 41, 42, 43, 44, 45, 46, 47, 48, 110, 97, 109, 101, 0,
 ];
 
-/// UNLINK.
+/// UNLINK of `name`.
 pub const UNLINK: [u8; 45] = [
     45, 0, 0, 0, 10, 0, 0, 0, 17, 18, 19, 20, 21, 22, 23, 24, 25, 26, 27, 28, 29, 30, 31, 32, 0, 0,
     0, 0, 0, 0, 0, 0, 0, 0, 0, 0, 0, 0, 0, 0, 110, 97, 109, 101, 0,
@@ -26,7 +27,7 @@ pub const UNLINK_FILLED: [u8; 45] = [
     34, 35, 36, 37, 38, 39, 40, 41, 42, 43, 44, 45, 46, 47, 48, 110, 97, 109, 101, 0,
 ];
 
-/// RMDIR.
+/// RMDIR of `name`.
 pub const RMDIR: [u8; 45] = [
     45, 0, 0, 0, 11, 0, 0, 0, 17, 18, 19, 20, 21, 22, 23, 24, 25, 26, 27, 28, 29, 30, 31, 32, 0, 0,
     0, 0, 0, 0, 0, 0, 0, 0, 0, 0, 0, 0, 0, 0, 110, 97, 109, 101, 0,
@@ -38,7 +39,7 @@ pub const RMDIR_FILLED: [u8; 45] = [
     34, 35, 36, 37, 38, 39, 40, 41, 42, 43, 44, 45, 46, 47, 48, 110, 97, 109, 101, 0,
 ];
 
-/// OPEN.
+/// OPEN without a body.
 pub const OPEN: [u8; 40] = [
     40, 0, 0, 0, 14, 0, 0, 0, 17, 18, 19, 20, 21, 22, 23, 24, 25, 26, 27, 28, 29, 30, 31, 32, 0, 0,
     0, 0, 0, 0, 0, 0, 0, 0, 0, 0, 0, 0, 0, 0,
@@ -50,7 +51,7 @@ pub const OPEN_FILLED: [u8; 40] = [
     34, 35, 36, 37, 38, 39, 40, 41, 42, 43, 44, 45, 46, 47, 48,
 ];
 
-/// FORGET.
+/// FORGET of one item.
 pub const FORGET: [u8; 48] = [
     48, 0, 0, 0, 2, 0, 0, 0, 17, 18, 19, 20, 21, 22, 23, 24, 25, 26, 27, 28, 29, 30, 31, 32, 0, 0,
     0, 0, 0, 0, 0, 0, 0, 0, 0, 0, 0, 0, 0, 0, 65, 66, 67, 68, 69, 70, 71, 72,
@@ -62,7 +63,7 @@ pub const FORGET_FILLED: [u8; 48] = [
     34, 35, 36, 37, 38, 39, 40, 41, 42, 43, 44, 45, 46, 47, 48, 65, 66, 67, 68, 69, 70, 71, 72,
 ];
 
-/// GETATTR.
+/// GETATTR of a number.
 pub const GETATTR: [u8; 56] = [
     56, 0, 0, 0, 3, 0, 0, 0, 17, 18, 19, 20, 21, 22, 23, 24, 25, 26, 27, 28, 29, 30, 31, 32, 0, 0,
     0, 0, 0, 0, 0, 0, 0, 0, 0, 0, 0, 0, 0, 0, 0, 0, 0, 0, 0, 0, 0, 0, 0, 0, 0, 0, 0, 0, 0, 0,
@@ -75,27 +76,27 @@ pub const GETATTR_FILLED: [u8; 56] = [
     74, 75, 76, 77, 78, 79, 80,
 ];
 
-/// MKDIR with 0o7777.
+/// MKDIR of `name` with permissions 0o7777.
 pub const MKDIR: [u8; 53] = [
     53, 0, 0, 0, 9, 0, 0, 0, 17, 18, 19, 20, 21, 22, 23, 24, 25, 26, 27, 28, 29, 30, 31, 32, 0, 0,
     0, 0, 0, 0, 0, 0, 0, 0, 0, 0, 0, 0, 0, 0, 255, 15, 0, 0, 0, 0, 0, 0, 110, 97, 109, 101, 0,
 ];
 
-/// The MKDIR above, with other bytes in the fields that the reader ignores.
+/// The MKDIR above, with other values in the bytes that the reader ignores.
 pub const MKDIR_FILLED: [u8; 53] = [
     53, 0, 0, 0, 9, 0, 0, 0, 17, 18, 19, 20, 21, 22, 23, 24, 25, 26, 27, 28, 29, 30, 31, 32, 33,
     34, 35, 36, 37, 38, 39, 40, 41, 42, 43, 44, 45, 46, 47, 48, 255, 79, 67, 68, 69, 70, 71, 72,
     110, 97, 109, 101, 0,
 ];
 
-/// CREATE with 0o7777.
+/// CREATE of `name` with permissions 0o7777.
 pub const CREATE: [u8; 61] = [
     61, 0, 0, 0, 35, 0, 0, 0, 17, 18, 19, 20, 21, 22, 23, 24, 25, 26, 27, 28, 29, 30, 31, 32, 0, 0,
     0, 0, 0, 0, 0, 0, 0, 0, 0, 0, 0, 0, 0, 0, 0, 0, 0, 0, 255, 143, 0, 0, 0, 0, 0, 0, 0, 0, 0, 0,
     110, 97, 109, 101, 0,
 ];
 
-/// The CREATE above, with other bytes in the fields that the reader ignores.
+/// The CREATE above, with other values in the bytes that the reader ignores.
 pub const CREATE_FILLED: [u8; 61] = [
     61, 0, 0, 0, 35, 0, 0, 0, 17, 18, 19, 20, 21, 22, 23, 24, 25, 26, 27, 28, 29, 30, 31, 32, 33,
     34, 35, 36, 37, 38, 39, 40, 41, 42, 43, 44, 45, 46, 47, 48, 65, 66, 67, 68, 255, 143, 71, 72,
@@ -118,7 +119,7 @@ pub const BATCH_FORGET_FILLED: [u8; 80] = [
     105, 106, 107, 108, 109, 110, 111, 112,
 ];
 
-/// The reply with the entry of a directory of 0o7777.
+/// The reply with the entry of a directory that has permissions 0o7777.
 pub const ENTRY: [u8; 144] = [
     144, 0, 0, 0, 0, 0, 0, 0, 17, 18, 19, 20, 21, 22, 23, 24, 33, 34, 35, 36, 37, 38, 39, 40, 0, 0,
     0, 0, 0, 0, 0, 0, 0, 0, 0, 0, 0, 0, 0, 0, 0, 0, 0, 0, 0, 0, 0, 0, 0, 0, 0, 0, 0, 0, 0, 0, 33,
@@ -127,7 +128,7 @@ pub const ENTRY: [u8; 144] = [
     255, 79, 0, 0, 49, 50, 51, 52, 0, 0, 0, 0, 0, 0, 0, 0, 0, 0, 0, 0, 0, 16, 0, 0, 0, 0, 0, 0,
 ];
 
-/// The reply with the entry of a file of 0o7777 that is opened.
+/// The reply with the entry of an opened file that has permissions 0o7777.
 pub const OPENED: [u8; 160] = [
     160, 0, 0, 0, 0, 0, 0, 0, 17, 18, 19, 20, 21, 22, 23, 24, 33, 34, 35, 36, 37, 38, 39, 40, 0, 0,
     0, 0, 0, 0, 0, 0, 0, 0, 0, 0, 0, 0, 0, 0, 0, 0, 0, 0, 0, 0, 0, 0, 0, 0, 0, 0, 0, 0, 0, 0, 33,
@@ -137,7 +138,7 @@ pub const OPENED: [u8; 160] = [
     0, 0, 0, 0, 0, 0, 0, 0, 0, 0, 0, 0, 0, 0, 0,
 ];
 
-/// The attributes of a file of 0o7777.
+/// The reply with the attributes of a file that has permissions 0o7777.
 pub const ATTRS: [u8; 120] = [
     120, 0, 0, 0, 0, 0, 0, 0, 17, 18, 19, 20, 21, 22, 23, 24, 0, 0, 0, 0, 0, 0, 0, 0, 0, 0, 0, 0,
     0, 0, 0, 0, 33, 34, 35, 36, 37, 38, 39, 40, 41, 42, 43, 44, 45, 46, 47, 48, 0, 0, 0, 0, 0, 0,
@@ -146,7 +147,7 @@ pub const ATTRS: [u8; 120] = [
     0, 0, 0, 0, 0,
 ];
 
-/// The reply without a value.
+/// The reply that an ask is done, without a body.
 pub const DONE: [u8; 16] = [16, 0, 0, 0, 0, 0, 0, 0, 17, 18, 19, 20, 21, 22, 23, 24];
 
 /// The reply with the error ESTALE.

@@ -13,7 +13,7 @@ static MOST_ITEMS: [Item; 256] = [Item {
     k: 1,
 }; 256];
 
-/// Copies a name, and once more where memory was refused.
+/// Copies `name`, and tries once more if memory was refused.
 fn copy(alloc: Global, name: &Name) -> Result<Name, NoMemory> {
     match name.copy(alloc) {
         Ok(copy) => Ok(copy),
@@ -21,7 +21,7 @@ fn copy(alloc: Global, name: &Name) -> Result<Name, NoMemory> {
     }
 }
 
-/// Returns whether a name of these bytes is made and copied.
+/// Returns whether a name of `bytes` is made and copied.
 fn is_name_made(alloc: Global, bytes: &[u8]) -> bool {
     match parse(alloc, bytes) {
         Ok(name) => {
@@ -33,7 +33,7 @@ fn is_name_made(alloc: Global, bytes: &[u8]) -> bool {
     }
 }
 
-/// Calls `is_name_made` with each length up to 255.
+/// Calls `is_name_made` with a name of each length from 1 to 255.
 pub(crate) fn is_each_name_made(alloc: Global) -> bool {
     for len in 1..256usize {
         if !is_name_made(alloc, &LONGEST_NAME[..len]) {
@@ -43,7 +43,7 @@ pub(crate) fn is_each_name_made(alloc: Global) -> bool {
     true
 }
 
-/// Makes a batch, and once more where memory was refused.
+/// Makes a batch of `items`, and tries once more if memory was refused.
 fn batch(alloc: Global, items: &[Item]) -> Result<Batch, NoMemory>
     requires few { length items.now ≤ 256 }
 {
@@ -53,7 +53,7 @@ fn batch(alloc: Global, items: &[Item]) -> Result<Batch, NoMemory>
     }
 }
 
-/// Copies a batch, and once more where memory was refused.
+/// Copies `batch`, and tries once more if memory was refused.
 fn batch_copy(alloc: Global, batch: &Batch) -> Result<Batch, NoMemory> {
     match batch.copy(alloc) {
         Ok(copy) => Ok(copy),
@@ -61,7 +61,7 @@ fn batch_copy(alloc: Global, batch: &Batch) -> Result<Batch, NoMemory> {
     }
 }
 
-/// Returns whether a batch of these items is made and copied.
+/// Returns whether a batch of `items` is made and copied.
 fn is_batch_made(alloc: Global, items: &[Item]) -> bool
     requires few { length items.now ≤ 256 }
 {
@@ -75,7 +75,7 @@ fn is_batch_made(alloc: Global, items: &[Item]) -> bool
     }
 }
 
-/// Calls `is_batch_made` with each length up to 256.
+/// Calls `is_batch_made` with each count of items up to 256.
 pub(crate) fn is_each_batch_made(alloc: Global) -> bool {
     for len in 0..257usize {
         if !is_batch_made(alloc, &MOST_ITEMS[..len]) {

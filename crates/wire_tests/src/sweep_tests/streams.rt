@@ -14,7 +14,7 @@ pub enum Carrier {
     Part,
 }
 
-/// Returns how long the fields are that stand before the bytes.
+/// Returns the length of the fields before the carried bytes.
 fn fields_len(carrier: Carrier) -> usize {
     match carrier {
         Carrier::Ask => 0,
@@ -24,7 +24,7 @@ fn fields_len(carrier: Carrier) -> usize {
     }
 }
 
-/// Makes a frame of bytes.
+/// Makes a frame of the kind `carrier` that carries `bytes`.
 fn frame(carrier: Carrier, bytes: Bytes) -> Frame {
     match carrier {
         Carrier::Ask => Frame::Ask(bytes),
@@ -47,7 +47,7 @@ fn frame(carrier: Carrier, bytes: Bytes) -> Frame {
     }
 }
 
-/// Makes `len` bytes, and once more where memory was refused.
+/// Makes `len` bytes, and tries once more if memory was refused.
 fn bytes(alloc: Global, len: usize) -> Result<Vec<u8>, AllocError> {
     match Vec::from_elem(alloc, 7, len) {
         Ok(bytes) => Ok(bytes),
@@ -55,7 +55,8 @@ fn bytes(alloc: Global, len: usize) -> Result<Vec<u8>, AllocError> {
     }
 }
 
-/// Returns whether a frame whose body has this length is written, and comes out of its text.
+/// Returns whether a frame with a body of `len` bytes is written, and read from its text. Returns true, and makes no
+/// frame, if `len` is too short for the fields.
 fn is_carried(alloc: Global, carrier: Carrier, len: usize) -> bool {
     let Some(rest) = len.checked_sub(fields_len(carrier)) else {
         return true;
@@ -72,7 +73,7 @@ fn is_carried(alloc: Global, carrier: Carrier, len: usize) -> bool {
     }
 }
 
-/// Calls `is_carried` with lengths up to 65,520, in steps of 1,008.
+/// Calls `is_carried` with each multiple of 1,008 up to 65,520.
 fn is_each_step_carried(alloc: Global, carrier: Carrier) -> bool {
     for step in 0..66u16 {
         if !is_carried(alloc, carrier, 1_008 * usize::from(step)) {
@@ -82,7 +83,7 @@ fn is_each_step_carried(alloc: Global, carrier: Carrier) -> bool {
     true
 }
 
-/// Calls `is_carried` with those lengths, and with each length from there up to the longest.
+/// Calls `is_carried` with the same lengths, and with each from 65,521 up to 65,536, the greatest.
 pub(crate) fn is_each_body_carried(alloc: Global, carrier: Carrier) -> bool {
     if !is_each_step_carried(alloc, carrier) {
         return false;
@@ -95,7 +96,7 @@ pub(crate) fn is_each_body_carried(alloc: Global, carrier: Carrier) -> bool {
     true
 }
 
-/// Puts the texts of `frames` frames without fields.
+/// Appends the texts of `frames` Posted frames, which have no body, to `text`.
 fn put_frames(text: &mut Vec<u8>, frames: u32) -> Result<(), AllocError> {
     for _ in 0..frames {
         text.extend_from_slice(&[0, 0, 0, 0, 5])?;
@@ -103,7 +104,7 @@ fn put_frames(text: &mut Vec<u8>, frames: u32) -> Result<(), AllocError> {
     Ok(())
 }
 
-/// Feeds a piece `times` times, and returns whether each was taken.
+/// Feeds `piece` to `reader` `times` times, and returns whether each call succeeds.
 fn is_fed(reader: &mut FrameReader, piece: &[u8], times: u32) -> bool {
     for _ in 0..times {
         if feed(reader, piece).is_err() {
@@ -113,7 +114,7 @@ fn is_fed(reader: &mut FrameReader, piece: &[u8], times: u32) -> bool {
     true
 }
 
-/// Returns whether `frames` frames come out.
+/// Returns whether just `frames` frames come out of `reader`, all of them Posted.
 fn come_out(reader: &mut FrameReader, frames: u64) -> bool {
     for _ in 0..frames {
         if !matches!(next(reader), Ok(Some(Frame::Posted))) {
@@ -123,7 +124,7 @@ fn come_out(reader: &mut FrameReader, frames: u64) -> bool {
     matches!(next(reader), Ok(None))
 }
 
-/// Returns whether all frames come out of a stream of such pieces.
+/// Feeds `piece`, which has `frames` frames, to a new reader `pieces` times. Returns whether all frames come out.
 fn is_piece_read(alloc: Global, piece: &[u8], pieces: u32, frames: u32) -> bool {
     let mut reader = FrameReader::new(alloc);
     let are_read = is_fed(&mut reader, piece, pieces)
@@ -132,7 +133,7 @@ fn is_piece_read(alloc: Global, piece: &[u8], pieces: u32, frames: u32) -> bool 
     are_read
 }
 
-/// Returns whether a stream of `pieces` pieces with `frames` frames each is read.
+/// Returns whether all frames come out of a stream of `pieces` pieces with `frames` frames each.
 pub(crate) fn is_stream_read(alloc: Global, pieces: u32, frames: u32) -> bool {
     let mut piece = Vec::new(alloc);
     let is_read = put_frames(&mut piece, frames).is_ok()

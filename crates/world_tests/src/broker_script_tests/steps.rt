@@ -1,4 +1,4 @@
-//! Steps of a broker's script and of the daemons between its lines. One that was refused memory is made once more.
+//! Steps of a broker's script, and of the daemons between its lines. A step that was refused memory is made once more.
 ghost use Rattle.std.specs.Prelude.{All};
 ghost use Rattle.script_lines.specs.BrokerLine.{IsSendableLine};
 
@@ -15,37 +15,37 @@ use fuse_wire::{Answer, MAX_REPLY_LEN, Reply, write_reply};
 use script_lines::BrokerLine;
 use std::alloc::Global;
 
-/// What a daemon does, which has to succeed.
+/// What a daemon does. Each deed has to succeed.
 #[derive(Clone, Copy)]
 pub enum Deed {
     Attaches,
     Mounts,
-    /// It takes what waits first, at a generation.
+    /// Takes the first ask or forget that waits, at this generation.
     Takes(u64),
-    /// It posts at a generation that a name isn't there, for a unique.
+    /// At a generation, answers a unique with the error that a name isn't there.
     PostsError(u64, u64),
-    /// It posts at a generation an entry for a unique, of a number.
+    /// At a generation, answers a unique with the entry of this number.
     PostsEntry(u64, u64, u64),
-    /// It claims the seat of a generation.
+    /// Claims the seat from this generation.
     Claims(u64),
 }
 
-/// A step of a test, with what is printed then.
+/// A step of a test, with the text that is printed for it.
 #[derive(Clone, Copy)]
 pub enum Step {
-    /// The next line of the script is begun, and prints this.
+    /// The next line of the script begins, and prints this.
     Begins(&'static [u8]),
-    /// The line still waits.
+    /// The line that was begun last waits on.
     Waits,
-    /// The line ends, and prints this.
+    /// The line that was begun last ends, and prints this.
     Comes(&'static [u8]),
-    /// A daemon does this on a connection, counted from 0.
+    /// A daemon does this on the connection of this index.
     On(usize, Deed),
-    /// A connection ends.
+    /// The connection of this index ends.
     Leaves(usize),
 }
 
-/// A desk with three connections, how many lines of a script were begun, and what the last one waits for.
+/// A desk with three connections, how many lines of a script were begun, and what the last of them waits for.
 #[derive(Drop)]
 struct Course {
     desk: Desk,
@@ -54,14 +54,14 @@ struct Course {
     awaited: Option<Awaited>,
 }
 
-/// Writes a reply as a Post has it.
+/// Writes the reply of `unique` and `answer` as the bytes of a Post.
 fn reply_bytes(alloc: Global, unique: u64, answer: Answer) -> Result<Bytes, NoMemory> {
     let mut bytes = [0; MAX_REPLY_LEN];
     let len = write_reply(&Reply { unique, answer }, &mut bytes);
     Ok(Bytes::of(Vec::from_slice(alloc, &bytes[..len])?))
 }
 
-/// Makes the answer that gives a number of a directory out.
+/// Makes the answer that gives `number` out, for a directory.
 fn entry(number: u64) -> Answer {
     let Some(perm) = Perm::of(0o755) else {
         return Answer::Done;
@@ -77,7 +77,7 @@ fn entry(number: u64) -> Answer {
     }
 }
 
-/// Makes the frame of a deed.
+/// Makes the frame of `deed`.
 fn frame_of(alloc: Global, deed: Deed) -> Result<Frame, NoMemory> {
     Ok(match deed {
         Deed::Attaches => Frame::Attach(DaemonId(0)),
@@ -95,7 +95,7 @@ fn frame_of(alloc: Global, deed: Deed) -> Result<Frame, NoMemory> {
     })
 }
 
-/// Returns whether a deed succeeded, by what the daemon is told.
+/// Returns whether `told`, the answer to `deed`, says that `deed` succeeded.
 fn is_done(deed: Deed, told: &Response) -> bool {
     matches!(
         (deed, told),
@@ -108,7 +108,7 @@ fn is_done(deed: Deed, told: &Response) -> bool {
     )
 }
 
-/// Lets a daemon do a deed, and returns whether it succeeded.
+/// Sends the frame of `deed` on the connection of the index `at`, and returns whether `deed` succeeded.
 fn does_once(alloc: Global, course: &mut Course, at: usize, deed: Deed) -> bool {
     let Some(peer) = course.peers.get_mut(at) else {
         return false;
@@ -123,12 +123,12 @@ fn does_once(alloc: Global, course: &mut Course, at: usize, deed: Deed) -> bool 
     is_done
 }
 
-/// Lets a daemon do a deed as `does_once` does, once more where it did not succeed.
+/// Calls `does_once`, and once more if the first call returned false.
 fn does(alloc: Global, course: &mut Course, at: usize, deed: Deed) -> bool {
     does_once(alloc, course, at, deed) || does_once(alloc, course, at, deed)
 }
 
-/// Returns whether what was begun prints this.
+/// Returns whether `begun` prints `lines`.
 fn prints_begun(alloc: Global, desk: &Desk, begun: &Begun, lines: &[u8]) -> bool {
     let mut out = Vec::new(alloc);
     let printed = print_begun(&mut out, desk.broker(), begun);
@@ -137,7 +137,7 @@ fn prints_begun(alloc: Global, desk: &Desk, begun: &Begun, lines: &[u8]) -> bool
     so
 }
 
-/// Returns whether what came prints this.
+/// Returns whether `came` prints `lines`.
 fn prints_came(alloc: Global, came: &Came, lines: &[u8]) -> bool {
     let mut out = Vec::new(alloc);
     let printed = print_came(&mut out, came);
@@ -146,7 +146,7 @@ fn prints_came(alloc: Global, came: &Came, lines: &[u8]) -> bool {
     so
 }
 
-/// Begins the next line of a script, and returns whether it prints this.
+/// Begins the next line of `script`, and once more if memory was refused. Returns whether that prints `lines`.
 fn begins(alloc: Global, course: &mut Course, script: &[BrokerLine], lines: &[u8]) -> bool
     requires sendable { All IsSendableLine script.now }
 {
@@ -166,12 +166,12 @@ fn begins(alloc: Global, course: &mut Course, script: &[BrokerLine], lines: &[u8
         || prints_begun(alloc, &course.desk, &begun, lines)
 }
 
-/// Returns whether memory was refused for what came.
+/// Returns whether `came` says that memory was refused.
 fn lacks(came: &Came) -> bool {
     matches!(came, Came::Lacks)
 }
 
-/// Looks whether the line's wait is over, once more where memory was refused.
+/// Looks whether the line's wait is over, and once more if memory was refused. Returns what came, or none.
 fn looked(course: &mut Course) -> Option<Came> {
     let awaited = course.awaited?;
     let came = look(&mut course.desk, &awaited)?;
@@ -181,7 +181,7 @@ fn looked(course: &mut Course) -> Option<Came> {
     Some(came)
 }
 
-/// Returns whether what is awaited came, and prints this.
+/// Returns whether the line's wait is over, and what came prints `lines`.
 fn comes(alloc: Global, course: &mut Course, lines: &[u8]) -> bool {
     match looked(course) {
         Some(came) => prints_came(alloc, &came, lines) || prints_came(alloc, &came, lines),
@@ -189,7 +189,7 @@ fn comes(alloc: Global, course: &mut Course, lines: &[u8]) -> bool {
     }
 }
 
-/// Ends a connection.
+/// Ends the connection of the index `at`, and returns whether there is one.
 fn leaves(course: &mut Course, at: usize) -> bool {
     match course.peers.get(at) {
         Some(peer) => {
@@ -200,7 +200,7 @@ fn leaves(course: &mut Course, at: usize) -> bool {
     }
 }
 
-/// Makes one step, and returns whether it goes as it says.
+/// Makes `step`, and returns whether its outcome is the expected one.
 fn goes_so(alloc: Global, course: &mut Course, script: &[BrokerLine], step: Step) -> bool
     requires sendable { All IsSendableLine script.now }
 {
@@ -213,7 +213,7 @@ fn goes_so(alloc: Global, course: &mut Course, script: &[BrokerLine], step: Step
     }
 }
 
-/// Returns the course of a script from its first line on, at a new desk.
+/// Makes the course of a script that begins at `desk`.
 fn course_at(desk: Desk) -> Course {
     Course {
         desk,
@@ -223,8 +223,8 @@ fn course_at(desk: Desk) -> Course {
     }
 }
 
-/// Makes all steps with the lines of a script at a new desk, and returns whether each goes as it says and no line is
-/// left.
+/// Makes `steps` at a new desk, with `lines` as the script. Returns whether each outcome is the expected one, and all
+/// lines were begun.
 fn all_go_so_of(alloc: Global, lines: &[BrokerLine], steps: &[Step]) -> bool
     requires sendable { All IsSendableLine lines.now }
 {
@@ -241,7 +241,7 @@ fn all_go_so_of(alloc: Global, lines: &[BrokerLine], steps: &[Step]) -> bool
     so
 }
 
-/// Reads a script, and makes all steps with its lines.
+/// Reads `script`, and calls `all_go_so_of` with its lines.
 fn all_go_so_once(alloc: Global, script: &[u8], steps: &[Step]) -> bool {
     let Ok(lines) = read_broker_script(alloc, script) else {
         return false;
@@ -251,12 +251,13 @@ fn all_go_so_once(alloc: Global, script: &[u8], steps: &[Step]) -> bool {
     so
 }
 
-/// Makes all steps as `all_go_so_once` does, once more where they do not go so.
+/// Calls `all_go_so_once`, and once more if the first call returned false.
 pub fn all_go_so(alloc: Global, script: &[u8], steps: &[Step]) -> bool {
     all_go_so_once(alloc, script, steps) || all_go_so_once(alloc, script, steps)
 }
 
-/// Reads a text, and returns how many lines it has, or the number of the first bad one; 0 where memory was refused.
+/// Reads `text`. Returns its count of lines, or as a fault the position of its first bad line, or 0 if memory was
+/// refused.
 fn read_so(alloc: Global, text: &[u8]) -> Result<usize, usize> {
     match read_broker_script(alloc, text) {
         Ok(lines) => {
@@ -269,7 +270,7 @@ fn read_so(alloc: Global, text: &[u8]) -> Result<usize, usize> {
     }
 }
 
-/// Returns whether each text is read so, once more where it is not.
+/// Returns whether `read_so` returns the expected result for each text, in one of two tries.
 pub fn reads_all(alloc: Global, texts: &[(&[u8], Result<usize, usize>)]) -> bool {
     let mut so = true;
     for (text, expected) in texts {

@@ -1,4 +1,4 @@
-//! Lookups in what a desk lends, and the checkouts that they are made in.
+//! Lookups in the state that a desk lends, and the manifests of these tests.
 ghost use Rattle.std.specs.Prelude.{◌≡◌};
 
 use checkout::ManifestBacking;
@@ -9,16 +9,16 @@ use fuse_wire::{Answer, Request};
 use manifest::Manifest;
 use std::alloc::Global;
 
-/// A checkout with one directory.
+/// A manifest of one directory.
 pub(super) const CHECKOUT: &[u8] = b"commit 0123456789abcdef0123456789abcdef01234567\ndir src\n";
 
-/// The bytes of each name of a long checkout: sixteen such names take more than a part.
+/// The length of each long name. Sixteen names of that length make an image of more than one part.
 const NAME_LEN: usize = 255;
 
-/// The first letters of these names.
+/// The letters of the long names. Each name is one letter again and again.
 const LETTERS: &[u8; 16] = b"abcdefghijklmnop";
 
-/// Looks a name up in the root, and returns its number.
+/// Looks `name` up in the root, and returns its number, or none.
 fn number_of(alloc: Global, manifest: &Manifest, served: &mut Served, name: &[u8]) -> Option<u64>
     requires over { served.old.tree.manifest ≡ manifest.now }
     ensures same_manifest { served.new.tree.manifest ≡ served.old.tree.manifest }
@@ -37,7 +37,7 @@ fn number_of(alloc: Global, manifest: &Manifest, served: &mut Served, name: &[u8
     }
 }
 
-/// Looks a name up, once more where memory was refused.
+/// Calls `number_of`, and once more if the first call returned none.
 fn found_number(alloc: Global, manifest: &Manifest, served: &mut Served, name: &[u8]) -> Option<u64>
     requires over { served.old.tree.manifest ≡ manifest.now }
     ensures same_manifest { served.new.tree.manifest ≡ served.old.tree.manifest }
@@ -48,12 +48,12 @@ fn found_number(alloc: Global, manifest: &Manifest, served: &mut Served, name: &
     number_of(alloc, manifest, served, name)
 }
 
-/// Looks a name up in what was lent.
+/// Looks `name` up in the state of `lease`, and returns its number, or none.
 pub(super) fn lent_number(alloc: Global, lease: &mut Lease, name: &[u8]) -> Option<u64> {
     found_number(alloc, &lease.manifest, &mut lease.served, name)
 }
 
-/// Returns whether the long names are looked up with numbers that follow each other.
+/// Looks each long name up. Returns whether their numbers follow one another, from `first` on.
 pub(super) fn are_numbered(alloc: Global, lease: &mut Lease, first: u64) -> bool {
     let mut number = first;
     for letter in LETTERS {
@@ -66,12 +66,12 @@ pub(super) fn are_numbered(alloc: Global, lease: &mut Lease, first: u64) -> bool
     true
 }
 
-/// Puts bytes behind a text, once more where memory was refused.
+/// Appends `bytes` to `text`, and tries once more if memory was refused.
 fn is_put(text: &mut Vec<u8>, bytes: &[u8]) -> bool {
     text.extend_from_slice(bytes).is_ok() || text.extend_from_slice(bytes).is_ok()
 }
 
-/// Writes a checkout with a directory, and a file of each long name.
+/// Makes the text of a manifest of one directory, and of a file with each long name.
 pub(super) fn long_checkout(alloc: Global) -> Option<Vec<u8>> {
     let mut text = Vec::new(alloc);
     if !is_put(&mut text, CHECKOUT) {

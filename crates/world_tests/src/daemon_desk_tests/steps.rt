@@ -1,4 +1,4 @@
-//! Steps at three desks, with their outcomes. A step that was refused memory is made once more.
+//! Steps at three desks, with their expected outcomes. A step that was refused memory is made once more.
 use super::lookups::{CHECKOUT, are_numbered, lent_number, long_checkout};
 use daemon::Lease;
 use daemon_desk::{Claiming, DaemonDesk, FrameList, Hearing, Mounting};
@@ -7,7 +7,7 @@ use manifest::Manifest;
 use std::alloc::Global;
 use takeover_core::{Message, Versions};
 
-/// What a desk is sent.
+/// A frame that a desk is sent.
 #[derive(Clone, Copy)]
 pub enum Says {
     /// An offer of this version alone.
@@ -29,7 +29,7 @@ pub enum Says {
     Take(u64),
 }
 
-/// What a desk tells.
+/// What a desk says, or makes of a frame.
 #[derive(Clone, Copy, PartialEq, Eq)]
 pub enum Told {
     Choice(u32, u16),
@@ -38,53 +38,54 @@ pub enum Told {
     Ready(u32, u64),
     Pong(u32),
     Data(u32, u64),
-    /// Of this session, generation, position and count.
+    /// A part of this session, at this generation and position, and the count of parts.
     Part(u32, u64, u32, u32),
     Failed(u32),
     Nothing,
     Heeds,
     Ignores,
     Closes,
-    /// What these tests don't expect.
+    /// An answer that no step expects.
     Other,
 }
 
-/// A step at a desk, counted from 0, with its outcome.
+/// A step with its outcome. A `usize` is the index of the desk that does the step.
 #[derive(Clone, Copy)]
 pub enum Step {
-    /// It makes the state to serve.
+    /// The desk makes the state that it is to serve.
     Prepares(usize),
-    /// The broker answers its Mount.
+    /// The broker answers the desk's Mount with this frame.
     Mounts(usize, Says, Mounting),
-    /// It offers, and that frame is the last one.
+    /// The desk offers, and the offer becomes the last frame.
     Offers(usize),
-    /// It hears the last frame.
+    /// The desk hears the last frame.
     Hears(usize, Told),
-    /// The frame behind the last one is the last one now.
+    /// The next frame of the same answer becomes the last frame.
     Next(Told),
-    /// It hears this frame.
+    /// The desk hears this frame.
     Sent(usize, Says, Told),
-    /// Workers may take at this generation.
+    /// The generation at which workers of the desk may take, or none.
     Serves(usize, Option<u64>),
-    /// It lends its state to workers, or has none to lend.
+    /// The desk lends its state to workers, or has none to lend.
     Lends(usize, bool),
-    /// It gets the lease back.
+    /// The desk gets the lease back.
     Returns(usize),
-    /// It lends its state, a look-up of `src` gives this number, and it gets the lease back.
+    /// The desk lends its state, a LOOKUP of `src` gives this number, and the desk gets the lease back.
     LooksUp(usize, u64),
-    /// It lends its state, look-ups of the long names give numbers from this one on, and it gets the lease back.
+    /// The desk lends its state, lookups of the long names give numbers from this one on, and the desk gets the lease
+    /// back.
     LooksUpEach(usize, u64),
-    /// It says whether it is ready to hand over.
+    /// The desk says whether it is ready to hand over.
     Readies(usize, Told),
-    /// It gives up.
+    /// The desk gives up.
     GivesUp(usize, Told),
-    /// It wants to claim the seat from this generation.
+    /// The desk wants to claim the seat from this generation, or wants no claim.
     Wants(usize, Option<u64>),
-    /// The broker answers its Claim.
+    /// The broker answers the desk's Claim with this frame.
     Claims(usize, Says, Claiming),
 }
 
-/// The desks, the last frame, the frames behind it, and the lease.
+/// The desks, the last frame, the later frames of the same answer, and the lease.
 #[derive(Drop)]
 struct Room {
     alloc: Global,
@@ -94,7 +95,7 @@ struct Room {
     lease: Option<Lease>,
 }
 
-/// Returns the frame that is sent.
+/// Makes the frame of `says`.
 fn frame_of(says: Says) -> Frame {
     match says {
         Says::Offer(version) => Frame::Takeover(Message::Offer(Versions::of(&[version]))),
@@ -119,7 +120,7 @@ fn frame_of(says: Says) -> Frame {
     }
 }
 
-/// Returns what a frame tells.
+/// Returns what `frame` says.
 fn told_of(frame: &Frame) -> Told {
     let Frame::Takeover(message) = frame else {
         return Told::Other;
@@ -150,7 +151,7 @@ fn told_of(frame: &Frame) -> Told {
     }
 }
 
-/// Hears a frame, once more where memory was refused.
+/// Lets `desk` hear `frame`, and once more if memory was refused.
 fn heard(desk: &mut DaemonDesk, frame: &Frame) -> Hearing {
     match desk.hear(frame) {
         Hearing::NoMemory => desk.hear(frame),
@@ -159,7 +160,7 @@ fn heard(desk: &mut DaemonDesk, frame: &Frame) -> Hearing {
 }
 
 impl Room {
-    /// Keeps a frame as the last one, and returns what it tells.
+    /// Keeps `told` as the last frame, if it is a frame. Returns what that frame says, or `Nothing`.
     fn keep(&mut self, told: Option<Frame>) -> Told {
         let said = match &told {
             Some(frame) => told_of(frame),
@@ -171,7 +172,8 @@ impl Room {
         said
     }
 
-    /// Keeps the answer to a frame as the last frame, and returns what it tells.
+    /// Keeps the first frame of `hearing` as the last frame, and the frames after it for `next`. Returns what the desk
+    /// says.
     fn keep_heard(&mut self, hearing: Hearing) -> Told {
         match hearing {
             Hearing::Tells(frames) => {
@@ -187,7 +189,7 @@ impl Room {
         }
     }
 
-    /// Lets a desk hear the last frame.
+    /// Lets the desk of the index `at` hear the last frame, and returns what the desk says.
     fn hears(&mut self, at: usize) -> Told {
         let (Some(desk), Some(frame)) = (self.desks.get_mut(at), &self.last) else {
             return Told::Other;
@@ -196,7 +198,7 @@ impl Room {
         self.keep_heard(hearing)
     }
 
-    /// Keeps the frame behind the last one as the last one, and returns what it tells.
+    /// Makes the next frame of the same answer the last frame, and returns what that frame says.
     fn next(&mut self) -> Told {
         let Some(frames) = &mut self.behind else {
             return Told::Other;
@@ -205,7 +207,7 @@ impl Room {
         self.keep(frame)
     }
 
-    /// Lets a desk hear a frame.
+    /// Lets the desk of the index `at` hear the frame of `says`, and returns what the desk says.
     fn is_sent(&mut self, at: usize, says: Says) -> Told {
         let Some(desk) = self.desks.get_mut(at) else {
             return Told::Other;
@@ -216,7 +218,7 @@ impl Room {
         self.keep_heard(hearing)
     }
 
-    /// Lets a desk lend its state for a lookup of `src`, and returns the number.
+    /// Lets the desk of the index `at` lend its state for a LOOKUP of `src`, and returns the number.
     fn looked_up(&mut self, at: usize) -> Option<u64> {
         let desk = self.desks.get_mut(at)?;
         let mut lease = desk.lend()?;
@@ -225,7 +227,8 @@ impl Room {
         number
     }
 
-    /// Lets a desk lend its state for a lookup of each long name.
+    /// Lets the desk of the index `at` lend its state for lookups of the long names. Returns whether their numbers
+    /// follow one another, from `first` on.
     fn looked_up_each(&mut self, at: usize, first: u64) -> bool {
         let Some(desk) = self.desks.get_mut(at) else {
             return false;
@@ -238,7 +241,8 @@ impl Room {
         so
     }
 
-    /// Lets a desk lend its state, and keeps the lease. Returns whether there was one.
+    /// Lets the desk of the index `at` lend its state, and keeps the lease. Returns whether the desk had a state to
+    /// lend.
     fn lends(&mut self, at: usize) -> bool {
         let Some(desk) = self.desks.get_mut(at) else {
             return false;
@@ -250,7 +254,7 @@ impl Room {
         true
     }
 
-    /// Gives the lease to a desk.
+    /// Gives the lease to the desk of the index `at`, and returns whether there was a lease.
     fn returns(&mut self, at: usize) -> bool {
         let (Some(desk), Some(lease)) = (self.desks.get_mut(at), self.lease.take()) else {
             return false;
@@ -259,7 +263,8 @@ impl Room {
         true
     }
 
-    /// Lets a desk be drained.
+    /// Asks the desk of the index `at` whether it is ready to hand over. Keeps the frame that it says, if there is one,
+    /// as the last frame, and returns what that says.
     fn readies(&mut self, at: usize) -> Told {
         let Some(desk) = self.desks.get_mut(at) else {
             return Told::Other;
@@ -268,7 +273,7 @@ impl Room {
         self.keep(ready)
     }
 
-    /// Lets a desk give up.
+    /// Lets the desk of the index `at` give up, and returns what the desk says.
     fn gives_up(&mut self, at: usize) -> Told {
         let Some(desk) = self.desks.get_mut(at) else {
             return Told::Other;
@@ -277,7 +282,7 @@ impl Room {
         self.keep(said)
     }
 
-    /// Keeps a desk's offer as the last frame.
+    /// Keeps the offer of the desk of the index `at` as the last frame, and returns whether there is such a desk.
     fn offers(&mut self, at: usize) -> bool {
         let Some(desk) = self.desks.get(at) else {
             return false;
@@ -287,7 +292,7 @@ impl Room {
         true
     }
 
-    /// Makes one step, and returns whether it goes as it says.
+    /// Makes `step`, and returns whether its outcome is the expected one.
     fn goes_so(&mut self, step: Step) -> bool {
         match step {
             Step::Prepares(at) => match self.desks.get_mut(at) {
@@ -324,12 +329,12 @@ impl Room {
     }
 }
 
-/// Lets a desk be prepared, once more where memory was refused.
+/// Prepares `desk`, and once more if memory was refused. Returns whether that succeeded.
 fn is_prepared(desk: &mut DaemonDesk) -> bool {
     desk.prepare().is_ok() || desk.prepare().is_ok()
 }
 
-/// Lets the broker answer a Mount.
+/// Lets the broker answer the Mount of `desk` with the frame of `says`, and returns the result.
 fn mounting_of(desk: &mut DaemonDesk, says: Says) -> Mounting {
     let frame = frame_of(says);
     let mounting = desk.take_mount(&frame);
@@ -337,7 +342,7 @@ fn mounting_of(desk: &mut DaemonDesk, says: Says) -> Mounting {
     mounting
 }
 
-/// Lets the broker answer a Claim.
+/// Lets the broker answer the Claim of `desk` with the frame of `says`, and returns the result.
 fn claiming_of(desk: &mut DaemonDesk, says: Says) -> Claiming {
     let frame = frame_of(says);
     let claiming = desk.take_claim(&frame);
@@ -345,7 +350,7 @@ fn claiming_of(desk: &mut DaemonDesk, says: Says) -> Claiming {
     claiming
 }
 
-/// Returns the generation that a desk wants to claim the seat from.
+/// Returns the generation from which `desk` wants to claim the seat, or none.
 fn wanted_by(desk: &DaemonDesk) -> Option<u64> {
     let frame = desk.claim()?;
     let wanted = match &frame {
@@ -356,7 +361,7 @@ fn wanted_by(desk: &DaemonDesk) -> Option<u64> {
     wanted
 }
 
-/// Opens three desks over one manifest, with these versions.
+/// Opens three desks over the manifest in `checkout`, with these `versions`.
 fn make_room(alloc: Global, checkout: &[u8], versions: &Versions) -> Option<Room> {
     let manifest = Manifest::read(alloc, checkout).ok()?;
     let mut desks = Vec::new(alloc);
@@ -375,8 +380,8 @@ fn make_room(alloc: Global, checkout: &[u8], versions: &Versions) -> Option<Room
     })
 }
 
-/// Opens the desks, once more where memory was refused, makes all steps there, and then the endings, and returns whether
-/// each goes as it says.
+/// Opens three desks, and once more if memory was refused. Makes `steps` there and then `endings`, and returns whether
+/// each outcome is the expected one.
 fn all_go(
     alloc: Global,
     checkout: &[u8],
@@ -402,12 +407,12 @@ fn all_go(
     so
 }
 
-/// Makes all steps at three new desks with version 1, and then the endings, and returns whether each goes as it says.
+/// Calls `all_go` with version 1, and a manifest of one directory.
 pub fn all_go_so(alloc: Global, steps: &[Step], endings: &[Step]) -> bool {
     all_go(alloc, CHECKOUT, &Versions::of(&[1]), steps, endings)
 }
 
-/// Does so with versions 1 and 2, over a checkout whose image has two parts once its long names were looked up.
+/// Calls `all_go` with versions 1 and 2. The image of its manifest has two parts once the long names are looked up.
 pub fn all_go_so_in_parts(alloc: Global, steps: &[Step], endings: &[Step]) -> bool {
     match long_checkout(alloc) {
         Some(checkout) => all_go(

@@ -1,4 +1,4 @@
-//! Deeds that are done many times, takeovers one behind the other, and long lists of events.
+//! Deeds that are done many times, takeovers one after another, and long lists of events.
 use super::Round;
 use crate::world_tests::deeds::{Deed, Wish};
 use crate::world_tests::events::{event, is_put, manifest, room};
@@ -9,7 +9,7 @@ use manifest::Manifest;
 use std::alloc::Global;
 use world::{Event, Happened, World, run};
 
-/// Does a deed, and returns whether it was made to its end.
+/// Lets the event of `deed` happen, and returns whether it was made to its end.
 fn is_done(alloc: Global, world: &mut World, deed: Deed) -> bool {
     match event(alloc, deed) {
         Some(event) => {
@@ -21,7 +21,7 @@ fn is_done(alloc: Global, world: &mut World, deed: Deed) -> bool {
     }
 }
 
-/// Does deeds, one after the other.
+/// Does `deeds` one after another, and returns whether all were made.
 fn are_done(alloc: Global, world: &mut World, deeds: &[Deed]) -> bool {
     for deed in deeds {
         if !is_done(alloc, world, *deed) {
@@ -31,7 +31,7 @@ fn are_done(alloc: Global, world: &mut World, deeds: &[Deed]) -> bool {
     true
 }
 
-/// Does the deeds of a round as often as it says.
+/// Does the deeds of `round` as often as `round` says, and returns whether all were made.
 fn is_round_done(alloc: Global, world: &mut World, round: Round) -> bool {
     let (times, deeds) = round;
     for _ in 0..times {
@@ -42,7 +42,7 @@ fn is_round_done(alloc: Global, world: &mut World, round: Round) -> bool {
     true
 }
 
-/// Does rounds, one after the other.
+/// Does `rounds` one after another, and returns whether all deeds were made.
 fn are_rounds_done(alloc: Global, world: &mut World, rounds: &[Round]) -> bool {
     for round in rounds {
         if !is_round_done(alloc, world, *round) {
@@ -52,7 +52,7 @@ fn are_rounds_done(alloc: Global, world: &mut World, rounds: &[Round]) -> bool {
     true
 }
 
-/// Returns whether each deed of these rounds is made in a new world.
+/// Calls `are_rounds_done` with a new world.
 pub(crate) fn goes_on(alloc: Global, rounds: &[Round]) -> bool {
     match new_world(alloc) {
         Some(world) => {
@@ -65,7 +65,8 @@ pub(crate) fn goes_on(alloc: Global, rounds: &[Round]) -> bool {
     }
 }
 
-/// Hands the seat on from a daemon to one that starts, whose offer is the message of this position.
+/// Starts the daemon after `old`, whose offer is the message at the position `offer`, and hands the seat on to that
+/// daemon.
 fn is_handed_on(alloc: Global, world: &mut World, old: u64, offer: u64) -> bool {
     let new = old.wrapping_add(1);
     let after = |messages: u64| offer.wrapping_add(messages);
@@ -97,7 +98,7 @@ fn hands_on(alloc: Global, world: &mut World, times: u64) -> bool {
     true
 }
 
-/// Calls `hands_on` on a new world.
+/// Calls `hands_on` with a new world.
 pub(crate) fn are_handed_on(alloc: Global, times: u64) -> bool {
     match new_world(alloc) {
         Some(world) => {
@@ -110,7 +111,7 @@ pub(crate) fn are_handed_on(alloc: Global, times: u64) -> bool {
     }
 }
 
-/// Runs events over a manifest, and returns whether there are as many outcomes.
+/// Runs `events` over `manifest`, and returns whether there are as many outcomes as events.
 fn has_outcomes(alloc: Global, manifest: &Manifest, events: &[Event]) -> bool {
     match run(alloc, manifest, 8, events) {
         Ok((world, outcomes)) => {
@@ -123,7 +124,7 @@ fn has_outcomes(alloc: Global, manifest: &Manifest, events: &[Event]) -> bool {
     }
 }
 
-/// Puts `count` lookups, and returns whether all were put.
+/// Appends `count` lookups to `events`, and returns whether all could be made.
 fn are_put(alloc: Global, events: &mut Vec<Event>, count: usize) -> bool {
     for _ in 0..count {
         if !is_put(alloc, events, Deed::Issue(Wish::LookUp(1, b"src"))) {
@@ -133,7 +134,7 @@ fn are_put(alloc: Global, events: &mut Vec<Event>, count: usize) -> bool {
     true
 }
 
-/// Returns whether a list of `count` events is run.
+/// Puts `count` lookups into `events`. Returns whether a run of them has an outcome for each.
 fn are_run(alloc: Global, events: &mut Vec<Event>, count: usize) -> bool {
     if !are_put(alloc, events, count) {
         return false;
@@ -148,7 +149,7 @@ fn are_run(alloc: Global, events: &mut Vec<Event>, count: usize) -> bool {
     }
 }
 
-/// Calls `are_run` with a list that has room for `count` events.
+/// Calls `are_run` with an empty list that has room for `count` events.
 pub(crate) fn is_run(alloc: Global, count: usize) -> bool {
     match room(alloc, count) {
         Some(events) => {

@@ -93,7 +93,7 @@ static BAD_LINES: [&[u8]; 88] = [
     b"deliver \n",
 ];
 
-/// Returns whether each line is told as bad.
+/// Returns whether a script with each of these lines has the fault of a bad line.
 fn all_are_bad(alloc: Global) -> bool {
     for line in &BAD_LINES {
         if !prints(alloc, MANIFEST, line, b"fault: line 7: bad line\n") {

@@ -1,8 +1,8 @@
-//! Scripts at the bounds of their length and of their manifest's.
+//! Scripts and manifests of the greatest length, and of one line more.
 use super::prints;
 use std::alloc::{AllocError, Global};
 
-/// Adds a manifest of `lines` lines, the commit's with them.
+/// Appends a manifest of `lines` lines, with that of its commit among them.
 fn add_manifest(text: &mut String, lines: u32) -> Result<(), AllocError> {
     text.push_str("commit 0123456789abcdef0123456789abcdef01234567\n")?;
     for number in 1..lines {
@@ -11,8 +11,8 @@ fn add_manifest(text: &mut String, lines: u32) -> Result<(), AllocError> {
     Ok(())
 }
 
-/// Starts a daemon behind a manifest of `lines` lines, and returns whether this is printed. It is run again where an
-/// allocation may have been refused.
+/// Runs a script that starts a daemon over a manifest of `lines` lines, and returns whether it prints `printed`. Tries
+/// twice, since one allocation may be refused.
 fn starts_behind(alloc: Global, lines: u32, printed: &[u8]) -> bool {
     starts_once(alloc, lines, printed) || starts_once(alloc, lines, printed)
 }
@@ -31,7 +31,7 @@ fn takes_65536_lines_of_a_manifest_and_no_more(rt: HostRuntime) {
     assert!(rt; starts_behind(rt.alloc(), 65_537, b"fault: line 65537: TooManyLines\n"));
 }
 
-/// Adds a line `count` times.
+/// Appends `line` to `text`, `count` times.
 fn add_times(text: &mut String, line: &str, count: u32) -> Result<(), AllocError> {
     for _ in 0..count {
         text.push_str(line)?;
@@ -39,8 +39,8 @@ fn add_times(text: &mut String, line: &str, count: u32) -> Result<(), AllocError
     Ok(())
 }
 
-/// Returns whether a script of `bytes` bytes prints `line` `printed` times, where `count` lines `show` stand behind its
-/// first 51. It is run again where an allocation may have been refused.
+/// Returns whether `HEAD` and `count` lines `show` have `bytes` bytes, and print `line` `printed` times. Tries twice,
+/// since one allocation may be refused.
 fn shows(alloc: Global, bytes: usize, count: u32, line: &str, printed: u32) -> bool {
     shows_once(alloc, bytes, count, line, printed) || shows_once(alloc, bytes, count, line, printed)
 }
@@ -57,7 +57,7 @@ fn shows_once(alloc: Global, bytes: usize, count: u32, line: &str, printed: u32)
     shows
 }
 
-/// A manifest without files, and the line behind it.
+/// A manifest without files, and the line `--` after it.
 const HEAD: &[u8] = b"commit 0123456789abcdef0123456789abcdef01234567\n--\n";
 
 #[test]

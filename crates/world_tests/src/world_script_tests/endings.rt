@@ -1,4 +1,4 @@
-//! The program in processes in memory: their words and streams, what the streams get, and the status.
+//! The program in processes in memory: its words and streams, what the streams get, and the status.
 use self::rows::{ROWS, Rooms, Row, Words};
 use std::alloc::Global;
 use std::io::{self, ErrorKind, Write};
@@ -9,7 +9,7 @@ use world_script::{
 
 mod rows;
 
-/// A script on standard input, and two in files.
+/// The script on standard input. The two after it are in the files `shows` and `bad`.
 const INPUT: &[u8] = b"commit 0123456789abcdef0123456789abcdef01234567\n--\nstart\n";
 
 const SHOWS: &[u8] = b"commit 0123456789abcdef0123456789abcdef01234567\n--\nshow\n";
@@ -127,7 +127,7 @@ fn print_daemon<W: Write>(words: &DaemonWords<'_>, out: &mut W) -> io::Result<()
     out.flush()
 }
 
-/// A writer that takes `room` bytes.
+/// A writer that has room for `room` bytes. A write of more bytes fails.
 #[derive(Drop)]
 struct Room {
     text: Vec<u8>,
@@ -159,7 +159,7 @@ impl Write for Room {
     }
 }
 
-/// Returns the words, with the program's name in front, as the system gives them.
+/// Returns the program's name and `words`, as the system gives them, or an error if `words` is none.
 fn words_of(alloc: Global, words: Option<&[&str]>) -> io::Result<Vec<String>> {
     let Some(words) = words else {
         return Err(io::Error::from(ErrorKind::InvalidData));
@@ -174,7 +174,7 @@ fn words_of(alloc: Global, words: Option<&[&str]>) -> io::Result<Vec<String>> {
     }
 }
 
-/// Adds the program's name, and then words.
+/// Appends the program's name and `words` to `all`.
 fn add_words(alloc: Global, all: &mut Vec<String>, words: &[&str]) -> io::Result<()> {
     add_word(alloc, all, "edend")?;
     for word in words {
@@ -211,7 +211,8 @@ fn is_text(text: &[u8], want: &[u8]) -> bool {
     }
 }
 
-/// Returns whether the words of each row end as it says. Each are run again where an allocation may have been refused.
+/// Returns whether a process with the words of each row ends as the row says. Tries twice, since one allocation may be
+/// refused.
 fn all_end_so(alloc: Global) -> bool {
     for row in &ROWS {
         if !ends_so(alloc, row) && !ends_so(alloc, row) {

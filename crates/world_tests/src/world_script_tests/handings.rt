@@ -1,28 +1,29 @@
-//! A takeover of an image that is just short enough for one message, and of one that is too long for it.
+//! Takeovers of three images: one that just fits into one message, one that is too long for that, and the long one in
+//! parts.
 use super::prints;
 use std::alloc::{AllocError, Global};
 
-/// A manifest without a file.
+/// A manifest without files, and the line `--` after it.
 const BEGUN: &str = "commit 0123456789abcdef0123456789abcdef01234567\n--\n";
 
-/// A new daemon begins a session, and hears that the old one is ready. The old one hears that the new one is there, and
-/// is to make the data.
+/// The lines of a takeover until the old daemon makes the data. The offer, the choice, the old daemon's ready and the
+/// new one's pong are heard.
 const HANDING: &str = "hear 1 2\nhear 2 3\ndrained 1\nhear 2 4\nhear 1 5\n";
 
 /// Which image is handed over.
 #[derive(Clone, Copy)]
 enum Image {
-    /// That of 115 files, which has 64,577 bytes. The new daemon claims the seat.
+    /// The image of 115 files, which has 64,577 bytes. The new daemon claims the seat.
     Fits,
-    /// That of one file more, which has 65,138. The old daemon serves on.
+    /// The image of 116 files, which has 65,138 bytes. The old daemon serves on.
     IsTooLong,
-    /// The same in sixteen parts. The new daemon claims the seat.
+    /// The image of 116 files in sixteen parts. The new daemon claims the seat.
     InParts,
 }
 
 impl Image {
-    /// Returns how many files with names of 255 bytes are made. Each has an entry of 277 bytes, 11 for the file, and a
-    /// changed link of 273.
+    /// Returns how many files with names of 255 bytes are made. Each takes an entry of 277 bytes, a made file of 11,
+    /// and a changed link of 273.
     fn files(self) -> u32 {
         match self {
             Image::Fits => 115,
@@ -30,7 +31,7 @@ impl Image {
         }
     }
 
-    /// Returns how a daemon starts.
+    /// Returns the line that starts a daemon.
     fn start(self) -> &'static str {
         match self {
             Image::InParts => "start 1 2",
@@ -38,7 +39,7 @@ impl Image {
         }
     }
 
-    /// Returns which version is chosen.
+    /// Returns the version that is chosen.
     fn version(self) -> u16 {
         match self {
             Image::InParts => 2,
@@ -46,7 +47,7 @@ impl Image {
         }
     }
 
-    /// Returns how many messages the new daemon hears of the data, or of why there is none.
+    /// Returns how many messages the new daemon hears: those with the data, or the one that says there is no data.
     fn messages(self) -> u32 {
         match self {
             Image::InParts => 16,
@@ -54,7 +55,7 @@ impl Image {
         }
     }
 
-    /// Returns what is printed of the data.
+    /// Returns the line that is printed as the old daemon makes the data.
     fn said(self) -> &'static str {
         match self {
             Image::Fits => "said 6 data 1 1 64577\n",
@@ -63,7 +64,8 @@ impl Image {
         }
     }
 
-    /// Returns what is printed of the claim, and then. A daemon that heard of no data holds nothing to claim from.
+    /// Returns the lines that are printed for the claim and for a `getattr` after it. A daemon that was handed no data
+    /// can't claim.
     fn claimed(self) -> &'static str {
         match self {
             Image::Fits => "claimed 2\nanswer 116 attr 1 dir 0755 0 2\n",
@@ -73,21 +75,21 @@ impl Image {
     }
 }
 
-/// A script, and what it prints.
+/// The events of a script, and the lines that they print.
 #[derive(Drop)]
 struct Handing {
     events: String,
     lines: String,
 }
 
-/// Makes a file, whose name is its number with letters in front.
+/// Appends an event that makes a file, and its line. The name has 255 bytes: letters, and then `file` in digits.
 fn add_file(handing: &mut Handing, file: u32) -> Result<(), AllocError> {
     writeln!(handing.events, "do create 1 0644 {file:n>255}")?;
     let number = file.saturating_add(1);
     writeln!(handing.lines, "answer {file} opened {number} file 0644 0 1")
 }
 
-/// Lets the new daemon hear of the data, and claim the seat.
+/// Appends events by which the new daemon hears the data and claims the seat, and their lines.
 fn add_claim(handing: &mut Handing, image: Image) -> Result<(), AllocError> {
     handing.lines.push_str(image.said())?;
     for message in 0..image.messages() {
@@ -99,7 +101,7 @@ fn add_claim(handing: &mut Handing, image: Image) -> Result<(), AllocError> {
     handing.lines.push_str(image.claimed())
 }
 
-/// Makes files, and hands them over.
+/// Appends events that make files and hand them over, and their lines.
 fn add(handing: &mut Handing, image: Image) -> Result<(), AllocError> {
     let start = image.start();
     writeln!(handing.events, "{start}\nmount 1")?;
@@ -133,7 +135,7 @@ fn hands_once(alloc: Global, image: Image) -> bool {
     hands
 }
 
-/// Returns whether an image goes over as it should. It is made again where an allocation may have been refused.
+/// Returns whether the script of `image` prints its lines. Tries twice, since one allocation may be refused.
 fn hands(alloc: Global, image: Image) -> bool {
     hands_once(alloc, image) || hands_once(alloc, image)
 }

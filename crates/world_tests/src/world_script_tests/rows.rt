@@ -20,13 +20,13 @@ static ROWS: [(&[u8], &[u8], &[u8]); 44] = [
         b"start\nmount 1\nshow",
         b"daemon 1\nmounted 1\nseat 1 1 next 2\n",
     ),
-    // Refusals and errors.
+    // Refusals and errors of several kinds.
     (
         MANIFEST,
         b"show\nmount 1\ndo lookup 1 src\nstart\nmount 2\ndo forget 2 1\nmount 1\nmount 1\nstart\nmount 2\ndo lookup 1 nope\ndo lookup 1 README\ndo lookup 2 x\ndo lookup 9 x\ndo forget 1 1\ndo forget 2 2\ndo forget 2 0\ndo lookup 1 README\ndo forget 2 1\ndo forget 2 1\nshow\n",
         b"seat none\nrefused NoDaemon\nrefused NotMounted\ndaemon 1\nrefused NoDaemon\nrefused NotMounted\nmounted 1\nrefused WrongPhase\ndaemon 2\nrefused Seated\nanswer 1 error ENOENT\nanswer 2 entry 2 file 0644 7 1\nanswer 3 error ENOTDIR\nrefused NotHeld\nrefused BadForget\nrefused BadForget\nrefused BadForget\nanswer 4 entry 2 file 0644 7 1\nforgot Lowered\nforgot Dropped\nseat 1 1 next 3\n",
     ),
-    // Files are made and removed where there is a mount alone, in directories that are held.
+    // Files are made and removed only while there is a mount, and only in directories that are held.
     (
         MANIFEST,
         b"do create 1 0644 a\ndo mkdir 1 7777 d\ndo unlink 1 a b\ndo rmdir 1 d\nstart\nmount 1\ndo create 2 0000 a\ndo mkdir 2 0700 ...\ndo unlink 2 a\ndo rmdir 2 d\n",
@@ -38,7 +38,7 @@ static ROWS: [(&[u8], &[u8], &[u8]); 44] = [
         b"start\nmount 1\ndo getattr 1\ndo getattr 2\ndo lookup 1 README\ndo getattr 2\ndo other 15 1\ndo other 0 2\ndo other 4294967295 2\ndo forget 2 1\ndo getattr 2\nshow\n",
         b"daemon 1\nmounted 1\nanswer 1 attr 1 dir 0755 0 2\nrefused NotHeld\nanswer 2 entry 2 file 0644 7 1\nanswer 3 attr 2 file 0644 7 1\nanswer 4 error ENOSYS\nanswer 5 error ENOSYS\nanswer 6 error ENOSYS\nforgot Dropped\nrefused NotHeld\nseat 1 1 next 3\n",
     ),
-    // A name is taken out, and the number goes on naming its file.
+    // A name is removed, and its number goes on naming the file.
     (
         MANIFEST,
         b"start\nmount 1\ndo create 1 0644 a\ndo unlink 1 a\ndo create 1 0600 a\ndo getattr 2\ndo getattr 3\nshow\n",
@@ -50,7 +50,7 @@ static ROWS: [(&[u8], &[u8], &[u8]); 44] = [
         b"start\nmount 1\ndo rmdir 1 src\ndo unlink 1 src\ndo rmdir 1 README\ndo lookup 1 nope\ndo mkdir 1 0700 d\ndo mkdir 1 0700 d\ndo rmdir 1 d\ndo create 2 0600 x\ndo getattr 2\ndo other 15 1\ndo lookup 9 x\n",
         b"daemon 1\nmounted 1\nanswer 1 error ENOTEMPTY\nanswer 2 error EISDIR\nanswer 3 error ENOTDIR\nanswer 4 error ENOENT\nanswer 5 entry 2 dir 0700 0 2\nanswer 6 error EEXIST\nanswer 7 done\nanswer 8 error ENOENT\nanswer 9 attr 2 dir 0700 0 0\nanswer 10 error ENOSYS\nrefused NotHeld\n",
     ),
-    // Zeros in front, and names to the end of the line.
+    // Numbers with zeros in front, and names that go to the end of the line.
     (
         MANIFEST,
         b"start\nmount 0000000000000000000000000000000000000001\ndo lookup 1  src\ndo lookup 1 src \ndo lookup 1 src\r\ndo lookup 01 README\ndo forget 2 18446744073709551615\nshow",
@@ -80,25 +80,25 @@ static ROWS: [(&[u8], &[u8], &[u8]); 44] = [
         b"start\nmount 1\ndo lookup 1 src\nissue lookup 2 a\nissue getattr 2\nissue forget 2 1\ntake 1\ntake 1\ntake 1\nwork 1 3\nwork 1 1\nwork 1 1\nshow\n",
         b"daemon 1\nmounted 1\nanswer 1 entry 2 dir 0755 0 2\nasked 2\nasked 3\nasked\ntook 2\ntook 3\ntook forgets 1\nforgot Dropped\nmade 2 error ESTALE\nmade 3 error ESTALE\nseat 1 1 next 3\n",
     ),
-    // What is asked of daemons that aren't there, wait, or have nothing in hand.
+    // Events of daemons that do not exist, that wait, or that have nothing in hand.
     (
         MANIFEST,
         b"issue lookup 1 src\ntake 1\ndeliver\nstart\ntake 1\nwork 1 1\npost 1 1\nwork 2 1\npost 0 1\nmount 1\ntake 1\nwork 1 0\nwork 1 18446744073709551615\npost 1 1\ndeliver\nissue getattr 2\nissue forget 1 1\n",
         b"refused NotMounted\nrefused NoDaemon\nrefused Empty\ndaemon 1\nrefused WrongPhase\nrefused NoSuch\nrefused NoSuch\nrefused NoDaemon\nrefused NoDaemon\nmounted 1\nrefused Empty\nrefused NoSuch\nrefused NoSuch\nrefused NoSuch\nrefused Empty\nrefused NotHeld\nrefused BadForget\n",
     ),
-    // A `do` takes what waits first, and ends where an event is refused.
+    // A `do` takes what has waited longest, and ends at the first event that is refused.
     (
         MANIFEST,
         b"start\nmount 1\nissue lookup 1 src\ndo lookup 1 README\nissue forget 2 1\ntake 1\ntake 1\nwork 1 1\ndo lookup 1 src\nshow\n",
         b"daemon 1\nmounted 1\nasked 1\nanswer 1 entry 2 dir 0755 0 2\nasked\ntook 2\ntook forgets 1\nmade 2 entry 3 file 0644 7 1\nanswer 2 entry 3 file 0644 7 1\nseat 1 1 next 4\nnumber 3 held 1 up 0 down 0 count 1 at 1 README\n",
     ),
-    // The backing fails where it is asked alone.
+    // The backing fails only if it is asked.
     (
         MANIFEST,
         b"start\nmount 1\nissue lookup 1 README\ntake 1\nwork 1 1 fail\npost 1 1\ndeliver\ndo lookup 1 README\nissue getattr 2\ntake 1\nwork 1 1 fail\nshow\n",
         b"daemon 1\nmounted 1\nasked 1\ntook 1\nmade 1 error EIO\nposted 1\nanswer 1 error EIO\nanswer 2 entry 2 file 0644 7 1\nasked 3\ntook 3\nmade 3 attr 2 file 0644 7 1\nseat 1 1 next 3\nnumber 2 held 1 up 0 down 0 count 1 at 1 README\n",
     ),
-    // The first bad line is told, and no line is run.
+    // The first bad line is printed as the fault, and no line is run.
     (
         MANIFEST,
         b"start\nmount 1\nfoo\nbar\n",
@@ -163,17 +163,17 @@ static ROWS: [(&[u8], &[u8], &[u8]); 44] = [
         b"dir src\n--\nstart\n",
         b"fault: line 3: Twice\n",
     ),
-    // The manifest's fault comes before a bad line.
+    // A fault of the manifest is printed rather than a bad line after it.
     (
         b"commit 0123456789abcdef0123456789abcdef01234567\ndir src\n",
         b"dir src\n--\nfoo\n",
         b"fault: line 3: Twice\n",
     ),
-    // No line `--` comes before a fault of the manifest.
+    // A missing line `--` is printed as the fault, rather than a fault of the manifest.
     (b"dir src/\n", b"start\n", b"fault: no events\n"),
     // A second line `--` is a bad line.
     (MANIFEST, b"start\n--\n", b"fault: line 8: bad line\n"),
-    // A daemon takes over, and a number whose file has no name any more goes on naming it.
+    // A daemon takes over. A number whose file was unlinked still names that file.
     (
         MANIFEST,
         b"start\nmount 1\ndo lookup 1 src\ndo lookup 1 README\ndo lookup 1 README\ndo lookup 1 README\ndo create 1 0600 t\ndo unlink 1 t\nstart\nhear 1 2\nhear 2 3\ndrained 1\nhear 2 4\nhear 1 5\nhear 2 6\nclaim 2\ndo getattr 4\ndo forget 3 2\nshow\n",
@@ -191,13 +191,13 @@ static ROWS: [(&[u8], &[u8], &[u8]); 44] = [
         b"start\nmount 1\ndo lookup 1 src\nissue lookup 1 src\ntake 1\nwork 1 1\npost 1 1\nstart\nhear 1 2\nhear 2 3\ndrained 1\nhear 2 4\nhear 1 5\ndeliver\nissue forget 2 1\nhear 2 6\nclaim 2\nshow\ntake 2\nwork 2 1\nshow\n",
         b"daemon 1\nmounted 1\nanswer 1 entry 2 dir 0755 0 2\nasked 2\ntook 2\nmade 2 entry 2 dir 0755 0 2\nposted 2\ndaemon 2\nsaid 3 choice 1 1\nheard\nsaid 4 ready 1 1\nsaid 5 pong 1\nsaid 6 data 1 1 87\nanswer 2 entry 2 dir 0755 0 2\nasked\nheard\nclaimed 2\nseat 2 2 next 3\nnumber 2 held 1 up 1 down 0 count 2 at 1 src\ntook forgets 1\nforgot Lowered\nseat 2 2 next 3\nnumber 2 held 1 up 0 down 0 count 1 at 1 src\n",
     ),
-    // The old daemon resumes, and the new one claims too late.
+    // The old daemon claims the seat again, and the new one claims too late.
     (
         MANIFEST,
         b"start\nmount 1\nstart\nhear 1 2\nhear 2 3\ndrained 1\nhear 2 4\nhear 1 5\ngiveup 1\nclaim 1\nhear 2 6\nclaim 2\nshow\n",
         b"daemon 1\nmounted 1\ndaemon 2\nsaid 3 choice 1 1\nheard\nsaid 4 ready 1 1\nsaid 5 pong 1\nsaid 6 data 1 1 62\nsaid 7 failed 1\nclaimed 2\nheard\nrefused Stale 2\nseat 2 1 next 2\n",
     ),
-    // Two daemons hear the same data, and one has the seat.
+    // Two daemons hear the same data, and one of them gets the seat.
     (
         MANIFEST,
         b"start\nmount 1\nstart\nstart\nhear 1 2\nhear 2 4\nhear 3 4\ndrained 1\nhear 2 5\nhear 1 6\nhear 2 7\nhear 3 7\nhear 2 7\nclaim 3\nclaim 2\ngiveup 1\nclaim 1\nshow\n",
@@ -215,13 +215,13 @@ static ROWS: [(&[u8], &[u8], &[u8]); 44] = [
         b"start 2 1\nmount 1\nstart 1\nhear 1 2\nhear 2 3\ndrained 1\nhear 2 4\nhear 1 5\nhear 2 6\nclaim 2\n",
         b"daemon 1\nmounted 1\ndaemon 2\nsaid 3 choice 1 1\nheard\nsaid 4 ready 1 1\nsaid 5 pong 1\nsaid 6 data 1 1 62\nheard\nclaimed 2\n",
     ),
-    // Eight versions, and zeros in front. The image of version 2 goes in parts, also where one is enough.
+    // Eight versions, with zeros in front. The image of version 2 goes in parts, even if one part is enough.
     (
         MANIFEST,
         b"start 00001 0 65535 1 7 7 7 2\nmount 1\nstart 2 0\nhear 1 2\nhear 2 3\ndrained 1\nhear 2 4\nhear 1 5\nhear 2 6\nclaim 2\n",
         b"daemon 1\nmounted 1\ndaemon 2\nsaid 3 choice 1 2\nheard\nsaid 4 ready 1 1\nsaid 5 pong 1\nsaid 6 parts 1 1 1 62\nheard\nclaimed 2\n",
     ),
-    // No version is one that both have.
+    // The two daemons have no version in common.
     (
         MANIFEST,
         b"start 2\nmount 1\nstart\nhear 1 2\nhear 2 3\nclaim 2\n",

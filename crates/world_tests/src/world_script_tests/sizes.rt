@@ -1,14 +1,14 @@
-//! Scripts beyond the sizes that worked rows have: many daemons, long names, many numbers in deep and wide trees, and
-//! as much under way as may be.
+//! Scripts beyond the sizes of the worked rows: many daemons, long names, many numbers in deep and wide trees, and as
+//! many asks and forgets under way as there may be.
 use super::prints;
 use std::alloc::{AllocError, Global};
 
-/// How many directories lie in one another, and how many files in one directory.
+/// How many directories lie in one another. `WIDTH` is how many files lie in one directory.
 const DEPTH: u32 = 300;
 
 const WIDTH: u32 = 300;
 
-/// How many asks may be under way, and how many forgets may wait.
+/// How many asks may be under way. `FORGETS` is how many forgets may wait.
 const ASKS: u32 = 1024;
 
 const FORGETS: u32 = 4096;
@@ -23,7 +23,7 @@ enum Many {
     Forgets,
 }
 
-/// A script in two parts, and what it prints.
+/// A script: its manifest, its events, and the lines that it prints.
 #[derive(Drop)]
 struct Long {
     manifest: String,
@@ -31,7 +31,7 @@ struct Long {
     lines: String,
 }
 
-/// Returns whether a script of many prints what it should. It is made again where an allocation may have been refused.
+/// Returns whether the script of `many` prints its lines. Tries twice, since one allocation may be refused.
 fn prints_many(alloc: Global, many: Many) -> bool {
     prints_many_once(alloc, many) || prints_many_once(alloc, many)
 }
@@ -53,7 +53,7 @@ fn prints_many_once(alloc: Global, many: Many) -> bool {
     prints
 }
 
-/// Starts a daemon behind a manifest, and adds many.
+/// Appends the script of `many`: first the commit and the start of a daemon, and then the many events.
 fn add(long: &mut Long, many: Many) -> Result<(), AllocError> {
     long.manifest
         .push_str("commit 0123456789abcdef0123456789abcdef01234567\n")?;
@@ -68,7 +68,7 @@ fn add(long: &mut Long, many: Many) -> Result<(), AllocError> {
     }
 }
 
-/// Starts a daemon more than there may be.
+/// Appends events that start one daemon more than there may be, and their lines.
 fn add_daemons(long: &mut Long) -> Result<(), AllocError> {
     for daemon in 2..1025u32 {
         long.events.push_str("start\n")?;
@@ -84,8 +84,8 @@ fn starts_1024_daemons_and_no_more(rt: HostRuntime) {
     assert!(rt; prints_many(rt.alloc(), Many::Daemons));
 }
 
-/// Looks directories in one another up, and forgets them from the top: each but the last is kept for the one below it,
-/// and with the last all leave.
+/// Appends events that look directories up, each in the one before, and forget them from the top. Each is kept for the
+/// one below it, and all are dropped with the last.
 fn add_directories(long: &mut Long) -> Result<(), AllocError> {
     long.events.push_str("mount 1\n")?;
     long.lines.push_str("mounted 1\n")?;
@@ -100,7 +100,7 @@ fn add_directories(long: &mut Long) -> Result<(), AllocError> {
     long.lines.push_str("forgot Dropped\nseat 1 1 next 302\n")
 }
 
-/// Looks the directory at a depth up, whose path is `depth` names `d`.
+/// Appends the directory `d/d/..` of `depth` names to the manifest, and the event that looks it up, with its line.
 fn add_directory(long: &mut Long, depth: u32) -> Result<(), AllocError> {
     long.manifest.push_str("dir d")?;
     for _ in 1..depth {
@@ -117,7 +117,7 @@ fn keeps_300_directories_for_the_one_below(rt: HostRuntime) {
     assert!(rt; prints_many(rt.alloc(), Many::Directories));
 }
 
-/// Looks files with names of 255 bytes up, shows them, and forgets them.
+/// Appends events that look files with names of 255 bytes up, show them and forget them, and their lines.
 fn add_files(long: &mut Long) -> Result<(), AllocError> {
     long.events.push_str("mount 1\n")?;
     long.lines.push_str("mounted 1\n")?;
@@ -136,7 +136,8 @@ fn add_files(long: &mut Long) -> Result<(), AllocError> {
     long.lines.push_str("seat 1 1 next 302\n")
 }
 
-/// Looks a file up, whose name is its number with letters in front.
+/// Appends a file to the manifest, and the event that looks it up, with its line. The name has 255 bytes: letters, and
+/// then `file` in digits.
 fn add_file(long: &mut Long, file: u32) -> Result<(), AllocError> {
     writeln!(long.manifest, "file 0644 1 {file:n>255}")?;
     writeln!(long.events, "do lookup 1 {file:n>255}")?;
@@ -145,7 +146,7 @@ fn add_file(long: &mut Long, file: u32) -> Result<(), AllocError> {
     writeln!(long.lines, "answer {unique} entry {number} file 0644 1 1")
 }
 
-/// Shows a file.
+/// Appends the line that shows `file`.
 fn show_file(long: &mut Long, file: u32) -> Result<(), AllocError> {
     let number = file.saturating_add(2);
     writeln!(
@@ -154,7 +155,7 @@ fn show_file(long: &mut Long, file: u32) -> Result<(), AllocError> {
     )
 }
 
-/// Forgets a file.
+/// Appends the event that forgets `file`, and its line.
 fn forget_file(long: &mut Long, file: u32) -> Result<(), AllocError> {
     let number = file.saturating_add(2);
     writeln!(long.events, "do forget {number} 1")?;
@@ -166,7 +167,8 @@ fn gives_300_files_with_names_of_255_bytes(rt: HostRuntime) {
     assert!(rt; prints_many(rt.alloc(), Many::Files));
 }
 
-/// Issues an ask more than may be under way, works and posts them, and delivers them.
+/// Appends events that issue as many asks as may be under way, work, post and deliver them, and issue one more. Appends
+/// their lines too.
 fn add_asks(long: &mut Long) -> Result<(), AllocError> {
     long.events.push_str("mount 1\n")?;
     long.lines.push_str("mounted 1\n")?;
@@ -185,7 +187,8 @@ fn add_asks(long: &mut Long) -> Result<(), AllocError> {
     long.lines.push_str("asked 1025\n")
 }
 
-/// Works and posts an ask. No other can be issued meanwhile.
+/// Appends events that take, work and post the ask `unique`, and their lines. The ask that is issued after them is
+/// refused.
 fn post_ask(long: &mut Long, unique: u32) -> Result<(), AllocError> {
     long.events
         .push_str("take 1\nwork 1 1\npost 1 1\nissue getattr 1\n")?;
@@ -200,7 +203,7 @@ fn has_1024_asks_under_way_and_no_more(rt: HostRuntime) {
     assert!(rt; prints_many(rt.alloc(), Many::Asks));
 }
 
-/// Forgets a file more often than forgets may wait, and works them all.
+/// Appends events that forget a file once more than forgets may wait, and work all that wait. Appends their lines too.
 fn add_forgets(long: &mut Long) -> Result<(), AllocError> {
     long.manifest.push_str("file 0644 1 f\n")?;
     long.events.push_str("mount 1\n")?;
@@ -220,7 +223,7 @@ fn add_forgets(long: &mut Long) -> Result<(), AllocError> {
     work_forgets(long)
 }
 
-/// Takes the forgets that wait, as many at once as there may be, and works each.
+/// Appends events that take the waiting forgets, 256 at once, and work each, and their lines.
 fn work_forgets(long: &mut Long) -> Result<(), AllocError> {
     for _ in 0..FORGETS / 256 {
         long.events.push_str("take 1\n")?;

@@ -7,7 +7,7 @@ use std::alloc::Global;
 use std::io::{self, BufWriter, ErrorKind, Read, Write};
 use world_script::{DEFAULT_LIMIT, Fault, run_world};
 
-/// What a reader does once its text is read.
+/// What a reader does after its text was read.
 #[derive(Clone, Copy)]
 enum AfterText {
     Ends,
@@ -16,7 +16,7 @@ enum AfterText {
     IsInterrupted,
 }
 
-/// A reader of a text, one byte at a time and each second time interrupted, which counts its reads.
+/// A reader that gives a text byte by byte. Every second read is interrupted, and all reads are counted.
 #[derive(Drop)]
 struct Stutter<'a> {
     rest: &'a [u8],
@@ -53,8 +53,8 @@ fn after_text(after: AfterText, buf: &mut [u8]) -> io::Result<usize>
     }
 }
 
-/// Runs a script from a reader that fails or ends as `after` says. Returns whether the result is `want` after `reads`
-/// reads, with no byte written. It is run again where an allocation may have been refused.
+/// Runs the script `MANIFEST` from a reader that goes on as `after` says. Returns whether the result is `want`, after
+/// `reads` reads and no write. Tries twice, since one allocation may be refused.
 fn reads_so(alloc: Global, after: AfterText, want: Result<(), Fault>, reads: usize) -> bool {
     reads_once(alloc, after, want, reads) || reads_once(alloc, after, want, reads)
 }
@@ -70,7 +70,8 @@ fn reads_once(alloc: Global, after: AfterText, want: Result<(), Fault>, reads: u
     ran == want && reader.reads == reads && out.writes == 0
 }
 
-/// The reads of the text are 229; then come 64 of 16,384 bytes, as many as may be, or one.
+/// The text takes 229 reads, and its end or a failure one more. If LFs follow, 64 reads of 16,384 bytes are made until
+/// the script is too long. If only interrupted reads follow, 2,097,152 reads are made in all.
 #[test]
 fn reads_to_the_end_and_no_further(rt: HostRuntime) {
     let unread = Err(Fault::CannotRead);
@@ -80,7 +81,7 @@ fn reads_to_the_end_and_no_further(rt: HostRuntime) {
     assert!(rt; reads_so(rt.alloc(), AfterText::IsInterrupted, unread, 2_097_152));
 }
 
-/// A writer that takes `room` bytes, and counts its writes.
+/// A writer that takes `room` bytes in all, and counts its writes.
 #[derive(Drop)]
 struct Full {
     room: usize,
@@ -103,12 +104,12 @@ impl Write for Full {
     }
 }
 
-/// A script of three printed lines, of 35 bytes.
+/// A script that prints three lines, of 35 bytes together.
 const THREE_LINES: &[u8] =
     b"commit 0123456789abcdef0123456789abcdef01234567\n--\nstart\nmount 1\nshow\n";
 
-/// Runs a script with a writer that takes `room` bytes. Returns whether the result is `want` after `writes` writes. It
-/// is run again where an allocation may have been refused.
+/// Runs `THREE_LINES` with a writer that takes `room` bytes. Returns whether the result is `want` after `writes`
+/// writes. Tries twice, since one allocation may be refused.
 fn writes_so(alloc: Global, room: usize, want: Result<(), Fault>, writes: u32) -> bool {
     writes_once(alloc, room, want, writes) || writes_once(alloc, room, want, writes)
 }

@@ -1,14 +1,14 @@
-//! Events of a world and their outcomes as data, so that a test is a table.
+//! Events of a world with their expected outcomes, as data. A test is a table of such events.
 use eden_base::Errno;
 use inode_map::Forgot;
 use world::Refusal;
 
-/// A request of the kernel. A batch takes number 2 back twice.
+/// A request of the kernel, as data. The batch has two items, each of one lookup of number 2.
 #[derive(Clone, Copy)]
 pub enum Wish {
     LookUp(u64, &'static [u8]),
     Create(u64, &'static [u8]),
-    /// A file in the root whose name has 255 bytes, and ends with this number.
+    /// CREATE of a name of 255 bytes in the root, which ends with this number in digits.
     CreateLong(u64),
     Unlink(u64, &'static [u8]),
     Getattr(u64),
@@ -17,12 +17,12 @@ pub enum Wish {
     ForgetBatch,
 }
 
-/// An event.
+/// An event, as data.
 #[derive(Clone, Copy)]
 pub enum Deed {
-    /// A daemon that has version 1 alone.
+    /// A daemon starts that has version 1 alone.
     Start,
-    /// A daemon that has these versions, of which there are at most eight.
+    /// A daemon starts that has these versions, at most eight.
     StartWith(&'static [u16]),
     Mount(u64),
     Issue(Wish),
@@ -31,7 +31,7 @@ pub enum Deed {
     WorkFails(u64, u64),
     Post(u64, u64),
     Deliver,
-    /// The daemon, and the position of the message that it hears.
+    /// A daemon hears the message at a position.
     Hear(u64, u64),
     Drained(u64),
     GiveUp(u64),
@@ -46,7 +46,7 @@ pub enum Deed {
 pub enum Look {
     /// A directory of the manifest.
     Directory,
-    /// A file, by its bytes and its links.
+    /// A file, by its size and its count of links.
     File(u64, u32),
 }
 
@@ -65,7 +65,7 @@ pub enum Said {
 pub enum Fact {
     Started(u64),
     Mounted(u64),
-    /// An ask waits under this unique, or a forget without one.
+    /// An ask waits with this unique, or a forget, which has none.
     Asked(Option<u64>),
     Took(u64),
     TookForgets(usize),
@@ -86,14 +86,14 @@ pub enum Fact {
 pub enum Told {
     Nothing,
     One(Fact),
-    /// A forget of one item was carried out.
+    /// A `do` of a FORGET, whose item was applied.
     Forgot(u64, u64, Forgot),
-    /// An ask was carried out.
+    /// A `do` of an ask, whose answer reached the kernel.
     Answered(u64, Said),
     All(&'static [Fact]),
 }
 
-/// One part of a text: its session and generation, its position, how many there are, and its length.
+/// A part of an image: its session, its generation, its position, the count of parts, and the length of its bytes.
 #[derive(Clone, Copy)]
 pub struct Part {
     pub session: u32,
@@ -106,9 +106,9 @@ pub struct Part {
 /// A fact about a world after its events.
 #[derive(Clone, Copy)]
 pub enum Found {
-    /// Daemon 1 keeps this number of `src` alone, and the kernel holds it once. The second number is given next.
+    /// Daemon 1 keeps this number of `src` and no other, and the kernel holds it once. The second number is given next.
     Alone(u64, u64),
-    /// Who has the seat at which generation.
+    /// The daemon that has the seat, and the generation of the seat.
     Seat(u64, u64),
     /// A daemon serves nothing.
     NotServed(u64),
@@ -116,16 +116,16 @@ pub enum Found {
     UnderWay(u64, usize, usize),
     /// The position of the message that is data of the seat's generation, if there is one.
     Handed(Option<usize>),
-    /// A daemon counts each number from 2 on once, as many as this, and the kernel holds it once.
+    /// A daemon counts this many numbers, from 2 on, once each, and the kernel holds each of them once.
     EachOnce(u64, u64),
-    /// The message of a position begins a session with a version.
+    /// The message at a position is the choice of a session and a version.
     Chosen(usize, u32, u16),
-    /// The message of a position is a part.
+    /// The message at a position is this part.
     Part(usize, Part),
 }
 
-/// Four counts of number 2: daemon 1's, the kernel's, that of waiting replies which give it out, and that of waiting
-/// items which take it back.
+/// Four counts of number 2: how often daemon 1 counts it, how often the kernel holds it, how often posted replies give
+/// it out, and how many of its lookups waiting items take back.
 pub type Counts = [u64; 4];
 
 pub(crate) const LOOK_UP_SRC: Wish = Wish::LookUp(1, b"src");
@@ -133,5 +133,5 @@ pub(crate) const LOOK_UP_SRC: Wish = Wish::LookUp(1, b"src");
 /// The attributes of a made file.
 pub(crate) const CREATED: Look = Look::File(0, 1);
 
-/// An entry of `src` under number 2.
+/// The answer with an entry of `src`, which has number 2.
 pub(crate) const SRC: Said = Said::Entry(2, Look::Directory);

@@ -1,5 +1,4 @@
-//! The events of deeds, and the manifest that they happen over: calls that take memory, each made once more where it
-//! was refused.
+//! The events of deeds, and the manifest of their worlds. A call that was refused memory is made once more.
 use super::deeds::{Deed, Told, Wish};
 use eden_base::{DaemonId, Name, Number, Perm};
 use fuse_wire::{Batch, Item, Request};
@@ -11,7 +10,7 @@ use world::Event;
 const TEXT: &[u8] =
     b"commit 0123456789abcdef0123456789abcdef01234567\ndir src\nfile 0644 12 src/a\nfile 0755 0 src/b\nfile 0644 7 README\n";
 
-/// Reads the manifest, and once more where memory was refused.
+/// Reads the manifest `TEXT`, and tries once more if memory was refused.
 pub(crate) fn manifest(alloc: Global) -> Option<Manifest> {
     match Manifest::read(alloc, TEXT) {
         Ok(manifest) => Some(manifest),
@@ -19,7 +18,7 @@ pub(crate) fn manifest(alloc: Global) -> Option<Manifest> {
     }
 }
 
-/// Makes a name, and once more where memory was refused.
+/// Makes a name of `bytes`, and tries once more if memory was refused.
 fn name(alloc: Global, bytes: &[u8]) -> Option<Name> {
     match Name::parse(alloc, bytes) {
         Ok(name) => Some(name),
@@ -27,7 +26,7 @@ fn name(alloc: Global, bytes: &[u8]) -> Option<Name> {
     }
 }
 
-/// Makes a name of 255 bytes that ends with a number.
+/// Makes a name of 255 bytes that ends with `number` in digits.
 fn long_name_once(alloc: Global, number: u64) -> Option<Name> {
     let text = format!(in alloc; "{number:n>255}").ok()?;
     let name = Name::parse(alloc, text.as_bytes());
@@ -35,7 +34,7 @@ fn long_name_once(alloc: Global, number: u64) -> Option<Name> {
     name.ok()
 }
 
-/// Makes that name, and once more where memory was refused.
+/// Calls `long_name_once`, and once more if the first call returned none.
 fn long_name(alloc: Global, number: u64) -> Option<Name> {
     match long_name_once(alloc, number) {
         Some(name) => Some(name),
@@ -50,7 +49,7 @@ pub(crate) fn item(node: u64, k: u64) -> Item {
     }
 }
 
-/// Makes a batch, and once more where memory was refused.
+/// Makes the batch of two items, and tries once more if memory was refused.
 fn batch(alloc: Global) -> Option<Batch> {
     let items = [item(2, 1), item(2, 1)];
     match Batch::of(alloc, &items) {
@@ -59,7 +58,7 @@ fn batch(alloc: Global) -> Option<Batch> {
     }
 }
 
-/// Makes the request of a wish.
+/// Makes the request of `wish`, or returns none if memory was refused.
 fn request(alloc: Global, wish: Wish) -> Option<Request> {
     match wish {
         Wish::LookUp(dir, bytes) => Some(Request::Lookup {
@@ -90,7 +89,7 @@ fn request(alloc: Global, wish: Wish) -> Option<Request> {
     }
 }
 
-/// Makes the start of a daemon with these versions, of which there are at most eight.
+/// Makes the start of a daemon with `versions`, or returns none if there are more than eight.
 pub(crate) fn start(versions: &[u16]) -> Option<Event> {
     if versions.len() > Versions::MAX_LEN {
         return None;
@@ -106,7 +105,7 @@ fn work(daemon: u64, position: u64, fails: bool) -> Event {
     }
 }
 
-/// Makes the event of a deed.
+/// Makes the event of `deed`, or returns none if it could not be made.
 pub(crate) fn event(alloc: Global, deed: Deed) -> Option<Event> {
     match deed {
         Deed::Start => start(&[1]),
@@ -134,7 +133,7 @@ pub(crate) fn event(alloc: Global, deed: Deed) -> Option<Event> {
     }
 }
 
-/// Makes room for `deeds` events, and once more where memory was refused.
+/// Makes a list with room for `deeds` events, and tries once more if memory was refused.
 pub(crate) fn room(alloc: Global, deeds: usize) -> Option<Vec<Event>> {
     match Vec::with_capacity(alloc, deeds) {
         Ok(events) => Some(events),
@@ -142,7 +141,7 @@ pub(crate) fn room(alloc: Global, deeds: usize) -> Option<Vec<Event>> {
     }
 }
 
-/// Puts an event behind the others, and returns whether it was made.
+/// Appends the event of `deed` to `events`, and returns whether it could be made.
 pub(crate) fn is_put(alloc: Global, events: &mut Vec<Event>, deed: Deed) -> bool {
     match event(alloc, deed) {
         Some(event) => {
@@ -155,7 +154,7 @@ pub(crate) fn is_put(alloc: Global, events: &mut Vec<Event>, deed: Deed) -> bool
     }
 }
 
-/// Puts the events of deeds behind the others, and returns whether all were made.
+/// Appends the events of `deeds` to `events`, and returns whether all could be made.
 pub(crate) fn are_put(alloc: Global, events: &mut Vec<Event>, deeds: &[(Deed, Told)]) -> bool {
     for (deed, _told) in deeds {
         if !is_put(alloc, events, *deed) {

@@ -45,7 +45,7 @@ fn reply(unique: u64, said: Said) -> Reply {
     Reply { unique, answer }
 }
 
-/// Returns a fact as a world tells it.
+/// Returns `fact` as a world tells it.
 pub(crate) fn happened(fact: Fact) -> Happened {
     match fact {
         Fact::Started(daemon) => Happened::Started(DaemonId(daemon)),
@@ -69,7 +69,7 @@ pub(crate) fn happened(fact: Fact) -> Happened {
     }
 }
 
-/// Tells of a forget of one item that was carried out.
+/// Returns the facts of a `do` that forgets one item.
 fn forgotten(node: u64, k: u64, forgot: Forgot) -> [Fact; 3] {
     [
         Fact::Asked(None),
@@ -78,7 +78,7 @@ fn forgotten(node: u64, k: u64, forgot: Forgot) -> [Fact; 3] {
     ]
 }
 
-/// Tells of an ask that was carried out.
+/// Returns the facts of a `do` whose ask is answered.
 fn answered(unique: u64, said: Said) -> [Fact; 5] {
     [
         Fact::Asked(Some(unique)),
@@ -89,7 +89,7 @@ fn answered(unique: u64, said: Said) -> [Fact; 5] {
     ]
 }
 
-/// Returns whether just this happened, in this order.
+/// Returns whether `all` are just `facts`, in this order.
 fn is_all(all: &[Happened], facts: &[Fact]) -> bool {
     if all.len() != facts.len() {
         return false;
@@ -102,7 +102,7 @@ fn is_all(all: &[Happened], facts: &[Fact]) -> bool {
     true
 }
 
-/// Returns whether an event made just this happen.
+/// Returns whether `outcome` has just the facts of `told`.
 pub(crate) fn is_told(outcome: &Outcome, told: Told) -> bool {
     let all = outcome.happened();
     match told {
@@ -114,7 +114,8 @@ pub(crate) fn is_told(outcome: &Outcome, told: Told) -> bool {
     }
 }
 
-/// Returns whether a map's only number names `src` and is held once, and this one is given next.
+/// Returns whether `number` is the only entry of `map`, names `src` and has count 1, no forget was bad, and `next` is
+/// the next number.
 fn keeps_src_alone(map: &InodeMap, number: Number, next: u64) -> bool {
     if map.after(Number(0)) != Some(number) || map.after(number).is_some() {
         return false;
@@ -130,7 +131,7 @@ fn keeps_src_alone(map: &InodeMap, number: Number, next: u64) -> bool {
     }
 }
 
-/// Returns whether daemon 1 keeps this number of `src` alone, the kernel holds it once, and that one is given next.
+/// Returns whether `number` of `src` is the only entry of daemon 1, the kernel holds it once, and `next` is given next.
 fn keeps_alone(world: &World, number: Number, next: u64) -> bool {
     let Some(served) = world.served(DaemonId(1)) else {
         return false;
@@ -138,7 +139,8 @@ fn keeps_alone(world: &World, number: Number, next: u64) -> bool {
     keeps_src_alone(served.map(), number, next) && world.broker().held(number) == 1
 }
 
-/// Returns whether a daemon counts each number from 2 on once, as many as this, and the kernel holds it once.
+/// Returns whether `daemon` counts `numbers` numbers, from 2 on, once each and no others, and the kernel holds each of
+/// them once.
 fn counts_each_once(world: &World, daemon: DaemonId, numbers: u64) -> bool {
     let Some(served) = world.served(daemon) else {
         return false;
@@ -155,12 +157,12 @@ fn counts_each_once(world: &World, daemon: DaemonId, numbers: u64) -> bool {
     served.map().after(last).is_none()
 }
 
-/// Returns the message of a position.
+/// Returns the message at `position`, or none.
 fn message(world: &World, position: usize) -> Option<&Message> {
     world.messages().get(position.checked_sub(1)?)
 }
 
-/// Returns whether a message is this part.
+/// Returns whether `message` is `part`.
 fn is_part(message: Option<&Message>, part: Part) -> bool {
     match message {
         Some(
@@ -180,7 +182,7 @@ fn is_part(message: Option<&Message>, part: Part) -> bool {
     }
 }
 
-/// Returns whether a message begins this session with this version.
+/// Returns whether `message` is the choice of the session `begun` and the version `chosen`.
 fn is_choice(message: Option<&Message>, begun: u32, chosen: u16) -> bool {
     match message {
         Some(Message::Choice { session, version }) => *session == begun && *version == chosen,
@@ -188,7 +190,7 @@ fn is_choice(message: Option<&Message>, begun: u32, chosen: u16) -> bool {
     }
 }
 
-/// Returns how many asks and items a daemon has in hand.
+/// Returns how many asks and items `daemon` has in hand.
 pub(crate) fn in_hand(world: &World, daemon: DaemonId) -> usize {
     match world.hand(daemon) {
         Some(hand) => hand.len(),
@@ -196,7 +198,7 @@ pub(crate) fn in_hand(world: &World, daemon: DaemonId) -> usize {
     }
 }
 
-/// Returns how many replies a daemon did not post.
+/// Returns how many replies `daemon` did not post.
 pub(crate) fn count_unposted(world: &World, daemon: DaemonId) -> usize {
     match world.unposted(daemon) {
         Some(unposted) => unposted.len(),
@@ -204,12 +206,12 @@ pub(crate) fn count_unposted(world: &World, daemon: DaemonId) -> usize {
     }
 }
 
-/// Returns whether a daemon has nothing in hand, and all posted.
+/// Returns whether `daemon` has nothing in hand, and no reply that is not posted.
 pub(crate) fn is_idle(world: &World, daemon: DaemonId) -> bool {
     in_hand(world, daemon) == 0 && count_unposted(world, daemon) == 0
 }
 
-/// Returns whether a fact holds of a world.
+/// Returns whether `found` holds of `world`.
 fn is_found(world: &World, found: Found) -> bool {
     match found {
         Found::Alone(number, next) => keeps_alone(world, Number(number), next),
@@ -231,7 +233,7 @@ fn is_found(world: &World, found: Found) -> bool {
     }
 }
 
-/// Returns whether each of these facts holds of a world.
+/// Returns whether each fact of `found` holds of `world`.
 pub(crate) fn is_each_found(world: &World, found: &[Found]) -> bool {
     for one in found {
         if !is_found(world, *one) {

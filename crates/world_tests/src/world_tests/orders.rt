@@ -1,4 +1,4 @@
-//! Every order in which two asks and one forget on one number can go their ways.
+//! Two asks and one forget of one number, with their events in each possible order.
 use super::deeds::{Deed, LOOK_UP_SRC, Wish};
 use super::events::{event, is_put, manifest, room};
 use super::facts::{count_unposted, in_hand, is_idle};
@@ -8,13 +8,13 @@ use std::alloc::Global;
 use takeover_core::Versions;
 use world::{Event, World};
 
-/// Two asks of five events, and a forget of three.
+/// The count of events: five of each of the two asks, and three of the forget.
 const LONG: usize = 13;
 
-/// The choices of each event: an ask, a forget, a take, a work of three positions, a post of two, a delivery.
+/// The count of choices for an event: an ask, a forget, a take, a work at three positions, a post at two, a delivery.
 const CHOICES: usize = 9;
 
-/// Which choice was made at each event, and whether a later one could have been.
+/// The choice that is made for each event, and whether a later choice is open for it too.
 #[derive(Drop)]
 struct Order {
     made: [usize; LONG],
@@ -33,7 +33,7 @@ static CHOICE: [Deed; CHOICES] = [
     Deed::Deliver,
 ];
 
-/// Puts the events of these deeds behind the others, and returns whether all were made.
+/// Appends the events of `deeds` to `events`, and returns whether all could be made.
 fn are_put(alloc: Global, events: &mut Vec<Event>, deeds: &[Deed]) -> bool {
     for deed in deeds {
         if !is_put(alloc, events, *deed) {
@@ -43,7 +43,7 @@ fn are_put(alloc: Global, events: &mut Vec<Event>, deeds: &[Deed]) -> bool {
     true
 }
 
-/// Returns how often a choice was made before this event.
+/// Returns how often `choice` is made before the event of the index `at`.
 fn times(order: &Order, at: usize, choice: usize) -> usize {
     order
         .made
@@ -53,8 +53,8 @@ fn times(order: &Order, at: usize, choice: usize) -> usize {
         .count()
 }
 
-/// Returns whether a choice is open. The kernel asks twice and forgets once, and each other choice needs a message to
-/// pass on.
+/// Returns whether `choice` is open. The kernel asks twice and forgets once. Each other choice needs an ask, an item or
+/// a reply that it can move on.
 fn is_open(world: &World, order: &Order, at: usize, choice: usize) -> bool {
     let daemon = DaemonId(1);
     match choice {
@@ -67,12 +67,12 @@ fn is_open(world: &World, order: &Order, at: usize, choice: usize) -> bool {
     }
 }
 
-/// Returns the first open choice from this one on.
+/// Returns the first open choice from `from` on, or none.
 fn next_open(world: &World, order: &Order, at: usize, from: usize) -> Option<usize> {
     (from..CHOICES).find(|choice| is_open(world, order, at, *choice))
 }
 
-/// Lets an event happen, and returns whether it was made.
+/// Lets `event` happen, and returns whether it was made.
 fn is_made(world: &mut World, event: &Event) -> bool {
     let outcome = world.step(event);
     let is_made = outcome.happened().iter().all(|told| told.is_made());
@@ -80,7 +80,8 @@ fn is_made(world: &mut World, event: &Event) -> bool {
     is_made
 }
 
-/// Lets an event happen by an order, or by the next choice that is open. Returns whether it was made.
+/// Lets the event of the index `at` happen, by the choice of `order` or else by the next one that is open. Returns
+/// whether it was made.
 fn goes_on(world: &mut World, choices: &[Event], order: &mut Order, at: usize) -> bool {
     if at >= LONG {
         return false;
@@ -96,7 +97,7 @@ fn goes_on(world: &mut World, choices: &[Event], order: &mut Order, at: usize) -
     is_made(world, &choices[choice])
 }
 
-/// Turns an order into the next; none comes after the last.
+/// Turns `order` into the next one, or returns false if `order` is the last.
 fn turn(order: &mut Order) -> bool {
     for at in (0..LONG).rev() {
         if order.more[at] && order.made[at] < CHOICES {
@@ -108,7 +109,7 @@ fn turn(order: &mut Order) -> bool {
     false
 }
 
-/// Returns whether all queues are empty, and the kernel holds what daemon 1 counts, twice in all.
+/// Returns whether daemon 1 is idle, and counts each number as often as the kernel holds it, twice in all.
 fn is_even(world: &World) -> bool {
     let daemon = DaemonId(1);
     let Some(served) = world.served(daemon) else {
@@ -126,7 +127,8 @@ fn is_even(world: &World) -> bool {
     held == 2 && is_idle(world, daemon)
 }
 
-/// Goes by an order where daemon 1 serves, and the kernel holds number 2 once, and returns whether it ends evenly.
+/// Mounts daemon 1, and lets the event `first` happen, and then those of `order`. Returns whether all of these are
+/// made, and `is_even` is true then.
 fn goes_evenly(world: &mut World, first: &Event, choices: &[Event], order: &mut Order) -> bool {
     drop(world.step(&Event::Start(Versions::of(&[1]))));
     drop(world.step(&Event::Mount(DaemonId(1))));
@@ -139,7 +141,7 @@ fn goes_evenly(world: &mut World, first: &Event, choices: &[Event], order: &mut 
     is_even(world)
 }
 
-/// Calls `goes_evenly` on a new world.
+/// Calls `goes_evenly` with a new world.
 fn ends_evenly(
     alloc: Global,
     manifest: &Manifest,
@@ -158,7 +160,7 @@ fn ends_evenly(
     }
 }
 
-/// Returns how many orders there are up to the last, or 0 where one does not end evenly.
+/// Goes by each order. Returns the count of orders, or 0 if one does not end evenly.
 fn even_orders(alloc: Global, manifest: &Manifest, first: &Event, choices: &[Event]) -> u64 {
     let mut order = Order {
         made: [0; LONG],
@@ -175,7 +177,7 @@ fn even_orders(alloc: Global, manifest: &Manifest, first: &Event, choices: &[Eve
     0
 }
 
-/// Calls `even_orders` with the events of all choices.
+/// Calls `even_orders` with the events of `CHOICE`, after a `do` that looks `src` up.
 fn even_orders_in(alloc: Global, manifest: &Manifest, events: &mut Vec<Event>) -> u64 {
     if !are_put(alloc, events, &CHOICE) {
         return 0;
@@ -190,7 +192,7 @@ fn even_orders_in(alloc: Global, manifest: &Manifest, events: &mut Vec<Event>) -
     }
 }
 
-/// Calls `even_orders_in` with room for the choices.
+/// Calls `even_orders_in` with an empty list that has room for all choices.
 fn even_orders_of_manifest(alloc: Global, manifest: &Manifest) -> Option<u64> {
     let mut events = room(alloc, CHOICES)?;
     let orders = even_orders_in(alloc, manifest, &mut events);
@@ -198,7 +200,7 @@ fn even_orders_of_manifest(alloc: Global, manifest: &Manifest) -> Option<u64> {
     Some(orders)
 }
 
-/// Calls `even_orders_of_manifest` with the test's manifest.
+/// Calls `even_orders_of_manifest` with the manifest of these tests.
 fn even_orders_of_all(alloc: Global) -> Option<u64> {
     let manifest = manifest(alloc)?;
     let orders = even_orders_of_manifest(alloc, &manifest);
@@ -206,7 +208,7 @@ fn even_orders_of_all(alloc: Global) -> Option<u64> {
     orders
 }
 
-/// That there are 13,375 orders was counted apart.
+/// The count of 13,375 orders was computed separately.
 #[test]
 fn ends_evenly_in_every_order(rt: HostRuntime) {
     assert!(rt; even_orders_of_all(rt.alloc()) == Some(13_375));

@@ -1,4 +1,4 @@
-//! An image that goes over in parts: of 200 files that were looked up once each it has 5,262 bytes.
+//! An image that is handed over in parts. It has 5,262 bytes, as 200 files were looked up once each.
 use super::deeds::{CREATED, Deed, Fact, Found, Look, Part, Said, Told, Wish};
 use super::events::{are_put, is_put, room};
 use super::facts::{is_each_found, is_told};
@@ -15,13 +15,13 @@ const FILES: u64 = 200;
 /// The versions of all daemons here.
 const BOTH: &[u16] = &[1, 2];
 
-/// A daemon of these versions mounts.
+/// A daemon of both versions starts and mounts.
 const BEGIN: [Deed; 2] = [Deed::StartWith(BOTH), Deed::Mount(1)];
 
-/// Deeds with their outcomes, one behind the other.
+/// A list of deeds with their outcomes.
 type Deeds = &'static [(Deed, Told)];
 
-/// Writes the manifest.
+/// Appends the lines of a manifest of 200 files to `text`.
 fn add_files(text: &mut String) -> Result<(), AllocError> {
     text.push_str("commit 0123456789abcdef0123456789abcdef01234567\n")?;
     for file in 0..FILES {
@@ -30,7 +30,7 @@ fn add_files(text: &mut String) -> Result<(), AllocError> {
     Ok(())
 }
 
-/// Reads the manifest.
+/// Reads the manifest of `add_files`, or returns none if memory was refused.
 fn manifest(alloc: Global) -> Option<Manifest> {
     let mut text = String::new(alloc);
     let written = add_files(&mut text);
@@ -40,7 +40,7 @@ fn manifest(alloc: Global) -> Option<Manifest> {
     manifest.ok()
 }
 
-/// Makes a lookup of a file.
+/// Makes the event that looks `file` up.
 fn lookup(alloc: Global, file: u64) -> Option<Event> {
     let text = format!(in alloc; "f{file:03}").ok()?;
     let name = Name::parse(alloc, text.as_bytes());
@@ -51,13 +51,13 @@ fn lookup(alloc: Global, file: u64) -> Option<Event> {
     }))
 }
 
-/// Puts a lookup behind the other events.
+/// Appends the lookup of `file` to `events`.
 fn put_lookup(alloc: Global, events: &mut Vec<Event>, file: u64) -> Option<()> {
     let lookup = lookup(alloc, file)?;
     events.push(lookup).ok()
 }
 
-/// Puts the lookups behind a mount, and returns whether all were made.
+/// Appends a start, a mount and the lookups of all files to `events`, and returns whether all could be made.
 fn are_begun(alloc: Global, events: &mut Vec<Event>) -> bool {
     for deed in BEGIN {
         if !is_put(alloc, events, deed) {
@@ -72,7 +72,7 @@ fn are_begun(alloc: Global, events: &mut Vec<Event>) -> bool {
     true
 }
 
-/// Puts the deeds of all lists behind the other events, and returns whether all were made.
+/// Appends the events of all `lists` to `events`, and returns whether all could be made.
 fn each_is_put(alloc: Global, events: &mut Vec<Event>, lists: &[Deeds]) -> bool {
     for deeds in lists {
         if !are_put(alloc, events, deeds) {
@@ -82,7 +82,7 @@ fn each_is_put(alloc: Global, events: &mut Vec<Event>, lists: &[Deeds]) -> bool 
     true
 }
 
-/// Returns whether each file was looked up.
+/// Returns whether `outcomes` are those of a lookup of each file.
 fn are_looked_up(outcomes: &[Outcome]) -> bool {
     for (index, outcome) in outcomes.iter().enumerate() {
         let unique = index as u64 + 1;
@@ -94,7 +94,7 @@ fn are_looked_up(outcomes: &[Outcome]) -> bool {
     true
 }
 
-/// Returns whether the deeds of all lists have their outcomes, one list behind the other.
+/// Returns whether `outcomes` are those of the deeds of `lists`, one list after another.
 fn each_is_told(outcomes: &[Outcome], lists: &[Deeds]) -> bool {
     let mut rest = outcomes;
     for deeds in lists {
@@ -110,7 +110,8 @@ fn each_is_told(outcomes: &[Outcome], lists: &[Deeds]) -> bool {
     rest.is_empty()
 }
 
-/// Returns whether these are the outcomes of a mount, of the lookups, and of the deeds of all lists.
+/// Returns whether `outcomes`, after those of the start and the mount, are those of the lookups and of the deeds of
+/// `lists`.
 fn all_are_told(outcomes: &[Outcome], lists: &[Deeds]) -> bool {
     let begun = BEGIN.len() + FILES as usize;
     if outcomes.len() < begun {
@@ -120,7 +121,8 @@ fn all_are_told(outcomes: &[Outcome], lists: &[Deeds]) -> bool {
     are_looked_up(&begun[BEGIN.len()..]) && each_is_told(rest, lists)
 }
 
-/// Runs events, and returns whether deeds have their outcomes, and these are found in the world after them.
+/// Runs `events`. Returns whether their outcomes are the expected ones, by `all_are_told`, and `found` holds of the
+/// world after them.
 fn goes_once(
     alloc: Global,
     manifest: &Manifest,
@@ -139,7 +141,7 @@ fn goes_once(
     }
 }
 
-/// Returns that of the events of deeds, behind the mount and the lookups.
+/// Puts the mount, the lookups and the deeds of `lists` into `events`, and calls `goes_once` with them.
 fn goes_with(alloc: Global, events: &mut Vec<Event>, lists: &[Deeds], found: &[Found]) -> bool {
     if !are_begun(alloc, events) || !each_is_put(alloc, events, lists) {
         return false;
@@ -154,7 +156,7 @@ fn goes_with(alloc: Global, events: &mut Vec<Event>, lists: &[Deeds], found: &[F
     }
 }
 
-/// Returns that of a list that is made.
+/// Calls `goes_with` with an empty list of events.
 fn goes(alloc: Global, lists: &[Deeds], found: &[Found]) -> bool {
     match room(alloc, 300) {
         Some(events) => {
@@ -167,7 +169,7 @@ fn goes(alloc: Global, lists: &[Deeds], found: &[Found]) -> bool {
     }
 }
 
-/// Returns whether the deeds of all lists go so in the first run or, as where memory was refused, in the second.
+/// Calls `goes`, and once more if the first call returned false, since memory may have been refused.
 fn all_go_so(alloc: Global, lists: &[Deeds], found: &[Found]) -> bool {
     goes(alloc, lists, found) || goes(alloc, lists, found)
 }
@@ -182,7 +184,8 @@ static PARTED: [(Deed, Told); 6] = [
     (Deed::Hear(1, 5), Told::One(Fact::Said(6))),
 ];
 
-/// The rows of parts that daemon 2 hears of daemon 1, and a session 1 of its own, whose first part is message 12.
+/// Daemon 2 hears both parts of daemon 1 and claims the seat. Then it says its own image in parts to daemon 3, in a
+/// session 1 of its own. The first of these parts is message 12.
 static HANDED_AGAIN: [(Deed, Told); 9] = [
     (Deed::Hear(2, 6), Told::One(Fact::Heard)),
     (Deed::Hear(2, 7), Told::One(Fact::Heard)),
@@ -195,7 +198,7 @@ static HANDED_AGAIN: [(Deed, Told); 9] = [
     (Deed::Hear(2, 11), Told::One(Fact::Said(12))),
 ];
 
-/// Six files of long names.
+/// Six files with long names are made.
 static SIX_FILES: [(Deed, Told); 6] = [
     (
         Deed::Do(Wish::CreateLong(1)),
@@ -223,7 +226,7 @@ static SIX_FILES: [(Deed, Told); 6] = [
     ),
 ];
 
-/// Both parts are heard in order, and each once more. Nothing comes of one that is not the next.
+/// Daemon 2 hears both parts in order, and each part once more. A part that is not the next is ignored.
 static HANDED_ON: [(Deed, Told); 7] = [
     (Deed::Hear(2, 7), Told::One(Fact::Ignored)),
     (Deed::Hear(2, 6), Told::One(Fact::Heard)),
@@ -268,7 +271,7 @@ fn hands_200_numbers_on_in_two_parts(rt: HostRuntime) {
     assert!(rt; all_go_so(alloc, &[&PARTED, &HANDED_ON], &handed));
 }
 
-/// The last part is lost. The old daemon says that it gave up, the new one hears of it, and the seat goes back.
+/// The last part comes too late: daemon 2 has heard by then that daemon 1 gave up. Daemon 1 claims the seat again.
 static LOST: [(Deed, Told); 7] = [
     (Deed::Hear(2, 6), Told::One(Fact::Heard)),
     (
@@ -295,7 +298,7 @@ fn goes_back_where_a_part_is_lost(rt: HostRuntime) {
     assert!(rt; all_go_so(rt.alloc(), &[&PARTED, &LOST], &found));
 }
 
-/// The new daemon gives up between two parts, and the old one is still asked for nothing.
+/// Daemon 2 gives up between the two parts. Daemon 1 gives up afterwards, and claims the seat again.
 static GIVEN_UP: [(Deed, Told); 5] = [
     (Deed::Hear(2, 6), Told::One(Fact::Heard)),
     (Deed::GiveUp(2), Told::One(Fact::Heard)),
@@ -310,7 +313,7 @@ fn goes_back_where_the_new_daemon_gives_up(rt: HostRuntime) {
     assert!(rt; all_go_so(rt.alloc(), &[&PARTED, &GIVEN_UP], &found));
 }
 
-/// Six files of long names more make three parts, which are heard in order alone.
+/// Six files with long names more make three parts. Daemon 2 takes them only in their order.
 static OUT_OF_ORDER: [(Deed, Told); 11] = [
     (Deed::Hear(2, 8), Told::One(Fact::Ignored)),
     (Deed::Hear(2, 7), Told::One(Fact::Ignored)),
@@ -341,14 +344,15 @@ fn hears_three_parts_in_their_order_alone(rt: HostRuntime) {
     assert!(rt; all_go_so(rt.alloc(), &[&SIX_FILES, &PARTED, &OUT_OF_ORDER], &found));
 }
 
-/// Daemon 1 gives up once its parts are said, and serves on.
+/// Daemon 1 gives up after its parts were said, and claims the seat again.
 static TAKEN_BACK: [(Deed, Told); 2] = [
     (Deed::GiveUp(1), Told::One(Fact::Said(8))),
     (Deed::Claim(1), Told::One(Fact::Claimed(2))),
 ];
 
-/// Two sessions of one holder, with two parts and with three. Daemon 2 is left in session 1, and daemon 3 comes with
-/// session 2. Neither takes a part of the other's, and what daemon 2 restores serves nobody.
+/// Daemon 1 has two sessions: session 1 of two parts, and session 2 of three. Daemon 2 is still in session 1, and
+/// daemon 3 is in session 2. Neither takes a part of the other's session. Daemon 2 restores an image, but its claim is
+/// stale and it never serves.
 static TWO_SESSIONS: [(Deed, Told); 19] = [
     (Deed::StartWith(BOTH), Told::One(Fact::Started(3))),
     (Deed::Hear(1, 9), Told::One(Fact::Said(10))),
@@ -388,8 +392,8 @@ fn hears_no_part_of_another_session(rt: HostRuntime) {
     );
 }
 
-/// Daemon 2 has the seat, and hands it on in a session 1 of its own. Daemon 3 hears the parts of daemon 1's in their
-/// place, and its claim is stale.
+/// Daemon 2 has the seat, and hands it on in a session 1 of its own. Daemon 3 hears the parts of daemon 1's session
+/// instead, and its claim is stale.
 static OLD_HOLDER: [(Deed, Told); 10] = [
     (Deed::Hear(3, 6), Told::One(Fact::Heard)),
     (Deed::Hear(3, 12), Told::One(Fact::Ignored)),
@@ -403,7 +407,7 @@ static OLD_HOLDER: [(Deed, Told); 10] = [
     (Deed::Claim(1), Told::One(Fact::Refused(Refusal::Stale(3)))),
 ];
 
-/// Daemon 3 hears the first part of daemon 2's session, and takes none of daemon 1's behind it.
+/// Daemon 3 hears the first part of daemon 2's session, and ignores those of daemon 1's session after it.
 static NEW_HOLDER: [(Deed, Told); 5] = [
     (Deed::Hear(3, 12), Told::One(Fact::Heard)),
     (Deed::Hear(3, 7), Told::One(Fact::Ignored)),

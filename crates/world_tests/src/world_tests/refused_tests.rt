@@ -1,4 +1,4 @@
-//! How a world goes on where an event's allocation was refused.
+//! How a world goes on after an allocation of an event was refused.
 use super::deeds::{Deed, Fact, LOOK_UP_SRC, Wish};
 use super::events::event;
 use super::facts::{counts, happened, is_idle};
@@ -8,12 +8,12 @@ use std::alloc::Global;
 use takeover_core::Versions;
 use world::{Event, Happened, Outcome, Refusal, World};
 
-/// Returns what an event told last.
+/// Returns the last fact of `outcome`, or none.
 fn last_of(outcome: &Outcome) -> Option<Happened> {
     outcome.happened().last().copied()
 }
 
-/// Lets an event happen, and returns what it told last.
+/// Lets `event` happen, and returns its last fact.
 fn told_by(world: &mut World, event: &Event) -> Option<Happened> {
     let outcome = world.step(event);
     let last = last_of(&outcome);
@@ -23,7 +23,7 @@ fn told_by(world: &mut World, event: &Event) -> Option<Happened> {
 
 const REFUSED: Option<Happened> = Some(Happened::Refused(Refusal::NoMemory));
 
-/// Returns the last that an event told, or, where memory ran out, the last that it told when it came again.
+/// Calls `told_by`, and once more if the event was refused as out of memory.
 pub(crate) fn last_told(world: &mut World, event: &Event) -> Option<Happened> {
     let told = told_by(world, event);
     if told == REFUSED {
@@ -32,7 +32,7 @@ pub(crate) fn last_told(world: &mut World, event: &Event) -> Option<Happened> {
     told
 }
 
-/// Returns whether a deed tells this last, or whatever it tells where that is not named.
+/// Lets the event of `deed` happen. Returns whether its last fact is `expected`, or true if no fact is expected.
 fn is_last(alloc: Global, world: &mut World, deed: Deed, expected: Option<Fact>) -> bool {
     match event(alloc, deed) {
         Some(event) => {
@@ -47,14 +47,13 @@ fn is_last(alloc: Global, world: &mut World, deed: Deed, expected: Option<Fact>)
     }
 }
 
-/// Returns whether daemon 1 counts what the kernel holds.
+/// Returns whether daemon 1 counts number 2 as often as the kernel holds it.
 fn is_even(world: &World) -> bool {
     let counts = counts(world);
     counts[0] == counts[1]
 }
 
-/// Returns whether each deed tells what is expected last, where that is named, and daemon 1 counts then what the kernel
-/// holds.
+/// Calls `is_last` with each of `deeds`. Returns whether all results are true, and `is_even` is true in the end.
 fn tells_last(alloc: Global, world: &mut World, deeds: &[(Deed, Option<Fact>)]) -> bool {
     for (deed, expected) in deeds {
         if !is_last(alloc, world, *deed, *expected) {
@@ -64,7 +63,7 @@ fn tells_last(alloc: Global, world: &mut World, deeds: &[(Deed, Option<Fact>)]) 
     is_even(world)
 }
 
-/// Calls `tells_last` on a new world.
+/// Calls `tells_last` with a new world.
 fn tells_last_from_nothing(alloc: Global, deeds: &[(Deed, Option<Fact>)]) -> bool {
     match new_world(alloc) {
         Some(world) => {
@@ -87,8 +86,8 @@ static IN_STEPS: [(Deed, Option<Fact>); 7] = [
     (Deed::Deliver, None),
 ];
 
-/// Passes also where one allocation is refused: a refused event changes nothing and is made when it comes again; a
-/// lookup may also be answered ENOMEM, and gives no number then.
+/// Passes also if one allocation is refused. A refused event changes nothing, and is made when it comes again. A lookup
+/// may be answered ENOMEM instead, and then gives no number out.
 #[test]
 fn goes_on_after_memory_was_refused(rt: HostRuntime) {
     assert!(rt; tells_last_from_nothing(rt.alloc(), &IN_STEPS));
@@ -108,7 +107,7 @@ static TAKEN_OVER: [(Deed, Option<Fact>); 11] = [
     (Deed::Claim(2), Some(Fact::Claimed(2))),
 ];
 
-/// The same by daemons of version 2, whose image goes as its only part.
+/// The takeover of `TAKEN_OVER` by daemons of version 2, with the image as its only part.
 static TAKEN_IN_PARTS: [(Deed, Option<Fact>); 11] = [
     (Deed::StartWith(&[2]), None),
     (Deed::Mount(1), Some(Fact::Mounted(1))),
@@ -123,8 +122,8 @@ static TAKEN_IN_PARTS: [(Deed, Option<Fact>); 11] = [
     (Deed::Claim(2), Some(Fact::Claimed(2))),
 ];
 
-/// Passes also where one allocation is refused: out of memory a message that is not heard, and data that is not made or
-/// restored, change nothing and come again.
+/// Passes also if one allocation is refused. If memory lacks to hear a message, or to make or restore data, nothing
+/// changes, and the event comes again.
 #[test]
 fn takes_over_after_memory_was_refused(rt: HostRuntime) {
     assert!(rt; tells_last_from_nothing(rt.alloc(), &TAKEN_OVER));
@@ -135,8 +134,8 @@ fn takes_over_in_parts_after_memory_was_refused(rt: HostRuntime) {
     assert!(rt; tells_last_from_nothing(rt.alloc(), &TAKEN_IN_PARTS));
 }
 
-/// Returns what a `do` told last, or, where memory ran out, what was told last then: when its reply, which waited, was
-/// delivered, or when it came again.
+/// Lets the `do` of `event` happen, and returns its last fact. If memory was refused, delivers the reply that waits, or
+/// else lets the `do` happen again, and returns the last fact of that.
 fn finished(world: &mut World, event: &Event) -> Option<Happened> {
     let told = told_by(world, event);
     if told != REFUSED {
@@ -148,7 +147,8 @@ fn finished(world: &mut World, event: &Event) -> Option<Happened> {
     told_by(world, event)
 }
 
-/// Mounts daemon 1, and returns whether a `do` answers the kernel and leaves all queues empty.
+/// Mounts daemon 1, and lets the `do` of `ask` happen. Returns whether the kernel gets an answer, daemon 1 is idle, and
+/// `is_even` is true.
 fn finishes(world: &mut World, ask: &Event) -> bool {
     let _started = last_told(world, &Event::Start(Versions::of(&[1])));
     let mounted = last_told(world, &Event::Mount(DaemonId(1)));
@@ -158,7 +158,7 @@ fn finishes(world: &mut World, ask: &Event) -> bool {
     mounted == Some(Happened::Mounted(1)) && is_answered && is_idle_again && is_even(world)
 }
 
-/// Calls `finishes` on a new world.
+/// Calls `finishes` with a new world.
 fn finishes_in_new(alloc: Global, ask: &Event) -> bool {
     match new_world(alloc) {
         Some(world) => {
@@ -171,7 +171,7 @@ fn finishes_in_new(alloc: Global, ask: &Event) -> bool {
     }
 }
 
-/// Returns whether a lookup finishes in a new world.
+/// Calls `finishes_in_new` with a `do` that looks `src` up.
 fn finishes_from_nothing(alloc: Global) -> bool {
     match event(alloc, Deed::Do(LOOK_UP_SRC)) {
         Some(ask) => {
@@ -183,8 +183,8 @@ fn finishes_from_nothing(alloc: Global) -> bool {
     }
 }
 
-/// Passes also where one allocation is refused: what a `do` made before it was refused stands, and the kernel is
-/// answered in the end.
+/// Passes also if one allocation is refused. What a `do` made before the refusal stands, and the kernel is answered in
+/// the end.
 #[test]
 fn finishes_a_do_after_memory_was_refused(rt: HostRuntime) {
     assert!(rt; finishes_from_nothing(rt.alloc()));

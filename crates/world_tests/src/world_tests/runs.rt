@@ -1,4 +1,4 @@
-//! Deeds that are run, as one list of events or one after the other.
+//! Deeds that are run as one list of events, or one after another.
 use super::deeds::{Counts, Deed, Found, Told};
 use super::events::{are_put, event, manifest, room};
 use super::facts::{counts, is_each_found, is_told};
@@ -7,7 +7,7 @@ use manifest::Manifest;
 use std::alloc::Global;
 use world::{Event, Outcome, World, run};
 
-/// Returns whether each event had its outcome.
+/// Returns whether `outcomes` are those of `deeds`.
 pub(crate) fn are_told(outcomes: &[Outcome], deeds: &[(Deed, Told)]) -> bool {
     if outcomes.len() != deeds.len() {
         return false;
@@ -20,7 +20,7 @@ pub(crate) fn are_told(outcomes: &[Outcome], deeds: &[(Deed, Told)]) -> bool {
     true
 }
 
-/// Returns whether these are found in a world whose events had these outcomes; nothing where they had others.
+/// Returns whether `found` holds of `world`, or none if `outcomes` are not those of `deeds`.
 fn told_and_found(
     world: &World,
     outcomes: &[Outcome],
@@ -33,8 +33,8 @@ fn told_and_found(
     Some(is_each_found(world, found))
 }
 
-/// Runs events, and returns whether these are found in the world after them; nothing where they had other outcomes or
-/// memory was refused.
+/// Runs `events`, and returns whether `found` holds of the world after them. Returns none if the outcomes are not those
+/// of `deeds`, or memory was refused.
 fn found_after(
     alloc: Global,
     manifest: &Manifest,
@@ -53,8 +53,7 @@ fn found_after(
     }
 }
 
-/// Returns whether these are found after events that had their outcomes, in the first run or, as where memory was
-/// refused, in the second.
+/// Calls `found_after`, and once more if the first call returned none, since memory may have been refused.
 fn is_found_after(
     alloc: Global,
     manifest: &Manifest,
@@ -68,7 +67,7 @@ fn is_found_after(
     }
 }
 
-/// Makes the events of deeds, and calls `is_found_after` with them.
+/// Makes the events of `deeds`, and calls `is_found_after` with them.
 fn goes_with(
     alloc: Global,
     events: &mut Vec<Event>,
@@ -88,7 +87,7 @@ fn goes_with(
     }
 }
 
-/// Returns whether deeds, run as one list of events, have their outcomes, and these are found in the world after them.
+/// Runs `deeds` as one list of events. Returns whether each has its outcome, and `found` holds of the world after them.
 pub(crate) fn all_go_so(alloc: Global, deeds: &[(Deed, Told)], found: &[Found]) -> bool {
     match room(alloc, deeds.len()) {
         Some(events) => {
@@ -101,7 +100,7 @@ pub(crate) fn all_go_so(alloc: Global, deeds: &[(Deed, Told)], found: &[Found]) 
     }
 }
 
-/// Makes a world of a manifest, and once more where memory was refused.
+/// Makes a world over `manifest`, and tries once more if memory was refused.
 fn world_of(alloc: Global, manifest: &Manifest) -> Option<World> {
     match World::new(alloc, manifest, 8) {
         Ok(world) => Some(world),
@@ -109,7 +108,7 @@ fn world_of(alloc: Global, manifest: &Manifest) -> Option<World> {
     }
 }
 
-/// Makes a world.
+/// Makes a world over the manifest of these tests.
 pub(crate) fn new_world(alloc: Global) -> Option<World> {
     let manifest = manifest(alloc)?;
     let world = world_of(alloc, &manifest);
@@ -117,7 +116,7 @@ pub(crate) fn new_world(alloc: Global) -> Option<World> {
     world
 }
 
-/// Lets an event happen, and returns whether just this happened.
+/// Lets `event` happen, and returns whether its outcome is `told`.
 fn is_stepped(world: &mut World, event: &Event, told: Told) -> bool {
     let outcome = world.step(event);
     let is_so = is_told(&outcome, told);
@@ -125,7 +124,7 @@ fn is_stepped(world: &mut World, event: &Event, told: Told) -> bool {
     is_so
 }
 
-/// Does a deed, and returns whether it has its outcome.
+/// Lets the event of `deed` happen, and returns whether its outcome is `told`.
 fn goes_so(alloc: Global, world: &mut World, deed: Deed, told: Told) -> bool {
     match event(alloc, deed) {
         Some(event) => {
@@ -137,7 +136,7 @@ fn goes_so(alloc: Global, world: &mut World, deed: Deed, told: Told) -> bool {
     }
 }
 
-/// Does deeds one after the other, and returns whether each has its outcome and leaves these counts.
+/// Lets the events of `deeds` happen one after another. Returns whether each has its outcome, and leaves its counts.
 fn each_counts(alloc: Global, world: &mut World, deeds: &[(Deed, Told, Counts)]) -> bool {
     for (deed, told, expected) in deeds {
         if !goes_so(alloc, world, *deed, *told) || counts(world) != *expected {
@@ -147,7 +146,7 @@ fn each_counts(alloc: Global, world: &mut World, deeds: &[(Deed, Told, Counts)])
     true
 }
 
-/// Calls `each_counts` on a new world.
+/// Calls `each_counts` with a new world.
 pub(crate) fn all_count(alloc: Global, deeds: &[(Deed, Told, Counts)]) -> bool {
     match new_world(alloc) {
         Some(world) => {

@@ -1,10 +1,11 @@
-//! A mount that ends with the daemon of its seat, and the seat that a daemon hands on to another.
+//! Mounts that end with the daemon of the seat, and a seat that is handed on.
 use super::deeds::{CREATED, Deed, Fact, Found, LOOK_UP_SRC, Look, SRC, Said, Told, Wish};
 use super::runs::all_go_so;
 use eden_base::Errno;
 use world::Refusal;
 
-/// What was asked, taken, answered and posted, and a file that was made, go with the daemon of the seat.
+/// The daemon of the seat crashes. With it go all asks, taken or not, all replies, posted or not, and a file that it
+/// made.
 static CRASHED: [(Deed, Told); 26] = [
     (Deed::Start, Told::One(Fact::Started(1))),
     (Deed::Start, Told::One(Fact::Started(2))),

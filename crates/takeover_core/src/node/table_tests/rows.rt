@@ -1,7 +1,8 @@
 //! The calls, the phases, and the rows of the table of phases, written out by hand.
 use crate::Phase;
 
-/// A call, or a message that is heard. Session, generation and version are 3, 5 and 1, unless the name says otherwise.
+/// A call, or a message that is heard. A message is of session 3, generation 5 and version 1, unless its name says
+/// otherwise.
 #[derive(Clone, Copy, PartialEq, Eq)]
 pub(super) enum Call {
     Mounted,
@@ -169,7 +170,7 @@ pub(super) static CALLS: [Call; 44] = [
     Call::Crash,
 ];
 
-/// What a call answers: what is said, or is to be done. A message that is taken without an answer is `Heard`.
+/// What a daemon says, or what it is to do. A message that is taken without a word is `Heard`.
 #[derive(Clone, Copy)]
 pub(super) enum Answer {
     Ignored,
@@ -183,7 +184,7 @@ pub(super) enum Answer {
     SayFailed,
     MakeData,
     GotData,
-    /// The session is 3, and the version 2.
+    /// The answer to a part of session 3 and version 2.
     GotPart {
         generation: u64,
         position: u32,
@@ -303,7 +304,7 @@ pub(super) static PHASES: [Phase; 15] = [
     GONE,
 ];
 
-/// Phase, call, next phase, answer. All other pairs are ignored and change nothing.
+/// The rows: phase, call, next phase, answer. A call without a row is ignored in that phase, and changes nothing.
 pub(super) static ROWS: [(Phase, Call, Phase, Answer); 73] = [
     (WAITING, Call::Mounted, SERVING, Answer::Heard),
     (WAITING, Call::Choice, CHOSEN, Answer::Heard),

@@ -1,18 +1,18 @@
 //! Words, and how a process ends by them.
 
-/// Words behind the program's name. None stands for those that are no text.
+/// The words after the program's name. None stands for words that are not UTF-8.
 pub type Words = Option<&'static [&'static str]>;
 
-/// How many bytes are gathered for one write, and how many standard output and standard error take.
+/// How many bytes are gathered for one write, and how many bytes standard output and standard error take.
 pub type Rooms = [usize; 3];
 
-/// The words, the rooms, the status, what both streams get, and whether all that is to be said is written. Text is
-/// whole, unless it ends without LF.
+/// The words and the rooms. Then the status, what standard output and standard error get, and whether the lines for
+/// standard error could be written. A text without a last LF is only the start of what a stream gets.
 pub type Row = (Words, Rooms, u8, &'static [u8], &'static [u8], bool);
 
 const AMPLE: Rooms = [4096, 4096, 4096];
 
-/// A buffer for which there is no memory.
+/// The size of a buffer for which there is no memory.
 const NONE: usize = usize::MAX;
 
 pub static ROWS: [Row; 35] = [
@@ -77,7 +77,7 @@ pub static ROWS: [Row; 35] = [
         b"error: a word of the command line is not UTF-8\n\nUsage: edend [COMMAND]\n\nFor more information, try '--help'.\n",
         true,
     ),
-    // Errands: each part is the word at its place, or the number of its option.
+    // Errands: each printed part is the word at its position, or the value of its option.
     (
         Some(&["broker", "s", "-"]),
         AMPLE,
@@ -206,7 +206,7 @@ pub static ROWS: [Row; 35] = [
         true,
     ),
     (Some(&["broker", "s"]), AMPLE, 2, b"", b"error: ", true),
-    // An errand whose line can't be written tells so itself; one that can be is gathered no further.
+    // An errand writes its line at once, and itself says if that fails.
     (
         Some(&["broker", "s", "t"]),
         [4096, 3, 4096],
@@ -215,7 +215,8 @@ pub static ROWS: [Row; 35] = [
         b"edend: standard output: no storage space\n",
         true,
     ),
-    // Output that can't be written: lines of events, the version, and a fault beside which a file can't be read.
+    // Standard output that can't be written: the lines of events, the version, and a fault of a file that can't be
+    // read.
     (
         Some(&["world", "shows"]),
         [4096, 9, 4096],
@@ -240,7 +241,7 @@ pub static ROWS: [Row; 35] = [
         b"edend: none: entity not found\nedend: standard output: no storage space\n",
         true,
     ),
-    // What can't be said changes no status.
+    // A line that standard error can't take changes no status.
     (
         Some(&["world", "none"]),
         [4096, 4096, 0],
@@ -250,7 +251,7 @@ pub static ROWS: [Row; 35] = [
         false,
     ),
     (Some(&["worlds"]), [4096, 4096, 0], 2, b"", b"", false),
-    // No buffer, whatever the words are.
+    // No memory for the buffer, whatever the words are.
     (
         Some(&["world", "shows"]),
         [NONE, 4096, 4096],

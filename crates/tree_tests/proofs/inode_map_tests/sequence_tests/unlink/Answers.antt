@@ -1,4 +1,4 @@
--- What a forget would drop has no kids.
+-- An entry that a forget would drop has no kids.
 use Rattle.std.proofs.Common.{sym, ◌∙◌}
 use Rattle.inode_map.proofs.Forgetting.{dropped-kids}
 use Rattle.tree_tests.proofs.inode_map_tests.sequence_tests.unlink.Goals as goal
