@@ -2,21 +2,31 @@
 use Rattle.std.proofs.Common.{◌≡◌, ℕ, zero, suc, ◌+◌, ◌<◌, ◌≤◌, Bool, true, false, cond, List, [], ◌∷◌, ◌++◌, length, take, drop, get_or, Option, Some, None, refl, sym, ap, ◌∙◌, subst, inl, inr, ◌⊎◌, arith}
 use Rattle.std.specs.Prelude.{◌==◌, if◌then◌else◌}
 use Rattle.std.specs.List.{AllByRecursion}
-use Rattle.std.proofs.lemmas.List.{take_more}
+use Rattle.std.proofs.lemmas.List.{take_more, length-take}
 use Rattle.eden_base.specs.First.{first_where}
 use Rattle.eden_base.specs.declared.number.FileId.{FileId}
 use Rattle.eden_base.specs.declared.number.Number.{Number}
+use Rattle.eden_base.specs.declared.place.Place.{Place}
 use Rattle.eden_base.specs.declared.place.Place.TheVariants.{Linked, Unlinked}
 use Rattle.eden_base.proofs.NumberTests.{eq-true, eq-false}
 use Rattle.eden_base.proofs.MemberLemmas.{some-same, some-none}
-use Rattle.entry_table.specs.Entries.{stands_at, entry_of, entry_at, AreNumbers, AreEntries}
-use Rattle.entry_table.specs.Links.{is_link}
-use Rattle.entry_table.specs.Slots.{slots_of, kept_from, files_from, notes_from, AreSlots, IsIndexed}
+use Rattle.entry_table.specs.Entries.{stands_at, is_in, entry_of, entry_at, AreNumbers, AreEntries}
+use Rattle.entry_table.specs.Links.{key_of, counted, Files}
+use Rattle.entry_table.specs.Slots.{slots_of, kept_from, files_from, notes_from, AreSlots, Stands, IsIndexed, kid_in, kids_of}
+use Rattle.entry_table.specs.declared.index.Index.{Index}
+use Rattle.entry_table.specs.declared.index.Link.{Link}
 use Rattle.entry_table.specs.declared.kept.Kept.{Kept}
+use Rattle.entry_table.specs.declared.maps.Maps.{Maps}
 use Rattle.entry_table.proofs.Changing.{append-extends, new_or_old}
 use Rattle.entry_table.proofs.EntryLemmas.{entry_of-first, numbers-bound, numbers-outside}
 use Rattle.entry_table.proofs.FileLemmas.{linked-marked}
-use Rattle.entry_table.proofs.IndexedLemmas.{indexed-added}
+use Rattle.entry_table.proofs.IndexedChanges.{indexed-added, indexed-filed}
+use Rattle.entry_table.proofs.IndexedLemmas.{indexed-same}
+use Rattle.entry_table.proofs.Kids.{kids-append, kids-length}
+use Rattle.entry_table.proofs.Standing.{number_of, stands-more, stands-extends}
+
+abbrev one_if : Bool → ℕ
+one_if b = if b then 1 else 0
 
 -- a list, cut at one of its members
 pub cut : (es : List Kept) (i : ℕ) (x : Kept) → i < length es → x ≡ get_or es i x → es ≡ take i es ++ x ∷ drop (suc i) es
@@ -67,19 +77,33 @@ module _ (done : List Kept) (x : Kept) (rest : List Kept) (next : ℕ) (are : Ar
         absurd (some-none (entry_of done x.number.0) k there number-new)
 
   -- the index with it
-  pub indexed-linked : (link linked : ℕ → List ℕ → Option ℕ) (parent : Number) (name : List ℕ) → x.place ≡ Linked parent name → IsIndexed done link →
-      ((dir : ℕ) (q : List ℕ) → linked dir q ≡ (if is_link dir q parent.0 name then Some x.number.0 else link dir q)) → IsIndexed (done ++ x ∷ []) linked
-  indexed-linked link linked parent name place index after =
-      indexed-added done x.number.0 link linked x parent name refl place number-new (place-new parent name place) index after
+  pub indexed-linked : (maps new : Maps) (parent : Number) (name : List ℕ) → x.place ≡ Linked parent name → IsIndexed done (record { maps = maps; latest = None }) →
+      Files maps new parent.0 name (key_of parent.0 name) x.number.0 → IsIndexed (done ++ x ∷ []) (record { maps = new; latest = None })
+  indexed-linked maps new parent name place index files =
+      let link : Link = record { parent = parent.0; key = key_of parent.0 name; number = x.number.0 } in
+      let added = indexed-added done x.number.0 x parent name refl place number-new (place-new parent name place) (record { maps = maps; latest = None }) refl index in
+      indexed-filed (done ++ x ∷ []) (record { maps = maps; latest = Some link }) link name new added refl (stands-more done x.number.0 x parent name refl place number-new) refl files
 
-  pub indexed-unlinked : (link : ℕ → List ℕ → Option ℕ) (file : FileId) → x.place ≡ Unlinked file → IsIndexed done link → IsIndexed (done ++ x ∷ []) link
-  indexed-unlinked link file place index = record {
-    stands = λ dir q n l. let w = index.stands dir q n l in let y = append-extends done x.number.0 x refl number-new n w.0 w.1 in (y.0, y.1, y.2 ∙ w.2);
-    found = λ n kept dir q e p. in_ n kept dir q p (new_or_old done x.number.0 n x kept refl number-new e);
-  } where
-    in_ : (n : ℕ) (kept : Kept) (dir : Number) (q : List ℕ) → kept.place ≡ Linked dir q → ((n ≡ x.number.0) × (kept ≡ x)) ⊎ (entry_of done n ≡ Some kept) → link dir.0 q ≡ Some n
-    in_ n kept dir q p (inl (same, it)) = absurd (linked-marked x.place dir q file (ap (λ (k : Kept). k.place) (sym it) ∙ p) place)
-    in_ n kept dir q p (inr was) = index.found n kept dir q was p
+  pub indexed-unlinked : (index : Index) (file : FileId) → x.place ≡ Unlinked file → IsIndexed done index → IsIndexed (done ++ x ∷ []) index
+  indexed-unlinked index file place is =
+      indexed-same done (done ++ x ∷ []) index (stands-extends done (done ++ x ∷ []) (append-extends done x.number.0 x refl number-new)) (λ dir q n w. in_ dir q n w (new_or_old done x.number.0 n x w.0 refl number-new w.1))
+      (λ dir. let long = kids-append dir done x in let none : kid_in dir x ≡ 0 = ap (λ (p : Place). one_if (is_in dir p)) place in omega arith) is where
+        in_ : (dir : ℕ) (q : List ℕ) (n : ℕ) (w : Stands (done ++ x ∷ []) dir q n) → ((n ≡ x.number.0) × (w.0 ≡ x)) ⊎ (entry_of done n ≡ Some w.0) → Stands done dir q n
+        in_ dir q n w (inl (same, it)) = absurd (linked-marked x.place (number_of dir) q file (ap (λ (k : Kept). k.place) (sym it) ∙ w.2) place)
+        in_ dir q n w (inr was) = (w.0, was, w.2)
+
+-- the names that the maps count in a directory are no more than the entries
+pub counted-bound : (es : List Kept) (maps : Maps) (i : ℕ) (dir : ℕ) → IsIndexed (take i es) (record { maps = maps; latest = None }) → counted maps.counts dir ≤ i
+counted-bound es maps i dir is =
+    let counts : counted maps.counts dir + 0 ≡ kids_of dir (take i es) = is.counts dir in
+    let bound = kids-length dir (take i es) in
+    let short = length-take i es in
+    omega arith
+
+-- there are no more entries than numbers
+pub numbers-long : (es : List Kept) (low next : ℕ) → AreNumbers low next es → low + length es ≤ next
+numbers-long [] low next are = let a : low ≤ next = are in omega arith
+numbers-long (x ∷ es) low next are = let a : low ≤ x.number.0 = are.0 in let b = numbers-long es (x.number.0 + 1) next are.1 in omega arith
 
 -- the slots of entries, read again
 pub slots-are : (es : List Kept) (low next : ℕ) → AreNumbers low next es → AreSlots low next (slots_of es)

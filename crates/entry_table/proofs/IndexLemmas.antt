@@ -10,10 +10,8 @@ use Rattle.std.specs.HashMap.{HashMap}
 use Rattle.std.specs.HashMap as hash
 use Rattle.std.specs.Map.{lookup}
 use Rattle.eden_base.proofs.NumberTests.{eq-true, eq-false, eq-or, true-eq}
-use Rattle.entry_table.specs.Links.{is_link, in_directory, is_latest_in, written, with_latest, link_of, Has}
-use Rattle.entry_table.specs.declared.index.Directory.{Directory}
-use Rattle.entry_table.specs.declared.index.Index.{Index}
-use Rattle.entry_table.specs.declared.index.Link.{Link}
+use Rattle.entry_table.specs.Links.{is_link, in_directory, written}
+use Rattle.entry_table.specs.declared.maps.Directory.{Directory}
 
 bool-or : (b : Bool) → (b ≡ true) ⊎ (b ≡ false)
 bool-or true = inl refl
@@ -79,46 +77,6 @@ no_names d q e = none_in d.numbers.entries e where
   none_in : (es : List (List ℕ × ℕ)) → length es ≡ 0 → lookup (is_at (slice_cmp nat_cmp q)) es ≡ None
   none_in [] h = refl
   none_in (x ∷ es) h = absurd (omega arith)
-
--- a directory with names has one
-pub some_name : (d : Directory) → (length d.numbers.entries ≡ 0 → ⊥) → (q : List ℕ) × (n : ℕ) × (in_directory q d ≡ Some n)
-some_name d h = some_in d.numbers.entries h where
-  some_in : (es : List (List ℕ × ℕ)) → (length es ≡ 0 → ⊥) → (q : List ℕ) × (n : ℕ) × (lookup (is_at (slice_cmp nat_cmp q)) es ≡ Some n)
-  some_in [] h' = absurd (h' refl)
-  some_in (x ∷ es) h' = (x.0, x.1, ap (λ r. cond (is_eq r) (Some x.1) (lookup (is_at (slice_cmp nat_cmp x.0)) es)) (tied_itself nat_list_cmp_total x.0))
-
--- the link beside the maps stands in its directory
-pub latest-has : (index : Index) (link : Link) → index.latest ≡ Some link → link_of index link.parent link.name ≡ Some link.number
-latest-has index link e =
-    ap (λ (o : Option Link). with_latest o link.parent link.name (written index.directories link.parent link.name)) e
-    ∙ (let t : (link.parent == link.parent) ≡ true = eq-true link.parent link.parent refl in rw (t, names-alike link.name) refl)
-
--- the link beside the maps, where it is in the directory
-pub in-latest : (index : Index) (parent : ℕ) → true ≡ is_latest_in index.latest parent → Has index parent true
-in-latest index parent h = in_ index.latest refl h where
-  in_ : (o : Option Link) → index.latest ≡ o → true ≡ is_latest_in o parent → Has index parent true
-  in_ None e t = absurd (cc)
-  in_ (Some link) e t = let same : link.parent ≡ parent = true-eq link.parent parent (sym t) in (link.name, link.number, subst (λ (p : ℕ). link_of index p link.name ≡ Some link.number) same (latest-has index link e))
-
--- where it is in another, the maps tell what stands in this one
-pub maps-tell : (index : Index) (parent : ℕ) (q : List ℕ) → false ≡ is_latest_in index.latest parent → link_of index parent q ≡ written index.directories parent q
-maps-tell index parent q h = in_ index.latest h where
-  in_ : (o : Option Link) → false ≡ is_latest_in o parent → with_latest o parent q (written index.directories parent q) ≡ written index.directories parent q
-  in_ None e = refl
-  in_ (Some link) e = let f : (parent == link.parent) ≡ false = eq-false parent link.parent (λ s. let t : (link.parent == parent) ≡ true = eq-true link.parent parent (sym s) in absurd (let none : ⊥ = cc in none)) in rw f refl
-
--- a directory in the maps tells whether a name stands in it
-pub has-directory : (index : Index) (parent : ℕ) (d : Directory) (empty : Bool) → false ≡ is_latest_in index.latest parent → hash.get nat_eq index.directories parent ≡ Some d →
-    (empty ≡ true → length d.numbers.entries ≡ 0) → (length d.numbers.entries ≡ 0 → empty ≡ true) → Has index parent (not empty)
-has-directory index parent d true other found is_empty empty_is = λ q.
-    maps-tell index parent q other ∙ ap (option_and_then (in_directory q)) found ∙ no_names d q (is_empty refl)
-has-directory index parent d false other found is_empty empty_is =
-    let s = some_name d (λ e. let t : false ≡ true = empty_is e in absurd (let none : ⊥ = cc in none)) in
-    (s.0, s.1, maps-tell index parent s.0 other ∙ ap (option_and_then (in_directory s.0)) found ∙ s.2)
-
--- a directory that the maps lack
-pub no-directory : (index : Index) (parent : ℕ) → false ≡ is_latest_in index.latest parent → hash.get nat_eq index.directories parent ≡ None → Has index parent false
-no-directory index parent other none = λ q. maps-tell index parent q other ∙ ap (option_and_then (in_directory q)) none
 
 -- a key that was changed and then taken out
 pub cond-cond : {X : Type 0} (b : Bool) (v w x : X) → cond b v (cond b w x) ≡ cond b v x

@@ -6,7 +6,10 @@ pub mod EntryRuns
 pub mod FileLemmas
 pub mod Heights
 pub mod IndexLemmas
+pub mod IndexedChanges
 pub mod IndexedLemmas
+pub mod IndexedLosses
+pub mod Kids
 pub mod Places
 pub mod Removing
 pub mod SlotGrowth
@@ -14,4 +17,5 @@ pub mod SlotLemmas
 pub mod SlotSearch
 pub mod SlotWindow
 pub mod SlotWrites
+pub mod Standing
 pub mod TableLemmas

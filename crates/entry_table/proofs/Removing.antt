@@ -7,16 +7,18 @@ use Rattle.eden_base.specs.declared.number.Number.{Number}
 use Rattle.eden_base.specs.declared.place.Place.TheVariants.{Linked, Unlinked}
 use Rattle.entry_table.specs.Entries.{has_number, entry_of, place_of_kept}
 use Rattle.entry_table.specs.Inside.{IsTable}
-use Rattle.entry_table.specs.Links.{link_of, is_link}
+use Rattle.entry_table.specs.Links.{Unlinks}
 use Rattle.entry_table.specs.Slots.{kept_from, slot_at, file_beside, note_beside, files_from, notes_from, spare_of, AreSlots, IsIndexed, IsIndexOf}
 use Rattle.entry_table.specs.Table.{TableState, kept_of, without_entry}
 use Rattle.entry_table.specs.declared.kept.Kept.{Kept}
 use Rattle.entry_table.specs.declared.kept.Entry.{Entry}
+use Rattle.entry_table.specs.declared.index.Index.{Index}
 use Rattle.entry_table.specs.declared.table.Table.TheInside.{Inside}
-use Rattle.entry_table.proofs.IndexedLemmas.{indexed-lost, indexed-left}
+use Rattle.entry_table.proofs.IndexedLosses.{indexed-lost, indexed-left}
 use Rattle.entry_table.proofs.SlotWrites.{set-slots, emptied, emptied-kept, emptied-beside}
 use Rattle.entry_table.proofs.TableLemmas.{view_of, slot-entry, found-held, written, without-loses}
-use Rattle.std.specs.Prelude.{None, if◌then◌else◌, slice_set}
+use Rattle.entry_table.proofs.Standing.{Loses}
+use Rattle.std.specs.Prelude.{None, slice_set}
 
 -- what was taken out of the slot of a number, and what is left
 pub record Taken (t : Inside) (n : ℕ) (h : Entry) (left : List (ℕ × Option Entry)) : Type 0 where
@@ -46,14 +48,14 @@ module _ {t : Inside} {n : ℕ} {h : Entry} {left : List (ℕ × Option Entry)} 
   left-kept = ap kept_from out.taken ∙ emptied-kept t.next n h t.slots.items 2 out.is.slots out.found
 
   -- the index without its link, if it had one
-  pub left-lost : (linked : ℕ → List ℕ → Option ℕ) (parent : Number) (name : List ℕ) → h.place ≡ Linked parent name →
-      ((dir : ℕ) (q : List ℕ) → linked dir q ≡ (if is_link dir q parent.0 name then None else link_of t.index dir q)) → IsIndexed (kept_from left) linked
-  left-lost linked parent name place after = subst (λ (es : List Kept). IsIndexed es linked) (sym left-kept)
-      (indexed-lost (kept_from t.slots.items) kept_left n (link_of t.index) linked (kept_of n h) parent name (without-loses t n out.is) (slot-entry t n h out.is out.found) place out.is.indexed after)
+  loses : Loses (kept_from t.slots.items) kept_left n (kept_of n h)
+  loses = without-loses t n (kept_of n h) out.is (slot-entry t n h out.is out.found)
 
-  pub left-marked : (file : FileId) → h.place ≡ Unlinked file → IsIndexed (kept_from left) (link_of t.index)
-  left-marked file place = subst (λ (es : List Kept). IsIndexed es (link_of t.index)) (sym left-kept)
-      (indexed-left (kept_from t.slots.items) kept_left n (link_of t.index) (kept_of n h) file (without-loses t n out.is) (slot-entry t n h out.is out.found) place out.is.indexed)
+  pub left-lost : (parent : Number) (name : List ℕ) → h.place ≡ Linked parent name → (index : Index) → Unlinks t.index index parent.0 name n → IsIndexed (kept_from left) index
+  left-lost parent name place index unlinks = subst (λ (es : List Kept). IsIndexed es index) (sym left-kept) (indexed-lost loses parent name place t.index index unlinks out.is.indexed)
+
+  pub left-marked : (file : FileId) → h.place ≡ Unlinked file → IsIndexed (kept_from left) t.index
+  left-marked file place = subst (λ (es : List Kept). IsIndexed es t.index) (sym left-kept) (indexed-left loses file place t.index out.is.indexed)
 
   -- what its view says
   pub left-place : (now : TableState) → view_of t ≡ now → option_map place_of_kept (entry_of now.entries n) ≡ Some h.place

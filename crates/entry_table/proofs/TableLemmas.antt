@@ -18,7 +18,8 @@ use Rattle.entry_table.specs.declared.table.Table.TheInside.{Inside}
 use Rattle.eden_base.proofs.MemberLemmas.{some-same, some-none, some-IsSome}
 use Rattle.entry_table.proofs.EntryLemmas.{changed-same, changed-other, without-other, without-same}
 use Rattle.entry_table.proofs.FileLemmas.{linked-marked}
-use Rattle.entry_table.proofs.IndexedLemmas.{Loses}
+use Rattle.entry_table.proofs.Kids.{kids-without, kids-changed_one}
+use Rattle.entry_table.proofs.Standing.{Loses}
 use Rattle.entry_table.proofs.SlotLemmas.{slot_held, some-held, held-entry, slots-numbers}
 use Rattle.entry_table.proofs.SlotSearch.{index-found, index-set}
 use Rattle.entry_table.proofs.SlotWrites.{set-slots, set-kept, set-beside}
@@ -72,28 +73,25 @@ module _ (t : Inside) (n index : ℕ) (slot : ℕ × Option Entry) (is : IsTable
     written-beside part same = ap (all_beside part) (written (Some now)) ∙ set-beside t.next n h now part t.slots.items 2 same is.slots found-held
 
 -- an entry is taken out
-pub without-loses : (t : Inside) (n : ℕ) → IsTable t → Loses (kept_from t.slots.items) (without_where (has_number n) (kept_from t.slots.items)) n
-without-loses t n is = record {
+pub without-loses : (t : Inside) (n : ℕ) (x : Kept) → IsTable t → entry_of (kept_from t.slots.items) n ≡ Some x → Loses (kept_from t.slots.items) (without_where (has_number n) (kept_from t.slots.items)) n x
+without-loses t n x is here = record {
+  here = here;
   others = λ m d. without-other (kept_from t.slots.items) n m d;
   nowhere = λ kept dir name e p. some-none (entry_of (without_where (has_number n) (kept_from t.slots.items)) n) kept e (without-same (kept_from t.slots.items) 2 t.next n (slots-numbers t.slots.items 2 t.next is.slots));
+  kids = λ dir. kids-without dir (has_number n) (kept_from t.slots.items) x here;
 }
 
 -- an entry loses its name
-pub marked-loses : (t : Inside) (n : ℕ) (file : FileId) (x : Kept) → entry_of (kept_from t.slots.items) n ≡ Some x → Loses (kept_from t.slots.items) (changed_where (has_number n) (marked file) (kept_from t.slots.items)) n
+pub marked-loses : (t : Inside) (n : ℕ) (file : FileId) (x : Kept) → entry_of (kept_from t.slots.items) n ≡ Some x → Loses (kept_from t.slots.items) (changed_where (has_number n) (marked file) (kept_from t.slots.items)) n x
 marked-loses t n file x here = record {
+  here = here;
   others = λ m d. changed-other (kept_from t.slots.items) n m (marked file) (λ y. refl) d;
   nowhere = λ kept dir name e p.
       let there : entry_of (changed_where (has_number n) (marked file) (kept_from t.slots.items)) n ≡ Some (marked file x) =
       changed-same (kept_from t.slots.items) n (marked file) (λ y. refl) ∙ ap (option_map (marked file)) here in
       let same : kept ≡ marked file x = some-same (entry_of (changed_where (has_number n) (marked file) (kept_from t.slots.items)) n) kept (marked file x) e there in
       linked-marked kept.place dir name file p (ap (λ (k : Kept). k.place) same);
-}
-
--- an index with the same links
-pub indexed-alike : (es : List Kept) (link linked : ℕ → List ℕ → Option ℕ) → ((dir : ℕ) (name : List ℕ) → linked dir name ≡ link dir name) → IsIndexed es link → IsIndexed es linked
-indexed-alike es link linked same index = record {
-  stands = λ dir name n l. index.stands dir name n (sym (same dir name) ∙ l);
-  found = λ n kept dir name e p. same dir.0 name ∙ index.found n kept dir name e p;
+  kids = λ dir. let less = kids-changed_one dir (has_number n) (marked file) (kept_from t.slots.items) x here in omega arith;
 }
 
 -- whether the next number is reserved

@@ -1,5 +1,5 @@
 -- How the entries stand in the slots of their table, and what its index has of them.
-use Rattle.std.specs.Prelude.{◌≡◌, ℕ, ◌+◌, ◌<◌, ◌≤◌, Bool, List, [], ◌∷◌, map, length, Option, Some, None, if◌then◌else◌}
+use Rattle.std.specs.Prelude.{◌≡◌, ℕ, ◌+◌, ◌<◌, ◌≤◌, ◌⊎◌, Bool, true, List, [], ◌∷◌, map, length, Option, Some, None, if◌then◌else◌}
 use Rattle.std.specs.List.{HoldsAt}
 use Rattle.std.specs.Map.{lookup}
 use Rattle.std.specs.BTreeMap.{is_at}
@@ -8,10 +8,13 @@ use Rattle.std.specs.Ordering.{nat_cmp}
 use Rattle.eden_base.specs.declared.number.FileId.{FileId}
 use Rattle.eden_base.specs.declared.number.Number.{Number}
 use Rattle.eden_base.specs.declared.place.Place.TheVariants.{Linked}
-use Rattle.entry_table.specs.Entries.{entry_of}
+use Rattle.entry_table.specs.Entries.{entry_of, is_kid_of}
+use Rattle.entry_table.specs.Links.{key_of, at_key, written, is_latest, names_in}
 use Rattle.entry_table.specs.Table.{kept_of}
 use Rattle.entry_table.specs.declared.kept.Kept.{Kept}
 use Rattle.entry_table.specs.declared.kept.Entry.{Entry}
+use Rattle.entry_table.specs.declared.index.Index.{Index}
+use Rattle.entry_table.specs.declared.index.Link.{Link}
 
 -- an entry without its number, of which no file is remembered and nothing is noted
 abbrev pub held_of : Kept → Entry
@@ -86,9 +89,40 @@ AreSlots low next (slot ∷ slots) = (low ≤ slot.0) × AreSlots (slot.0 + 1) n
 abbrev pub IsSlots : List (ℕ × Option Entry) → Type 0
 IsSlots slots = (next : ℕ) × AreSlots 2 next slots
 
--- what the index has of the entries: each linked one at its place, and nothing else
-pub record IsIndexed (entries : List Kept) (link : ℕ → List ℕ → Option ℕ) : Type 0 where
-  pub stands : (dir : ℕ) (name : List ℕ) (n : ℕ) → link dir name ≡ Some n →
-      (kept : Kept) × (entry_of entries n ≡ Some kept) × (kept.place ≡ Linked (record { 0 = dir }) name)
-  pub found : (n : ℕ) (kept : Kept) (dir : Number) (name : List ℕ) → entry_of entries n ≡ Some kept →
-      kept.place ≡ Linked dir name → link dir.0 name ≡ Some n
+-- an entry stands under this name in the directory, and has this number
+abbrev pub Stands : List Kept → ℕ → List ℕ → ℕ → Type 0
+Stands entries dir name n =
+    (kept : Kept) × (entry_of entries n ≡ Some kept) × (kept.place ≡ Linked (record { 0 = dir }) name)
+
+-- a key is that of an entry's place
+abbrev pub IsKeyOf : List Kept → ℕ → ℕ → Type 0
+IsKeyOf entries key n = (dir : ℕ) × (name : List ℕ) × Stands entries dir name n × (key_of dir name ≡ key)
+
+-- the index has the number for its place: as the latest, at its key, or under its name
+abbrev pub IsFiled : Index → ℕ → List ℕ → ℕ → Type 0
+IsFiled index dir name n =
+    (is_latest index.latest n ≡ true)
+    ⊎ ((at_key index.maps.numbers (key_of dir name) ≡ Some n) ⊎ (written index.maps.others dir name ≡ Some n))
+
+-- the link that was added last is that of an entry
+abbrev pub IsLinkOf : List Kept → Link → Type 0
+IsLinkOf entries link =
+    (name : List ℕ) × Stands entries link.parent name link.number × (link.key ≡ key_of link.parent name)
+
+-- one if the entry stands in the directory, else none
+abbrev pub kid_in : ℕ → Kept → ℕ
+kid_in dir kept = if is_kid_of dir kept then 1 else 0
+
+-- how many entries stand in a directory
+abbrev pub kids_of : ℕ → List Kept → ℕ
+kids_of dir [] = 0
+kids_of dir (kept ∷ entries) = kids_of dir entries + kid_in dir kept
+
+-- what the index has of the entries: it has each linked one, and nothing else; and it counts those in each directory
+pub record IsIndexed (entries : List Kept) (index : Index) : Type 0 where
+  pub apart : (dir : ℕ) (name : List ℕ) (n m : ℕ) → Stands entries dir name n → Stands entries dir name m → n ≡ m
+  pub found : (dir : ℕ) (name : List ℕ) (n : ℕ) → Stands entries dir name n → IsFiled index dir name n
+  pub keyed : (key n : ℕ) → at_key index.maps.numbers key ≡ Some n → IsKeyOf entries key n
+  pub others : (dir : ℕ) (name : List ℕ) (n : ℕ) → written index.maps.others dir name ≡ Some n → Stands entries dir name n
+  pub latest : (link : Link) → index.latest ≡ Some link → IsLinkOf entries link
+  pub counts : (dir : ℕ) → names_in index dir ≡ kids_of dir entries

@@ -1,151 +1,157 @@
-//! The numbers of the names in every directory.
-ghost use Rattle.std.specs.Prelude.{◌≡◌, ℕ, ◌&&◌, true, List, Some, None, IfOk, OnOk, is_ok, if◌then◌else◌};
-ghost use Rattle.entry_table.specs.Entries.{AreEntries};
-ghost use Rattle.entry_table.specs.Slots.{IsIndexed};
-ghost use Rattle.entry_table.specs.Links.{link_of, is_ready, Has, is_latest_in, is_link, written};
+//! The index of the linked entries: from a place to its number.
+ghost use Rattle.std.specs.Prelude.{◌≡◌, ℕ, ◌<◌, ◌^◌, ◌-◌, true, List, [], Some, None, IfOk, OnOk, nat_lt, length, if◌then◌else◌};
+ghost use Rattle.std.specs.Option.{IfSome, IfNone};
+ghost use Rattle.entry_table.specs.Entries.{AreEntries, entry_at};
+ghost use Rattle.entry_table.specs.Slots.{kept_from, IsSlots, IsIndexed, Stands};
+ghost use Rattle.entry_table.specs.Links.{counted, key_of, one_in, latest_at, is_latest, is_latest_in, names_in, is_ready, Unlinks};
 
 use crate::kept::Kept;
-use eden_base::{Name, NameRoom, NoMemory, Place};
+use crate::maps::{Maps, key_of};
+use crate::table::{Slot, held_at};
+use eden_base::{Name, NoMemory, Number, Place};
 use std::alloc::Global;
-use std::collections::{BTreeMap, HashMap};
 
-/// The numbers of the names in one directory.
-#[derive(Drop)]
-pub(crate) struct Directory {
-    numbers: BTreeMap<Name, u64>,
-}
-
-/// One name in a directory, and its number.
+/// The place of an entry by its key, and its number.
 #[derive(Drop)]
 pub(crate) struct Link {
     parent: u64,
-    name: Name,
+    key: u64,
     number: u64,
 }
 
-/// The index of the linked entries: their names by directory. The link that was added last stands beside the maps until
-/// `reserve` makes it one of them, so that a link is added without memory.
+/// The index of the linked entries. It has no names: a number that it has at the key of a place is that of the place if
+/// the entry says so. The link that was added last stands beside the maps until `settle` makes it one of them, so that
+/// a link is added without memory.
 #[derive(Drop)]
 pub(crate) struct Index {
-    directories: HashMap<u64, Directory>,
+    maps: Maps,
     latest: Option<Link>,
-    room: Option<NameRoom>,
 }
 
 impl Index {
     /// Returns an index without links.
     pub fn new(alloc: Global) -> Index
-        ensures { (parent : ℕ) (name : List ℕ) → link_of result parent name ≡ None }
+        ensures { IsIndexed [] result }
     {
         Index {
-            directories: HashMap::new(alloc),
+            maps: Maps::new(alloc),
             latest: None,
-            room: None,
         }
     }
 
     /// Returns the index of these entries.
     pub fn of_entries(alloc: Global, entries: &[Kept]) -> Result<Index, NoMemory>
         requires { (next : ℕ) × AreEntries entries.now next }
-        ensures { IfOk result (λ index. IsIndexed entries.now (link_of index)) }
+        ensures { IfOk result (IsIndexed entries.now) }
     {
-        let mut directories = HashMap::new(alloc);
+        let mut maps = Maps::new(alloc);
         for kept in entries {
             let Place::Linked { parent, name } = &kept.place else {
                 continue;
             };
-            let name = name.copy(alloc)?;
-            insert(&mut directories, alloc, parent.0, name, kept.number.0)?;
+            let key = key_of(parent.0, name);
+            maps.file(alloc, parent.0, name, key, kept.number.0)?;
         }
-        Ok(Index {
-            directories,
-            latest: None,
-            room: None,
-        })
+        Ok(Index { maps, latest: None })
     }
 
-    /// Returns the number of a name in a directory.
-    pub fn get(&self, parent: u64, name: &Name) -> Option<u64>
-        ensures { result ≡ link_of self.now parent name.now }
+    /// Returns the number of a name in a directory, where the slots have the entries.
+    pub fn get(&self, slots: &[Slot], parent: u64, name: &Name) -> Option<u64>
+        requires slots { IsSlots slots.now }
+        requires indexed { IsIndexed (kept_from slots.now) self.now }
+        ensures some { IfSome result (Stands (kept_from slots.now) parent name.now) }
+        ensures none { IfNone result (entry_at (kept_from slots.now) parent name.now ≡ None) }
     {
-        if let Some(link) = &self.latest {
-            if link.parent == parent && name.is(&link.name) {
-                return Some(link.number);
-            }
+        let key = key_of(parent, name);
+        if let Some(number) = standing(slots, latest_at(&self.latest, key), parent, name) {
+            return Some(number);
         }
-        self.directories.get(&parent)?.numbers.get(name).copied()
+        if let Some(number) = standing(slots, self.maps.at_key(key), parent, name) {
+            return Some(number);
+        }
+        self.maps.other(parent, name)
     }
 
     /// Tells whether a name stands in the directory.
     pub fn has_names(&self, parent: u64) -> bool
-        ensures { Has self.now parent result }
+        ensures { result ≡ nat_lt 0 (names_in self.now parent) }
     {
         if is_latest_in(&self.latest, parent) {
             return true;
         }
-        match self.directories.get(&parent) {
-            Some(directory) => !directory.numbers.is_empty(),
-            None => false,
-        }
+        self.maps.has_names(parent)
     }
 
-    /// Makes room for one link.
-    pub fn reserve(&mut self, alloc: Global) -> Result<(), NoMemory>
-        ensures links { (parent : ℕ) (name : List ℕ) → link_of self.new parent name ≡ link_of self.old parent name }
+    /// Moves the link that was added last into the maps, so that there is room for another.
+    pub fn settle(&mut self, alloc: Global, slots: &[Slot]) -> Result<(), NoMemory>
+        requires slots { IsSlots slots.now }
+        requires fits { length slots.now < 2 ^ 64 }
+        requires indexed { IsIndexed (kept_from slots.now) self.old }
+        ensures indexed { IsIndexed (kept_from slots.now) self.new }
         ensures ready { OnOk result (is_ready self.new ≡ true) }
-    {
-        self.settle(alloc)?;
-        if self.room.is_none() {
-            self.room = Some(NameRoom::new(alloc)?);
-        }
-        Ok(())
-    }
-
-    /// Moves the link that was added last into the maps.
-    fn settle(&mut self, alloc: Global) -> Result<(), NoMemory>
-        ensures links { (parent : ℕ) (name : List ℕ) → link_of self.new parent name ≡ link_of self.old parent name }
-        ensures settled { OnOk result (self.new.latest ≡ None) }
     {
         let Some(link) = &self.latest else {
             return Ok(());
         };
-        let name = link.name.copy(alloc)?;
-        insert(&mut self.directories, alloc, link.parent, name, link.number)?;
+        let Some(entry) = held_at(slots, Number(link.number)) else {
+            unreachable!()
+        };
+        let Place::Linked { name, .. } = &entry.place else {
+            unreachable!()
+        };
+        self.maps
+            .file(alloc, link.parent, name, link.key, link.number)?;
         self.latest = None;
         Ok(())
     }
 
-    /// Adds a link, in the room that `reserve` made.
+    /// Adds a link, in the room that `settle` made.
     pub fn add(&mut self, parent: u64, name: &Name, number: u64)
-        requires ready { is_ready self.old ≡ true }
-        ensures { (dir : ℕ) (q : List ℕ) → link_of self.new dir q
-            ≡ (if is_link dir q parent name.now then Some number else link_of self.old dir q) }
+        ensures { self.new ≡ record self.old {
+          latest = Some (record { parent = parent; key = key_of parent name.now; number = number });
+        } }
     {
-        match self.room.take() {
-            Some(room) => {
-                let name = name.copy_to(room);
-                self.latest = Some(Link {
-                    parent,
-                    name,
-                    number,
-                });
-            }
-            None => unreachable!(),
-        }
+        self.latest = Some(Link {
+            parent,
+            key: key_of(parent, name),
+            number,
+        });
     }
 
-    /// Removes the link of a name in a directory. A directory without names leaves with its last.
-    pub fn remove(&mut self, parent: u64, name: &Name)
-        ensures links { (dir : ℕ) (q : List ℕ) → link_of self.new dir q
-            ≡ (if is_link dir q parent name.now then None else link_of self.old dir q) }
-        ensures ready { is_ready self.old ≡ true → is_ready self.new ≡ true }
+    /// Removes the link of a number, whose name is this in the directory.
+    pub fn remove(&mut self, parent: u64, name: &Name, number: u64)
+        ensures { Unlinks self.old self.new parent name.now number }
     {
-        if let Some(link) = &self.latest {
-            if link.parent == parent && name.is(&link.name) {
-                self.latest = None;
-            }
+        self.uncount(parent, number);
+        self.maps
+            .drop_link(parent, name, key_of(parent, name), number);
+    }
+
+    /// Counts the name of a number in its directory no more.
+    fn uncount(&mut self, parent: u64, number: u64)
+        ensures numbers { self.new.maps.numbers ≡ self.old.maps.numbers }
+        ensures others { self.new.maps.others ≡ self.old.maps.others }
+        ensures counts { (dir : ℕ) → counted self.new.maps.counts dir
+            ≡ (if is_latest self.old.latest number then counted self.old.maps.counts dir
+            else counted self.old.maps.counts dir - one_in dir parent) }
+        ensures latest { self.new.latest
+            ≡ (if is_latest self.old.latest number then None else self.old.latest) }
+    {
+        if is_latest(&self.latest, number) {
+            self.latest = None;
+            return;
         }
-        remove(&mut self.directories, parent, name);
+        self.maps.uncount(parent);
+    }
+}
+
+/// Tells whether the link beside the maps is the number's.
+fn is_latest(latest: &Option<Link>, number: u64) -> bool
+    ensures { result ≡ is_latest latest.now number }
+{
+    match latest {
+        Some(link) => link.number == number,
+        None => false,
     }
 }
 
@@ -159,35 +165,35 @@ fn is_latest_in(latest: &Option<Link>, parent: u64) -> bool
     }
 }
 
-/// Lets a name in a directory have a number.
-fn insert(
-    directories: &mut HashMap<u64, Directory>,
-    alloc: Global,
-    parent: u64,
-    name: Name,
-    number: u64,
-) -> Result<(), NoMemory>
-    ensures { (dir : ℕ) (q : List ℕ) → written directories.new dir q
-        ≡ (if is_ok result && is_link dir q parent name then Some number else written directories.old dir q) }
+/// Returns the number of the link beside the maps, if it has this key.
+fn latest_at(latest: &Option<Link>, key: u64) -> Option<u64>
+    ensures { result ≡ latest_at latest.now key }
 {
-    let none = Directory {
-        numbers: BTreeMap::new(alloc),
-    };
-    let directory = directories.entry(parent)?.or_insert(none);
-    directory.numbers.insert(name, number)?;
-    Ok(())
+    match latest {
+        Some(link) if link.key == key => Some(link.number),
+        _ => None,
+    }
 }
 
-/// Removes a name from its directory, and the directory with its last name.
-fn remove(directories: &mut HashMap<u64, Directory>, parent: u64, name: &Name)
-    ensures { (dir : ℕ) (q : List ℕ) → written directories.new dir q
-        ≡ (if is_link dir q parent name.now then None else written directories.old dir q) }
+/// Returns a number if its entry stands under the name in the directory.
+fn standing(slots: &[Slot], number: Option<u64>, parent: u64, name: &Name) -> Option<u64>
+    requires { IsSlots slots.now }
+    ensures number { IfSome result (λ n. number ≡ Some n) }
+    ensures some { IfSome result (Stands (kept_from slots.now) parent name.now) }
+    ensures none { IfNone result ((n : ℕ) → number ≡ Some n → Stands (kept_from slots.now) parent name.now n → ⊥) }
 {
-    let Some(directory) = directories.get_mut(&parent) else {
-        return;
-    };
-    directory.numbers.remove(name);
-    if directory.numbers.is_empty() {
-        directories.remove(&parent);
+    let number = number?;
+    let entry = held_at(slots, Number(number))?;
+    match &entry.place {
+        Place::Linked {
+            parent: dir,
+            name: linked,
+        } => {
+            if dir.0 == parent && linked.is(name) {
+                return Some(number);
+            }
+            None
+        }
+        Place::Unlinked { .. } => None,
     }
 }

@@ -3,6 +3,7 @@
 
 mod index;
 mod kept;
+mod maps;
 mod table;
 mod way;
 

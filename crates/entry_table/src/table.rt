@@ -127,7 +127,7 @@ impl Table {
     pub fn find(&self, parent: Number, name: &Name) -> Option<Number>
         ensures number { result ≡ option_map number_of_kept (entry_at self.now.entries parent.0 name.now) }
     {
-        match self.index.get(parent.0, name) {
+        match self.index.get(self.slots.as_slice(), parent.0, name) {
             Some(number) => Some(Number(number)),
             None => None,
         }
@@ -148,10 +148,10 @@ impl Table {
         if self.is_reserved {
             return Ok(());
         }
-        self.index.reserve(alloc)?;
         make_room(&mut self.slots)?;
         self.way.clear();
         self.way.try_reserve_exact(self.slots.capacity())?;
+        self.index.settle(alloc, self.slots.as_slice())?;
         self.is_reserved = true;
         Ok(())
     }
@@ -287,7 +287,7 @@ impl Table {
         let Place::Linked { parent, name } = &entry.place else {
             unreachable!()
         };
-        self.index.remove(parent.0, name);
+        self.index.remove(parent.0, name, number.0);
         *parent
     }
 
@@ -305,7 +305,7 @@ impl Table {
             unreachable!()
         };
         if let Place::Linked { parent, name } = &entry.place {
-            self.index.remove(parent.0, name);
+            self.index.remove(parent.0, name, number.0);
         }
         entry.place
     }

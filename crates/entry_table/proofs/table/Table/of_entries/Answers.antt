@@ -1,6 +1,5 @@
 -- The entries are read again from their slots.
 use Rattle.std.proofs.Common.{◌≡◌, List, length, refl, sym, ap, ◌∙◌, subst, arith}
-use Rattle.entry_table.specs.Links.{link_of}
 use Rattle.entry_table.specs.Slots.{kept_from, IsIndexed}
 use Rattle.entry_table.specs.declared.kept.Kept.{Kept}
 use Rattle.entry_table.proofs.EntryRuns.{slots-are, slots-kept, slots-files, slots-notes}
@@ -12,7 +11,7 @@ invariant_of-result c =
     let same : kept_from c.in_ok-slots.slots.items ≡ es = ap kept_from c.in_ok-slots.ensures.slots ∙ slots-kept es in
     record {
       slots = rw c.in_ok-slots.ensures.slots (slots-are es 2 c.args.next c.requires.entries.numbers);
-      indexed = subst (λ (all : List Kept). IsIndexed all (link_of c.in_ok-index.index)) (c.as_slice-given.ensures.value ∙ sym same) c.in_ok-index.ensures;
+      indexed = subst (λ (all : List Kept). IsIndexed all c.in_ok-index.index) (c.as_slice-given.ensures.value ∙ sym same) c.in_ok-index.ensures;
       ready = λ is. let none : ⊥ = cc in absurd none;
       free = λ is. let none : ⊥ = cc in absurd none;
       room =

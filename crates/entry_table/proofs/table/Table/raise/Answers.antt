@@ -4,7 +4,6 @@ use Rattle.std.specs.Prelude.{nat_lt}
 use Rattle.std.proofs.lemmas.Bool.Decides.{nat_tests}
 use Rattle.eden_base.specs.Limits.{greatest_count}
 use Rattle.entry_table.specs.Entries.{count_of, once_more}
-use Rattle.entry_table.specs.Links.{link_of}
 use Rattle.entry_table.specs.Slots.{slot_at, kept_from, file_beside, note_beside, IsIndexed, IsIndexOf}
 use Rattle.entry_table.specs.declared.kept.Kept.{Kept}
 use Rattle.entry_table.specs.declared.kept.Entry.{Entry}
@@ -56,8 +55,8 @@ invariant_of-self-2 c =
     let now : Entry = record h { count = h.count + 1 } in
     record {
       slots = written-slots t n c.in-Some.index slot c.self.invariant there c.index_mut-slot.ensures.value (Some now);
-      indexed = subst (λ (es : List Kept). IsIndexed es (link_of t.index)) (sym (written-kept t n c.in-Some.index slot c.self.invariant there c.index_mut-slot.ensures.value h now c.in-Some-1₀.is once_more refl))
-          (indexed-changed (kept_from t.slots.items) (link_of t.index) n once_more once-keeps c.self.invariant.indexed);
+      indexed = subst (λ (es : List Kept). IsIndexed es t.index) (sym (written-kept t n c.in-Some.index slot c.self.invariant there c.index_mut-slot.ensures.value h now c.in-Some-1₀.is once_more refl))
+          (indexed-changed (kept_from t.slots.items) t.index n once_more once-keeps c.self.invariant.indexed);
       ready = c.self.invariant.ready;
       free = c.self.invariant.free;
       room = c.self.invariant.room;

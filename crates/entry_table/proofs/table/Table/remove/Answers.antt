@@ -1,8 +1,8 @@
 -- An entry is taken out of its slot and out of the index.
 use Rattle.std.proofs.Common.{◌≡◌, ℕ, List, Option, Some, None, sym, ap, ◌∙◌, subst}
-use Rattle.entry_table.specs.Links.{link_of}
 use Rattle.entry_table.specs.Slots.{slot_at, IsIndexOf}
 use Rattle.entry_table.specs.declared.kept.Entry.{Entry}
+use Rattle.entry_table.proofs.IndexedLosses.{still-ready}
 use Rattle.entry_table.proofs.Removing.{taken-at, left-slots, left-lost, left-marked, left-place, left-view}
 use Rattle.entry_table.proofs.TableLemmas.{never-none, never-empty, found-in}
 use Rattle.entry_table.proofs.table.Table.remove.Goals as goal
@@ -24,8 +24,8 @@ invariant_of-self c =
     let out = taken-at c.self.inside c.args.number.0 c.in-Some.index c.index_mut.result.now c.in-Some-take.entry c.take.new.self c.as_slice.result.now c.self.invariant c.as_slice.ensures.value c.in-Some.ensures.index c.index_mut.ensures.value (sym c.take.ensures.value ∙ c.in-Some-take.is) c.take.ensures.after in
     record {
       slots = left-slots out;
-      indexed = left-lost out (link_of c.remove.new.self) c.in-Linked.parent c.in-Linked.name c.in-Linked.is c.remove.ensures.links;
-      ready = λ is. c.remove.ensures.ready (c.self.invariant.ready is);
+      indexed = left-lost out c.in-Linked.parent c.in-Linked.name c.in-Linked.is c.remove.new.self c.remove.ensures;
+      ready = λ is. still-ready c.self.inside.index c.remove.new.self c.in-Linked.parent.0 c.in-Linked.name c.args.number.0 c.remove.ensures (c.self.invariant.ready is);
       free = c.self.invariant.free;
       room = c.self.invariant.room;
     }

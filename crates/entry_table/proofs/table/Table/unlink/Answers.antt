@@ -4,12 +4,11 @@ use Rattle.std.specs.Prelude.{slice_set}
 use Rattle.eden_base.specs.First.{changed_where}
 use Rattle.eden_base.specs.declared.place.Place.TheVariants.{Unlinked}
 use Rattle.entry_table.specs.Entries.{has_number, entry_of, marked}
-use Rattle.entry_table.specs.Links.{link_of}
 use Rattle.entry_table.specs.Slots.{slot_at, kept_from, file_beside, note_beside, IsIndexed, IsIndexOf}
 use Rattle.entry_table.specs.Table.{TableState, kept_of}
 use Rattle.entry_table.specs.declared.kept.Kept.{Kept}
 use Rattle.entry_table.specs.declared.kept.Entry.{Entry}
-use Rattle.entry_table.proofs.IndexedLemmas.{indexed-lost}
+use Rattle.entry_table.proofs.IndexedLosses.{indexed-lost, still-ready}
 use Rattle.entry_table.proofs.SlotLemmas.{files-kept}
 use Rattle.entry_table.proofs.TableLemmas.{never-none, never-empty, slot-entry, found-in, found-held, written-slots, written-kept, written-beside, marked-loses, linked-some, linked-place}
 use Rattle.entry_table.proofs.table.Table.unlink.Goals as goal
@@ -48,13 +47,11 @@ invariant_of-self c =
     let here = sym c.take.ensures.value ∙ c.in-Some-take.is in
     let now : Entry = record { place = Unlinked c.args.file; count = h.count; file = h.file; note = h.note } in
     let entry = slot-entry t n h c.self.invariant (found-held t n c.in-Some.index slot c.self.invariant there c.index_mut-slot.ensures.value h now here) in
-    let left : List Kept = changed_where (has_number n) (marked c.args.file) (kept_from t.slots.items) in
     record {
       slots = written-slots t n c.in-Some.index slot c.self.invariant there c.index_mut-slot.ensures.value (Some now);
-      indexed = subst (λ (es : List Kept). IsIndexed es (link_of c.remove.new.self)) (sym (written-kept t n c.in-Some.index slot c.self.invariant there c.index_mut-slot.ensures.value h now here (marked c.args.file) refl))
-          (indexed-lost (kept_from t.slots.items) left n (link_of t.index) (link_of c.remove.new.self) (kept_of n h) c.in-Linked.parent c.in-Linked.name
-          (marked-loses t n c.args.file (kept_of n h) entry) entry c.in-Linked.is c.self.invariant.indexed c.remove.ensures.links);
-      ready = λ is. c.remove.ensures.ready (c.self.invariant.ready is);
+      indexed = subst (λ (es : List Kept). IsIndexed es c.remove.new.self) (sym (written-kept t n c.in-Some.index slot c.self.invariant there c.index_mut-slot.ensures.value h now here (marked c.args.file) refl))
+          (indexed-lost (marked-loses t n c.args.file (kept_of n h) entry) c.in-Linked.parent c.in-Linked.name c.in-Linked.is t.index c.remove.new.self c.remove.ensures c.self.invariant.indexed);
+      ready = λ is. still-ready t.index c.remove.new.self c.in-Linked.parent.0 c.in-Linked.name n c.remove.ensures (c.self.invariant.ready is);
       free = c.self.invariant.free;
       room = c.self.invariant.room;
     }

@@ -2,8 +2,8 @@
 use Rattle.std.proofs.Common.{Some, ap, ◌∙◌, unwrap_or, arith}
 use Rattle.std.specs.HashMap.Entry.{map_with_value}
 use Rattle.entry_table.proofs.IndexLemmas.{directory-written, names-opened}
-use Rattle.entry_table.specs.declared.index.Directory.{Directory}
-use Rattle.entry_table.proofs.index.insert.Goals as goal
+use Rattle.entry_table.specs.declared.maps.Directory.{Directory}
+use Rattle.entry_table.proofs.maps.insert.Goals as goal
 
 pub returns : goal.returns
 returns c =

@@ -2,9 +2,9 @@
 use Rattle.std.proofs.Common.{◌≡◌, Some, None, cond, refl, ap, sym, ◌∙◌}
 use Rattle.std.specs.Prelude.{nat_eq}
 use Rattle.std.specs.HashMap.{get}
-use Rattle.entry_table.specs.declared.index.Directory.{Directory}
+use Rattle.entry_table.specs.declared.maps.Directory.{Directory}
 use Rattle.entry_table.proofs.IndexLemmas.{cond-cond, no_names, directory-written, names-written}
-use Rattle.entry_table.proofs.index.remove.Goals as goal
+use Rattle.entry_table.proofs.maps.remove.Goals as goal
 
 pub returns-then-is_empty : goal.returns-then-is_empty
 returns-then-is_empty c =

@@ -1,0 +1,207 @@
+//! The maps of the index: numbers by the keys of their places, names whose key was taken, and counts of names.
+ghost use Rattle.std.specs.Prelude.{◌≡◌, ℕ, ◌+◌, ◌-◌, ◌<◌, ◌^◌, ◌==◌, ◌&&◌, List, Some, None, IfOk, OnOk, OnErr, is_ok, not, nat_lt, if◌then◌else◌};
+ghost use Rattle.entry_table.specs.Links.{is_link, at_key, is_at_key, is_taken, written, counted, one_in, key_of, Files, Drops, AreAlike};
+
+use eden_base::{Name, NoMemory};
+use std::alloc::Global;
+use std::collections::{BTreeMap, HashMap};
+
+/// The numbers of the names in one directory.
+#[derive(Drop)]
+pub(crate) struct Directory {
+    numbers: BTreeMap<Name, u64>,
+}
+
+/// The links of entries by the keys of their places. A key has one number. A link whose key is another's stands in
+/// `others`, under its name. Keys are ordered, not hashed once more, so that no choice of names makes a search long.
+#[derive(Drop)]
+pub(crate) struct Maps {
+    numbers: BTreeMap<u64, u64>,
+    others: HashMap<u64, Directory>,
+    /// How many names each directory has.
+    counts: HashMap<u64, u64>,
+}
+
+impl Maps {
+    /// Returns maps without links.
+    pub fn new(alloc: Global) -> Maps
+        ensures numbers { (key : ℕ) → at_key result.numbers key ≡ None }
+        ensures others { (dir : ℕ) (q : List ℕ) → written result.others dir q ≡ None }
+        ensures counts { (dir : ℕ) → counted result.counts dir ≡ 0 }
+    {
+        Maps {
+            numbers: BTreeMap::new(alloc),
+            others: HashMap::new(alloc),
+            counts: HashMap::new(alloc),
+        }
+    }
+
+    /// Returns the number at a key.
+    pub fn at_key(&self, key: u64) -> Option<u64>
+        ensures { result ≡ at_key self.now.numbers key }
+    {
+        self.numbers.get(&key).copied()
+    }
+
+    /// Returns the number of a name whose key is another's.
+    pub fn other(&self, parent: u64, name: &Name) -> Option<u64>
+        ensures { result ≡ written self.now.others parent name.now }
+    {
+        self.others.get(&parent)?.numbers.get(name).copied()
+    }
+
+    /// Tells whether a name is counted in the directory.
+    pub fn has_names(&self, parent: u64) -> bool
+        ensures { result ≡ nat_lt 0 (counted self.now.counts parent) }
+    {
+        match self.counts.get(&parent) {
+            Some(count) => *count > 0,
+            None => false,
+        }
+    }
+
+    /// Files a link of this key, and counts its name.
+    pub fn file(
+        &mut self,
+        alloc: Global,
+        parent: u64,
+        name: &Name,
+        key: u64,
+        number: u64,
+    ) -> Result<(), NoMemory>
+        requires room { counted self.old.counts parent + 1 < 2 ^ 64 }
+        ensures files { OnOk result (Files self.old self.new parent name.now key number) }
+        ensures alike { OnErr result (AreAlike self.old self.new) }
+    {
+        let count = self.counts.entry(parent)?.or_insert(0);
+        place(
+            &mut self.numbers,
+            &mut self.others,
+            alloc,
+            parent,
+            name,
+            key,
+            number,
+        )?;
+        *count += 1;
+        Ok(())
+    }
+
+    /// Drops the link of a number, from its key or from under its name.
+    pub fn drop_link(&mut self, parent: u64, name: &Name, key: u64, number: u64)
+        ensures drops { Drops self.old self.new parent name.now key number }
+        ensures counts { self.new.counts ≡ self.old.counts }
+    {
+        take_key(&mut self.numbers, key, number);
+        remove(&mut self.others, parent, name);
+    }
+
+    /// Counts a name of a directory no more.
+    pub fn uncount(&mut self, parent: u64)
+        ensures numbers { self.new.numbers ≡ self.old.numbers }
+        ensures others { self.new.others ≡ self.old.others }
+        ensures counts { (dir : ℕ) → counted self.new.counts dir
+            ≡ counted self.old.counts dir - one_in dir parent }
+    {
+        lower(&mut self.counts, parent);
+    }
+}
+
+/// Makes the key of a place. It is a polynomial in a large odd number, so that places of few names have keys apart.
+pub(crate) fn key_of(parent: u64, name: &Name) -> u64
+    ensures { result ≡ key_of parent name.now }
+{
+    let mut key = parent;
+    for byte in name.bytes() {
+        key = key
+            .wrapping_mul(0x9E37_79B9_7F4A_7C15)
+            .wrapping_add(u64::from(*byte));
+    }
+    key
+}
+
+/// Lets a key have a number, or a name where the key has one.
+fn place(
+    numbers: &mut BTreeMap<u64, u64>,
+    others: &mut HashMap<u64, Directory>,
+    alloc: Global,
+    parent: u64,
+    name: &Name,
+    key: u64,
+    number: u64,
+) -> Result<(), NoMemory>
+    ensures numbers { (k : ℕ) → at_key numbers.new k
+        ≡ (if is_ok result && (k == key && not (is_taken numbers.old key)) then Some number
+        else at_key numbers.old k) }
+    ensures others { (dir : ℕ) (q : List ℕ) → written others.new dir q
+        ≡ (if is_ok result && (is_link dir q parent name.now && is_taken numbers.old key)
+        then Some number else written others.old dir q) }
+{
+    if numbers.contains_key(&key) {
+        let name = name.copy(alloc)?;
+        return insert(others, alloc, parent, name, number);
+    }
+    numbers.insert(key, number)?;
+    Ok(())
+}
+
+/// Takes a number from its key, if the key has it.
+fn take_key(numbers: &mut BTreeMap<u64, u64>, key: u64, number: u64)
+    ensures { (k : ℕ) → at_key numbers.new k
+        ≡ (if k == key && is_at_key numbers.old key number then None else at_key numbers.old k) }
+{
+    let Some(there) = numbers.get(&key) else {
+        return;
+    };
+    if *there != number {
+        return;
+    }
+    numbers.remove(&key);
+}
+
+/// Counts a name of a directory no more. A directory leaves with its last name.
+fn lower(counts: &mut HashMap<u64, u64>, parent: u64)
+    ensures { (dir : ℕ) → counted counts.new dir ≡ counted counts.old dir - one_in dir parent }
+{
+    let Some(count) = counts.get_mut(&parent) else {
+        return;
+    };
+    if *count > 1 {
+        *count -= 1;
+        return;
+    }
+    counts.remove(&parent);
+}
+
+/// Lets a name in a directory have a number.
+fn insert(
+    directories: &mut HashMap<u64, Directory>,
+    alloc: Global,
+    parent: u64,
+    name: Name,
+    number: u64,
+) -> Result<(), NoMemory>
+    ensures { (dir : ℕ) (q : List ℕ) → written directories.new dir q
+        ≡ (if is_ok result && is_link dir q parent name then Some number else written directories.old dir q) }
+{
+    let none = Directory {
+        numbers: BTreeMap::new(alloc),
+    };
+    let directory = directories.entry(parent)?.or_insert(none);
+    directory.numbers.insert(name, number)?;
+    Ok(())
+}
+
+/// Removes a name from its directory, and the directory with its last name.
+fn remove(directories: &mut HashMap<u64, Directory>, parent: u64, name: &Name)
+    ensures { (dir : ℕ) (q : List ℕ) → written directories.new dir q
+        ≡ (if is_link dir q parent name.now then None else written directories.old dir q) }
+{
+    let Some(directory) = directories.get_mut(&parent) else {
+        return;
+    };
+    directory.numbers.remove(name);
+    if directory.numbers.is_empty() {
+        directories.remove(&parent);
+    }
+}
