@@ -1,15 +1,15 @@
 -- A name that was written into the directories of the index, or taken out of them.
 use Rattle.std.proofs.Common.{◌≡◌, ℕ, Bool, true, false, cond, List, [], ◌∷◌, length, Option, Some, None, if◌then◌else◌, refl, sym, ap, ◌∙◌, subst, inl, inr, ◌⊎◌, arith}
-use Rattle.std.specs.Prelude.{◌==◌, nat_eq, not}
+use Rattle.std.specs.Prelude.{◌==◌, nat_eq}
 use Rattle.std.specs.Option.{option_and_then, unwrap_or}
-use Rattle.std.specs.Ordering.{nat_cmp, is_eq}
-use Rattle.std.specs.Cmp.{tied_itself, unsigned_ties}
-use Rattle.std.specs.Cmp.Lexicographic.{pointwise, slice_cmp, nat_list_cmp_total, same_text, texts_ties}
+use Rattle.std.specs.Ordering.{nat_cmp}
+use Rattle.std.specs.Cmp.{unsigned_ties}
+use Rattle.std.specs.Cmp.Lexicographic.{pointwise, slice_cmp, same_text, texts_ties}
 use Rattle.std.specs.BTreeMap.{get, is_at}
 use Rattle.std.specs.HashMap.{HashMap}
 use Rattle.std.specs.HashMap as hash
 use Rattle.std.specs.Map.{lookup}
-use Rattle.eden_base.proofs.NumberTests.{eq-true, eq-false, eq-or, true-eq}
+use Rattle.eden_base.proofs.NumberTests.{eq-true, eq-false, eq-or}
 use Rattle.entry_table.specs.Links.{is_link, in_directory, written}
 use Rattle.entry_table.specs.declared.maps.Directory.{Directory}
 

@@ -1,19 +1,18 @@
 -- The index of the linked entries after an entry came, lost its name or went, and after a link was filed in the maps.
-use Rattle.std.proofs.Common.{◌≡◌, ℕ, ◌+◌, ◌-◌, ◌≤◌, Bool, true, false, cond, List, [], ◌∷◌, ◌++◌, Option, Some, None, refl, sym, ap, ◌∙◌, subst, inl, inr, ◌⊎◌, arith}
+use Rattle.std.proofs.Common.{◌≡◌, ℕ, ◌+◌, Bool, true, false, List, [], ◌∷◌, ◌++◌, Option, Some, None, refl, sym, ap, ◌∙◌, subst, inl, inr, ◌⊎◌, arith}
 use Rattle.std.proofs.lemmas.Bool.{and_parts}
 use Rattle.std.specs.Prelude.{◌==◌, ◌&&◌, not, is_some, if◌then◌else◌}
 use Rattle.eden_base.proofs.MemberLemmas.{some-same}
-use Rattle.eden_base.proofs.NumberTests.{eq-true, eq-false, true-eq, eq-or}
-use Rattle.eden_base.specs.declared.number.FileId.{FileId}
+use Rattle.eden_base.proofs.NumberTests.{eq-true, true-eq}
 use Rattle.eden_base.specs.declared.number.Number.{Number}
 use Rattle.eden_base.specs.declared.place.Place.{Place}
 use Rattle.eden_base.specs.declared.place.Place.TheVariants.{Linked}
 use Rattle.entry_table.proofs.Changing.{append-extends}
-use Rattle.entry_table.proofs.IndexedLemmas.{latest-link, latest-is, indexed-same}
+use Rattle.entry_table.proofs.IndexedLemmas.{latest-link}
 use Rattle.entry_table.proofs.Kids.{kids-append}
-use Rattle.entry_table.proofs.Standing.{Loses, link-same, link-alike, one-place, none-stands, stands-counted, stands-extends, stands-more, stands-was, stands-left, left-stood, lost-stood, none-stood}
+use Rattle.entry_table.proofs.Standing.{link-same, link-alike, one-place, none-stands, stands-extends, stands-more, stands-was}
 use Rattle.entry_table.specs.Entries.{entry_of, entry_at, is_in}
-use Rattle.entry_table.specs.Links.{key_of, is_link, at_key, is_at_key, is_taken, written, counted, one_in, is_latest, of_latest, is_ready, Files, Drops}
+use Rattle.entry_table.specs.Links.{key_of, is_link, at_key, is_taken, written, counted, one_in, is_latest, of_latest, is_ready, Files}
 use Rattle.entry_table.specs.Slots.{Stands, IsFiled, IsIndexed, IsLinkOf, IsKeyOf, kid_in, kids_of}
 use Rattle.entry_table.specs.declared.index.Index.{Index}
 use Rattle.entry_table.specs.declared.index.Link.{Link}

@@ -1,18 +1,16 @@
 -- The index of the linked entries: what it says of a place, and that it stays right where entries keep their places.
-use Rattle.std.proofs.Common.{◌≡◌, ℕ, ◌+◌, Bool, true, false, cond, List, [], ◌∷◌, ◌++◌, Option, Some, None, refl, sym, ap, ◌∙◌, subst, inl, inr, ◌⊎◌, arith}
-use Rattle.std.specs.Prelude.{◌==◌, nat_lt, if◌then◌else◌}
+use Rattle.std.proofs.Common.{◌≡◌, ℕ, ◌+◌, true, List, [], Option, Some, None, refl, sym, ap, ◌∙◌, subst, inl, inr, arith}
+use Rattle.std.specs.Prelude.{nat_lt, if◌then◌else◌}
 use Rattle.std.specs.Option.{option_map}
 use Rattle.std.specs.List.{list_any}
 use Rattle.eden_base.proofs.NumberTests.{eq-true, true-eq}
-use Rattle.eden_base.specs.declared.number.Number.{Number}
-use Rattle.eden_base.specs.declared.place.Place.TheVariants.{Linked}
 use Rattle.eden_base.specs.First.{changed_where}
-use Rattle.entry_table.proofs.Changing.{KeepsPlace, changed-extends, changed-extended, append-extends}
-use Rattle.entry_table.proofs.Kids.{kids-any, kids-append, kids-kept}
-use Rattle.entry_table.proofs.Standing.{number_of, one-place, entry-stands, none-stands, stands-extends, stands-more, stands-was}
-use Rattle.entry_table.specs.Entries.{has_number, entry_of, entry_at, is_in, is_kid_of, number_of_kept, AreNumbers}
+use Rattle.entry_table.proofs.Changing.{KeepsPlace, changed-extends, changed-extended}
+use Rattle.entry_table.proofs.Kids.{kids-any, kids-kept}
+use Rattle.entry_table.proofs.Standing.{number_of, one-place, entry-stands, none-stands, stands-extends}
+use Rattle.entry_table.specs.Entries.{has_number, entry_at, is_kid_of, number_of_kept, AreNumbers}
 use Rattle.entry_table.specs.Links.{key_of, at_key, written, counted, is_latest, latest_at, of_latest, names_in, AreAlike}
-use Rattle.entry_table.specs.Slots.{Stands, IsFiled, IsIndexed, IsLinkOf, IsKeyOf, kids_of}
+use Rattle.entry_table.specs.Slots.{Stands, IsFiled, IsIndexed, kids_of}
 use Rattle.entry_table.specs.declared.index.Index.{Index}
 use Rattle.entry_table.specs.declared.index.Link.{Link}
 use Rattle.entry_table.specs.declared.kept.Kept.{Kept}

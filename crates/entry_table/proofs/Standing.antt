@@ -1,14 +1,14 @@
 -- Entries that stand under their names, after a change of the list.
-use Rattle.std.proofs.Common.{◌≡◌, ℕ, ◌+◌, ◌≤◌, Bool, true, false, List, [], ◌∷◌, ◌++◌, Option, Some, None, refl, sym, ap, ◌∙◌, subst, inl, inr, ◌⊎◌}
+use Rattle.std.proofs.Common.{◌≡◌, ℕ, ◌+◌, ◌≤◌, true, false, List, [], ◌∷◌, ◌++◌, Some, None, refl, sym, ap, ◌∙◌, subst, inl, inr, ◌⊎◌}
 use Rattle.std.proofs.lemmas.Bool.{and_parts}
 use Rattle.std.specs.Prelude.{◌==◌, nat_eq}
 use Rattle.std.specs.Cmp.Lexicographic.{pointwise, same_text}
 use Rattle.eden_base.proofs.MemberLemmas.{some-same, first-none, first-passes}
-use Rattle.eden_base.proofs.NumberTests.{eq-true, true-eq, eq-or}
+use Rattle.eden_base.proofs.NumberTests.{eq-true, true-eq}
 use Rattle.eden_base.specs.declared.number.FileId.{FileId}
 use Rattle.eden_base.specs.declared.number.Number.{Number}
 use Rattle.eden_base.specs.declared.place.Place.TheVariants.{Linked, Unlinked}
-use Rattle.entry_table.proofs.Changing.{new_or_old, append-extends}
+use Rattle.entry_table.proofs.Changing.{new_or_old}
 use Rattle.entry_table.proofs.EntryLemmas.{entry_of-first, append-same}
 use Rattle.entry_table.proofs.FileLemmas.{Extends, linked-marked, linked-dir, linked-name}
 use Rattle.entry_table.proofs.IndexLemmas.{names-alike}

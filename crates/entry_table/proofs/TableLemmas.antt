@@ -10,7 +10,7 @@ use Rattle.eden_base.specs.declared.place.Place.TheVariants.{Unlinked}
 use Rattle.eden_base.specs.First.{changed_where, without_where}
 use Rattle.entry_table.specs.Entries.{has_number, entry_of, marked, IsLinked}
 use Rattle.entry_table.specs.Inside.{IsTable}
-use Rattle.entry_table.specs.Slots.{kept_from, slot_at, all_beside, files_from, notes_from, spare_of, AreSlots, IsIndexOf, IsIndexed}
+use Rattle.entry_table.specs.Slots.{kept_from, slot_at, all_beside, files_from, notes_from, spare_of, AreSlots, IsIndexOf}
 use Rattle.entry_table.specs.Table.{TableState, kept_of}
 use Rattle.entry_table.specs.declared.kept.Kept.{Kept}
 use Rattle.entry_table.specs.declared.kept.Entry.{Entry}

@@ -1,5 +1,5 @@
 -- The link that stood beside the maps is filed under the name that its entry has.
-use Rattle.std.proofs.Common.{◌≡◌, ℕ, Bool, List, Option, Some, refl, sym, ap, ◌∙◌, subst, arith}
+use Rattle.std.proofs.Common.{◌≡◌, ℕ, Bool, List, Option, refl, sym, ap, ◌∙◌, subst, arith}
 use Rattle.std.specs.Prelude.{if◌then◌else◌}
 use Rattle.eden_base.proofs.NumberTests.{eq-true}
 use Rattle.entry_table.specs.Links.{key_of, of_latest}

@@ -1,10 +1,9 @@
 -- A name is taken out of its slot and out of the index.
 use Rattle.std.proofs.Common.{◌≡◌, ℕ, List, Option, Some, None, refl, sym, ap, ◌∙◌, subst}
 use Rattle.std.specs.Prelude.{slice_set}
-use Rattle.eden_base.specs.First.{changed_where}
 use Rattle.eden_base.specs.declared.place.Place.TheVariants.{Unlinked}
-use Rattle.entry_table.specs.Entries.{has_number, entry_of, marked}
-use Rattle.entry_table.specs.Slots.{slot_at, kept_from, file_beside, note_beside, IsIndexed, IsIndexOf}
+use Rattle.entry_table.specs.Entries.{entry_of, marked}
+use Rattle.entry_table.specs.Slots.{slot_at, file_beside, note_beside, IsIndexed, IsIndexOf}
 use Rattle.entry_table.specs.Table.{TableState, kept_of}
 use Rattle.entry_table.specs.declared.kept.Kept.{Kept}
 use Rattle.entry_table.specs.declared.kept.Entry.{Entry}
