@@ -19,6 +19,7 @@ use Rattle.manifest.specs.Manifest.{Manifest}
 use Rattle.manifest.specs.Tree.{is_dir, link_cmp}
 use Rattle.checkout.proofs.ChangeLists.{all_weaker}
 use Rattle.manifest.proofs.FlatLemmas.{link_cmp_total}
+use Rattle.manifest.proofs.ManifestTree.{same_id}
 
 step_good : {X : Type 0} (bad : Option X → X → Bool) (i : ℕ) (before : Option X) (x : X) (xs : List X) → first_bad bad i before (x ∷ xs) ≡ None → (bad before x ≡ false) × (first_bad bad (i + 1) (Some x) xs ≡ None)
 step_good bad i before x xs h =
@@ -116,6 +117,13 @@ module _ (m : Manifest) (next : FileId) (i : ℕ) (made : List Made) (none : fir
 pub gives_same_itself : (o : Option FileId) → gives_same o o ≡ true
 gives_same_itself None = refl
 gives_same_itself (Some f) = eq-eqb f.0 f.0 refl
+
+-- and what gives the same is the same
+pub same_if_so : (o p : Option FileId) → gives_same o p ≡ true → o ≡ p
+same_if_so None None h = refl
+same_if_so (Some f) (Some g) h = let id : f.0 ≡ g.0 = grind (arith, nat_tests) in ap (λ x. Some x) (same_id f g id)
+same_if_so None (Some g) h = absurd (cc)
+same_if_so (Some f) None h = absurd (cc)
 
 -- the first round finds nothing: neither the next file nor a made one nor a link is bad by itself
 pub record IsGoodItself (m : Manifest) (c : Changes) : Type 0 where

@@ -19,7 +19,7 @@ use Rattle.checkout.proofs.ChangeLists.{all_of}
 use Rattle.checkout.proofs.ChangedAround.{dir_stays}
 use Rattle.checkout.proofs.ChangedLinks.{lines_links-get}
 use Rattle.checkout.proofs.ChangedUpward.{Stands, each_link, passing_one}
-use Rattle.checkout.proofs.FirstBadLaws.{IsGoodLink}
+use Rattle.checkout.proofs.FirstBadLaws.{IsGoodLink, same_if_so}
 use Rattle.manifest.proofs.FlatLemmas.{link_cmp_total}
 use Rattle.checkout.proofs.GoodChanges.{none_cut_off, none_is_above}
 use Rattle.manifest.proofs.ManifestIsTree.{tree_of-IsTree}
@@ -32,12 +32,6 @@ member_at : {X : Type 0} (xs : List X) (j : ℕ) (x : X) → slice_get xs j ≡ 
 member_at [] j x h = absurd (cc)
 member_at (y ∷ ys) zero x h = (0, omega arith, let same : y ≡ x = cc in same)
 member_at (y ∷ ys) (suc j) x h = let r = member_at ys j x h in (suc r.0, omega (arith, r.1), r.2)
-
-same_if_so : (o p : Option FileId) → gives_same o p ≡ true → o ≡ p
-same_if_so None None h = refl
-same_if_so (Some f) (Some g) h = let id : f.0 ≡ g.0 = grind (arith, nat_tests) in ap (λ x. Some x) (same_id f g id)
-same_if_so None (Some g) h = absurd (cc)
-same_if_so (Some f) None h = absurd (cc)
 
 module _ (t : Tree) (c : Changes) (is : IsTree t) (man : IsManifest t.manifest) (has : AreChanges t c) where
   abbrev m : Manifest

@@ -12,7 +12,7 @@ use Rattle.checkout.specs.declared.changes.Changes.{Changes}
 use Rattle.manifest.specs.declared.links.LinkChange.{LinkChange}
 use Rattle.checkout.specs.declared.made.MadeFile.{MadeFile}
 use Rattle.checkout.specs.Added.{gives}
-use Rattle.checkout.specs.BadChanges.{bad_by_other, bad_itself, first_link, gives_same, is_at}
+use Rattle.checkout.specs.BadChanges.{bad_by_other, bad_itself, first_link, is_at}
 use Rattle.checkout.specs.Changed.{changed, links_with}
 use Rattle.checkout.specs.Changes.{file_ids, place_of}
 use Rattle.checkout.specs.UnlinkedFiles.{UnlinkedFiles, is_gone}
@@ -23,12 +23,11 @@ use Rattle.manifest.specs.Tally.{Tally, count_of}
 use Rattle.manifest.specs.Tree.{files_from, link_cmp, links_from}
 use Rattle.checkout.proofs.ChangedAround.{changed_apart}
 use Rattle.checkout.proofs.ChangedFiles.{found_made, made_is_good, made_under}
-use Rattle.checkout.proofs.ChangedLinks.{lines_links-get}
 use Rattle.checkout.proofs.ChangedMaps.{each_stands}
-use Rattle.checkout.proofs.FirstBadLaws.{IsGoodLink, good_itself, gives_same_itself, ids_rise, links_good, places_rise}
+use Rattle.checkout.proofs.FirstBadLaws.{good_itself, ids_rise, places_rise}
 use Rattle.manifest.proofs.FlatLemmas.{link_cmp-same}
 use Rattle.checkout.proofs.LaidFiles.{files_over-changed, get-kept}
-use Rattle.checkout.proofs.LaidLinks.{change_at, found_at, get-add, get-added, given_else, links_over-changed, nothing_still}
+use Rattle.checkout.proofs.LaidLinks.{change_at, get-add, get-added, given_else, links_over-changed, nothing_still}
 use Rattle.checkout.proofs.LinkLaws.{link_from_given}
 use Rattle.manifest.proofs.MapLemmas.{tied_key}
 use Rattle.checkout.proofs.TakenSteps.{not_one}
@@ -135,13 +134,6 @@ module _ (m : Manifest) (c : Changes) (is : IsManifest m) (itself : bad_itself m
     laid-AreParts = record {
       is_manifest = is;
       made_are_later = λ id h. later id h;
-      added_differ = λ dir name file here first.
-          let w = change_of (dir.0, name) file here in
-          let at = found_at (IsGoodLink m c.made) (dir.0, name) c.links w.0 (links_good m c.made (first_link c) c.links (good_itself m c itself).links) w.1 in
-          let there = w.2 ∙ sym first ∙ ap (get (links_from 2 m.lines)) at.1 ∙ sym (lines_links-get 2 m.lines (place_of w.0)) in
-          let alike = ap (gives_same w.0.target) (sym there) ∙ gives_same_itself w.0.target in
-          let apart = at.0.differs in
-          cc (alike, apart);
       added_are_apart = λ dir name h.
           let file = some-is _ h in
           let w = change_of (dir, name) file.0 file.1 in

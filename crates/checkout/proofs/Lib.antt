@@ -22,6 +22,7 @@ pub mod ColourLaws
 pub mod CreateLaws
 pub mod DirLaws
 pub mod FilesFrom
+pub mod FilterLaws
 pub mod FirstBadLaws
 pub mod GoodChanges
 pub mod GoodRounds

@@ -14,7 +14,7 @@ use Rattle.checkout.specs.Listing.{gone_change, gone_changes}
 use Rattle.manifest.specs.Links.{added_change}
 use Rattle.manifest.specs.Manifest.{Line, Manifest}
 use Rattle.checkout.specs.Overlay.{still, tree_over, AreParts}
-use Rattle.manifest.specs.Tree.{Tree, link_cmp, links_from}
+use Rattle.manifest.specs.Tree.{Tree, child_of, link_cmp, links_from}
 use Rattle.checkout.proofs.ChangeLists.{all_entries, all-map, all-append, contains_found}
 use Rattle.manifest.proofs.FlatLemmas.{link_cmp_total, link_cmp-same}
 use Rattle.manifest.proofs.ManifestTree.{file_with, line_at, line_of_link, link_of_line, same_id}
@@ -49,12 +49,6 @@ module _ (m : Manifest) (made : FinMap nat_cmp MadeFile) (added : FinMap link_cm
   abbrev base : FinMap link_cmp FileId
   base = links_from 2 m.lines
 
-  added_differs : (dir : FileId) (name : List ℕ) (file : FileId) → get added (dir.0, name) ≡ Some file → IsLinkChange tree (added_change ((dir.0, name), file))
-  added_differs dir name file here = record {
-    target = sym (child_added m made added gone lost next is dir name file here);
-    differs = λ first. is.added_differ dir name file here (sym first);
-  }
-
   -- a file that is gone has a line, where its link was
   pub line_of_gone : (file : ℕ) → gone file ≡ true → (line : Line) × (slice_get m.lines (file - 2) ≡ Some line) × (get base (line.dir.0, line.name) ≡ Some (file_with file))
   line_of_gone file h =
@@ -63,30 +57,33 @@ module _ (m : Manifest) (made : FinMap nat_cmp MadeFile) (added : FinMap link_cm
       let found = link_of_line m.lines 2 (file - 2) at.0 (apart m.lines is.is_manifest.lines) at.1 in
       (at.0, at.1, found ∙ ap (λ n. Some (file_with n)) (omega (arith, w.0)))
 
+  -- what is listed says what the tree has
+  abbrev pub IsLink : LinkChange → Type 0
+  IsLink x = x.target ≡ child_of tree x.dir x.name
+
   -- its place gives nothing now, unless a link was added there
-  gone_differs : (file : ℕ) (x : LinkChange) → gone file ≡ true → gone_change added (slice_get m.lines (file - 2)) ≡ Some x → IsLinkChange tree x
-  gone_differs file x h place =
+  gone_is : (file : ℕ) (x : LinkChange) → gone file ≡ true → gone_change added (slice_get m.lines (file - 2)) ≡ Some x → IsLink x
+  gone_is file x h place =
       let w = line_of_gone file h in
       let line = w.0 in
-      elim (get added (line.dir.0, line.name)) as (λ o. get added (line.dir.0, line.name) ≡ o → (if is_some o then None else Some (record { dir = line.dir; name = line.name; target = None })) ≡ Some x → IsLinkChange tree x) [
+      elim (get added (line.dir.0, line.name)) as (λ o. get added (line.dir.0, line.name) ≡ o → (if is_some o then None else Some (record { dir = line.dir; name = line.name; target = None })) ≡ Some x → IsLink x) [
         | Some f ↦ λ e k. absurd (cc)
         | None ↦ λ e k.
             let child = child-over m made added gone lost next is line.dir line.name ∙ ap (λ o. option_or o (still gone (get base (line.dir.0, line.name)))) e ∙ ap (still gone) w.2 ∙ ap (λ (b : Bool). if b then None else Some (file_with file)) h in
-            let change : IsLinkChange tree (record { dir = line.dir; name = line.name; target = None }) = record { target = sym child; differs = λ first. let there = w.2 in cc (first, there) } in
             let is_x : ◌≡◌ {A = LinkChange} (record { dir = line.dir; name = line.name; target = None }) x = cc in
-            subst (IsLinkChange tree) is_x change
+            subst IsLink is_x (sym child)
       ] refl (sym (ap (gone_change added) w.1) ∙ place)
 
-  -- each that is listed differs
-  pub all_differ : (files : List ℕ) → AllByRecursion (λ file. gone file ≡ true) files → AllByRecursion (IsLinkChange tree) (map added_change (entries added) ++ gone_changes added m.lines files)
-  all_differ files are_gone =
-      all-append (IsLinkChange tree) (map added_change (entries added)) (gone_changes added m.lines files)
-      (all-map (IsLinkChange tree) added_change (entries added) (all_entries link_cmp_total (λ e. IsLinkChange tree (added_change e)) (entries added) (entries_sorted added) (λ k v found. added_differs (file_with k.0) k.1 v (get-entries added k ∙ found))))
+  -- each that is listed is a link of the tree
+  pub all_are : (files : List ℕ) → AllByRecursion (λ file. gone file ≡ true) files → AllByRecursion IsLink (map added_change (entries added) ++ gone_changes added m.lines files)
+  all_are files are_gone =
+      all-append IsLink (map added_change (entries added)) (gone_changes added m.lines files)
+      (all-map IsLink added_change (entries added) (all_entries link_cmp_total (λ e. IsLink (added_change e)) (entries added) (entries_sorted added) (λ k v found. sym (child_added m made added gone lost next is (file_with k.0) k.1 v (get-entries added k ∙ found)))))
       (each files are_gone)
     where
-      each : (fs : List ℕ) → AllByRecursion (λ file. gone file ≡ true) fs → AllByRecursion (IsLinkChange tree) (gone_changes added m.lines fs)
+      each : (fs : List ℕ) → AllByRecursion (λ file. gone file ≡ true) fs → AllByRecursion IsLink (gone_changes added m.lines fs)
       each [] h = tt
-      each (f ∷ fs) h = listed_or_not (IsLinkChange tree) (gone_change added (slice_get m.lines (f - 2))) (gone_changes added m.lines fs) (λ x place. gone_differs f x h.0 place) (each fs h.1)
+      each (f ∷ fs) h = listed_or_not IsLink (gone_change added (slice_get m.lines (f - 2))) (gone_changes added m.lines fs) (λ x place. gone_is f x h.0 place) (each fs h.1)
 
   -- each that differs is listed
   pub differing_there : (files : List ℕ) → ((q : ℕ) → gone q ≡ list_any (λ f. q == f) files) → (x : LinkChange) → IsLinkChange tree x → Contains (map added_change (entries added) ++ gone_changes added m.lines files) x

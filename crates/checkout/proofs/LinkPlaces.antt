@@ -1,25 +1,31 @@
 -- No place is listed twice, of the links that were added and those that are gone.
-use Rattle.std.proofs.Common.{◌≡◌, ℕ, ◌-◌, ◌==◌, Bool, true, false, eqb, if◌then◌else◌, List, [], ◌∷◌, ◌++◌, map, Option, Some, None, is_some, refl, sym, ap, subst, ◌∙◌, eq-eqb}
+use Rattle.std.proofs.Common.{◌≡◌, ℕ, ◌-◌, ◌==◌, Bool, true, false, not, eqb, if◌then◌else◌, List, [], ◌∷◌, ◌++◌, map, Option, Some, None, is_some, refl, sym, ap, subst, ◌∙◌, eq-eqb}
+use Rattle.std.proofs.lemmas.Bool.{not-true}
 use Rattle.std.proofs.lemmas.List.{map-append}
 use Rattle.std.proofs.lemmas.List.Elements.{All-contains, All-from_recursion}
-use Rattle.std.proofs.lemmas.List.Sorted.{Contains-permutation, IsPermutation-sym}
-use Rattle.std.proofs.lemmas.Map.Keys.{IsDistinct-from_sorted}
+use Rattle.std.proofs.lemmas.List.Sorted.{Contains-permutation, IsPermutation-map, IsPermutation-sym}
+use Rattle.std.proofs.lemmas.Map.Keys.{IsDistinct-from_sorted, IsDistinct-IsPermutation}
+use Rattle.std.specs.Cmp.{eq_by_cmp_equiv}
 use Rattle.std.specs.FinMap.{FinMap, entries, entries_sorted, get, get-entries}
-use Rattle.std.specs.List.{AllByRecursion, IsDistinct, cons_option, list_any, slice_get}
+use Rattle.std.specs.List.{AllByRecursion, IsDistinct, cons_option, filter, list_any, slice_get}
 use Rattle.std.specs.List.Sorted.{IsPermutation, IsSortedBy}
 use Rattle.std.specs.Ordering.{eq_by_cmp, is_lt, nat_cmp}
 use Rattle.eden_base.specs.declared.number.FileId.{FileId}
 use Rattle.manifest.specs.declared.links.LinkChange.{LinkChange}
 use Rattle.checkout.specs.declared.made.MadeFile.{MadeFile}
 use Rattle.checkout.specs.Changes.{AreLinkChanges, IsLinkChange, place_of}
-use Rattle.checkout.specs.Listing.{gone_change, gone_changes}
+use Rattle.checkout.specs.BadChanges.{gives_same}
+use Rattle.checkout.specs.Laying.{base_target}
+use Rattle.checkout.specs.Listing.{differs, gone_change, gone_changes}
 use Rattle.manifest.specs.Links.{added_change}
 use Rattle.manifest.specs.Manifest.{Manifest}
 use Rattle.checkout.specs.Overlay.{tree_over, AreParts}
-use Rattle.manifest.specs.Tree.{Tree, link_cmp, links_from}
+use Rattle.manifest.specs.Tree.{Tree, child_of, link_cmp, links_from}
 use Rattle.checkout.proofs.ChangeLists.{all_entries, all-map, all_weaker, distinct-append, keys_rise, rising_from_sorted}
 use Rattle.manifest.proofs.FlatLemmas.{link_cmp_total, link_cmp-same}
-use Rattle.checkout.proofs.LinkChanges.{all_differ, differing_there, line_of_gone}
+use Rattle.checkout.proofs.FilterLaws.{contains-filter, distinct-filter, filter-contains}
+use Rattle.checkout.proofs.FirstBadLaws.{gives_same_itself, same_if_so}
+use Rattle.checkout.proofs.LinkChanges.{all_are, differing_there, line_of_gone}
 use Rattle.manifest.proofs.ManifestTree.{file_with}
 use Rattle.manifest.proofs.MapLemmas.{tied_key}
 
@@ -113,15 +119,38 @@ module _ (m : Manifest) (made : FinMap nat_cmp MadeFile) (added : FinMap link_cm
           all_weaker (SomePlace (λ _. Unit {0})) (λ y. eq_by_cmp link_cmp k y ≡ false) (λ y w. no_tie HasLink k y (v, here) (λ there. let a = there.1 in let b = w.2.free in cc (a, b)))
           (map place_of (gone_changes added m.lines files)) (places_gone (λ _. Unit {0}) files are_gone (all_gone files))
 
-  pub AreLinkChanges-over : (files : List ℕ) (links : List LinkChange) → ((q : ℕ) → gone q ≡ list_any (λ f. q == f) files) → IsDistinct eqb files → AllByRecursion (λ file. gone file ≡ true) files →
-      IsPermutation (map added_change (entries added) ++ gone_changes added m.lines files) links → IsSortedBy (λ a b. is_lt (link_cmp (place_of a) (place_of b))) links → AreLinkChanges tree links
-  AreLinkChanges-over files links listed apart are_gone moved sorted =
+  -- a link of the tree differs from the manifest's where it is told apart
+  is_change : (x : LinkChange) → x.target ≡ child_of tree x.dir x.name → differs m x ≡ true → IsLinkChange tree x
+  is_change x is_link told = record {
+    target = is_link;
+    differs = λ same. let alike = ap (λ o. gives_same o (base_target m x)) same ∙ gives_same_itself (base_target m x) in let apart = not-true (gives_same x.target (base_target m x)) told in cc (alike, apart);
+  }
+
+  is_told : (x : LinkChange) → IsLinkChange tree x → differs m x ≡ true
+  is_told x is_change =
+      elim (gives_same x.target (base_target m x)) as (λ b. gives_same x.target (base_target m x) ≡ b → not b ≡ true) [
+        | false ↦ λ _. refl
+        | true ↦ λ e. absurd (is_change.differs (same_if_so x.target (base_target m x) e))
+      ] refl
+
+  -- the links of both lists that differ, in order of their places
+  pub AreLinkChanges-over : (files : List ℕ) (listed links : List LinkChange) → ((q : ℕ) → gone q ≡ list_any (λ f. q == f) files) → IsDistinct eqb files → AllByRecursion (λ file. gone file ≡ true) files →
+      IsPermutation (map added_change (entries added) ++ gone_changes added m.lines files) listed → IsPermutation (filter (differs m) listed) links →
+      IsSortedBy (λ a b. is_lt (link_cmp (place_of a) (place_of b))) links → AreLinkChanges tree links
+  AreLinkChanges-over files listed links are_files apart are_gone first moved sorted =
       let all = map added_change (entries added) ++ gone_changes added m.lines files in
-      let differ = All-from_recursion (IsLinkChange tree) all (all_differ m made added gone lost next is files are_gone) in
+      let left = filter (differs m) listed in
+      let are = All-from_recursion (λ (x : LinkChange). x.target ≡ child_of tree x.dir x.name) all (all_are m made added gone lost next is files are_gone) in
+      let places = IsDistinct-IsPermutation (eq_by_cmp link_cmp) (λ x y. (eq_by_cmp_equiv link_cmp_total).symm x y) (map place_of all) (map place_of listed) (IsPermutation-map place_of all listed first) (all_distinct files are_gone apart) in
       record {
-        rising = rising_from_sorted link_cmp_total place_of all links (record { dir = file_with 0; name = []; target = None }) moved sorted (all_distinct files are_gone apart);
+        rising = rising_from_sorted link_cmp_total place_of left links (record { dir = file_with 0; name = []; target = None }) moved sorted (distinct-filter (eq_by_cmp link_cmp) place_of (differs m) listed places);
         each = λ x. (
-          λ h. All-contains (IsLinkChange tree) all x differ (Contains-permutation links all x (IsPermutation-sym all links moved) h),
-          λ h. Contains-permutation all links x moved (differing_there m made added gone lost next is files listed x h),
+          λ h.
+              let in_left = Contains-permutation links left x (IsPermutation-sym left links moved) h in
+              let w = contains-filter (differs m) listed x in_left in
+              is_change x (All-contains (λ (y : LinkChange). y.target ≡ child_of tree y.dir y.name) all x are (Contains-permutation listed all x (IsPermutation-sym all listed first) w.0)) w.1,
+          λ h.
+              let in_listed = Contains-permutation all listed x first (differing_there m made added gone lost next is files are_files x h) in
+              Contains-permutation left links x moved (filter-contains (differs m) listed x in_listed (is_told x h)),
         );
       }

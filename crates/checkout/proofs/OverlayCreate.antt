@@ -20,7 +20,7 @@ use Rattle.checkout.proofs.CreateLaws.{created-IsTree, next_is_later}
 use Rattle.manifest.proofs.FlatLemmas.{link_cmp_total, link_cmp-same}
 use Rattle.manifest.proofs.ManifestTree.{file_with}
 use Rattle.manifest.proofs.MapLemmas.{get-insert_cases}
-use Rattle.checkout.proofs.OverlayLaws.{child-over, line_of_base, none_added, within_lines}
+use Rattle.checkout.proofs.OverlayLaws.{child-over, none_added}
 use Rattle.checkout.proofs.UnionLaws.{get-files_over, get-links_over}
 
 -- the file as it is kept
@@ -84,13 +84,6 @@ module _ (m : Manifest) (made : FinMap nat_cmp MadeFile) (added : FinMap link_cm
               | inl w ↦ omega (arith, w.0, later)
               | inr old ↦ is.parts.made_are_later file (some-IsSome _ f.0 old)
             ];
-        added_differ = λ d n file h. elim (get-insert_cases link_cmp_total link_cmp-same added (dir.0, name) (file_with next) (d.0, n) file h) [
-          | inl w ↦ λ first.
-              let id : next ≡ file.0 = ap (λ (f : FileId). f.0) w.1 in
-              let within = within_lines m file (line_of_base m made added gone lost next is.parts d n file first) in
-              omega (arith, id, within.1, later)
-          | inr old ↦ is.parts.added_differ d n file old
-        ];
         added_are_apart = λ d n h.
             let f = some-is _ h in
             elim (get-insert_cases link_cmp_total link_cmp-same added (dir.0, name) (file_with next) (d, n) f.0 f.1) [

@@ -66,7 +66,6 @@ module _ (m : Manifest) (made : FinMap nat_cmp MadeFile) (added : FinMap link_cm
       parts = record {
         is_manifest = is.parts.is_manifest;
         made_are_later = is.parts.made_are_later;
-        added_differ = λ d n g h. is.parts.added_differ d n g (get-remove_cases link_cmp_total link_cmp-same added (dir.0, name) (d.0, n) g h).0;
         added_are_apart = λ d n h. let x = some-is _ h in is.parts.added_are_apart d n (some-IsSome _ x.0 (get-remove_cases link_cmp_total link_cmp-same added (dir.0, name) (d, n) x.0 x.1).0);
         gone_are_lines = is.parts.gone_are_lines;
         lost_are_counted = is.parts.lost_are_counted;
@@ -109,7 +108,6 @@ module _ (m : Manifest) (made : FinMap nat_cmp MadeFile) (added : FinMap link_cm
       parts = record {
         is_manifest = is.parts.is_manifest;
         made_are_later = is.parts.made_are_later;
-        added_differ = is.parts.added_differ;
         added_are_apart = λ d n h. let o = is.parts.added_are_apart d n h in at_all d n o;
         gone_are_lines = λ q h. gone_line q (sym (one_more q.0) ∙ h);
         lost_are_counted = λ d. counted d ∙ count d;

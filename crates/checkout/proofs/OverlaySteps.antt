@@ -40,7 +40,6 @@ pub start-AreParts : (m : Manifest) (gone : ℕ → Bool) (lost : ℕ → ℕ) �
 start-AreParts m gone lost is none no_loss = record {
   is_manifest = is;
   made_are_later = λ file h. let e = get-empty {X = MadeFile} nat_cmp file in absurd (let s : IsSome {T = MadeFile} None = subst IsSome e h in cc (s));
-  added_differ = λ dir name file h. let e = get-empty {X = FileId} link_cmp (dir.0, name) in absurd (cc (e, h));
   added_are_apart = λ dir name h. let e = get-empty {X = FileId} link_cmp (dir, name) in absurd (let s : IsSome {T = FileId} None = subst IsSome e h in cc (s));
   gone_are_lines = λ file h. let e = none file.0 in absurd (cc (e, h));
   lost_are_counted = λ dir. no_loss dir ∙ sym (lost_in-none gone none dir 2 m.lines);

@@ -1,12 +1,14 @@
 -- What the indexes of a tree list of its changes, each in its own order.
-use Rattle.std.specs.Prelude.{ℕ, ◌+◌, ◌-◌, ◌<◌, ◌≤◌, List, length, Option, Some, None, is_some, if◌then◌else◌}
+use Rattle.std.specs.Prelude.{ℕ, ◌+◌, ◌-◌, ◌<◌, ◌≤◌, Bool, not, List, length, Option, Some, None, is_some, if◌then◌else◌}
 use Rattle.std.specs.List.{AllByRecursion, filter_map, slice_get}
 use Rattle.std.specs.FinMap.{FinMap, get}
 use Rattle.eden_base.specs.declared.number.FileId.{FileId}
 use Rattle.manifest.specs.declared.links.LinkChange.{LinkChange}
 use Rattle.checkout.specs.declared.changes.Made.{Made}
 use Rattle.checkout.specs.declared.made.MadeFile.{MadeFile}
-use Rattle.manifest.specs.Manifest.{Line}
+use Rattle.checkout.specs.BadChanges.{gives_same}
+use Rattle.checkout.specs.Laying.{base_target}
+use Rattle.manifest.specs.Manifest.{Line, Manifest}
 use Rattle.manifest.specs.Tree.{link_cmp}
 
 -- a made file, with its id
@@ -27,3 +29,7 @@ gone_changes added lines files = filter_map (λ file. gone_change added (slice_g
 -- the files have lines
 abbrev pub HaveLines : List Line → List ℕ → Type 0
 HaveLines lines files = AllByRecursion (λ file. (2 ≤ file) × (file < length lines + 2)) files
+
+-- a link gives another file than the manifest has at its place, or none where the manifest has one
+abbrev pub differs : Manifest → LinkChange → Bool
+differs m change = not (gives_same change.target (base_target m change))

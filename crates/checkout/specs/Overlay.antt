@@ -1,6 +1,6 @@
 -- A tree as what differs from its manifest: the files that were made, the links that were added, and the manifest's
 -- files whose link is gone.
-use Rattle.std.specs.Prelude.{◌≡◌, ◌≢◌, ℕ, ◌+◌, ◌≤◌, ◌==◌, ◌&&◌, Bool, true, not, nat_lt, nat_le, List, [], ◌∷◌, ◌++◌, length, map, Option, Some, None, IsSome, if◌then◌else◌}
+use Rattle.std.specs.Prelude.{◌≡◌, ℕ, ◌+◌, ◌≤◌, ◌==◌, ◌&&◌, Bool, true, not, nat_lt, nat_le, List, [], ◌∷◌, ◌++◌, length, map, Option, Some, None, IsSome, if◌then◌else◌}
 use Rattle.std.specs.Ordering.{nat_cmp}
 use Rattle.std.specs.FinMap.{FinMap, get, entries, from_entries, retain_keys}
 use Rattle.eden_base.specs.declared.number.FileId.{FileId}
@@ -54,10 +54,8 @@ pub record AreParts (m : Manifest) (made : FinMap nat_cmp MadeFile) (added : Fin
     (gone : ℕ → Bool) (lost : ℕ → ℕ) : Type 0 where
   pub is_manifest : IsManifest m
   pub made_are_later : (file : ℕ) → IsSome (get made file) → length m.lines + 2 ≤ file
-  -- a link that was added is not one of the manifest's
-  pub added_differ : (dir : FileId) (name : List ℕ) (file : FileId) → get added (dir.0, name) ≡ Some file →
-      get (links_from 2 m.lines) (dir.0, name) ≢ Some file
-  -- and stands where the manifest has no link, or one that is gone
+  -- a link that was added stands where the manifest has no link, or one that is gone. It may give the same file: one that
+  -- moved away and came back
   pub added_are_apart : (dir : ℕ) (name : List ℕ) → IsSome (get added (dir, name)) →
       still gone (get (links_from 2 m.lines) (dir, name)) ≡ None
   pub gone_are_lines : (file : FileId) → gone file.0 ≡ true → is_line m file ≡ true

@@ -9,8 +9,8 @@ use std::alloc::Global;
 use std::collections::HashMap;
 use std::marker::Model;
 
-/// The added links. Each gives another file: one that was made, or one of the manifest that stands elsewhere now. Both
-/// kinds are in one map, so that what makes its two ends agree is said once.
+/// The added links. Each gives a file that was made, or one of the manifest that left its line's name: it stands
+/// elsewhere, or came back. Both kinds are in one map, so that what makes its two ends agree is said once.
 #[derive(Drop)]
 pub struct Added {
     links: Links,

@@ -1,17 +1,19 @@
 //! The names of a tree that is laid over a manifest's, by its parts. They may not make a tree yet.
-ghost use Rattle.std.specs.Prelude.{◌≡◌, ◌==◌, ◌&&◌, ◌||◌, nat_lt, not};
+ghost use Rattle.std.specs.Prelude.{◌≡◌, ◌==◌, ◌&&◌, ◌||◌, filter, nat_lt, not};
 ghost use Rattle.std.specs.FinMap.{entries};
 ghost use Rattle.std.specs.List.{list_any};
 ghost use Rattle.checkout.specs.Added.{gives};
+ghost use Rattle.checkout.specs.Listing.{differs};
 ghost use Rattle.checkout.specs.UnlinkedFiles.{is_gone};
 ghost use Rattle.checkout.specs.Overlay.{is_line};
 ghost use Rattle.manifest.specs.Manifest.{kids_in};
 ghost use Rattle.manifest.specs.Tally.{count_of};
 
 use crate::added::Added;
+use crate::changes::bad_itself::gives_same;
 use crate::unlinked_files::UnlinkedFiles;
 use eden_base::FileId;
-use manifest::{Manifest, Tally};
+use manifest::{LinkChange, Manifest, Tally};
 
 /// Returns whether the file is one of the manifest, below the root.
 pub fn is_line(manifest: &Manifest, file: FileId) -> bool
@@ -40,4 +42,18 @@ pub fn has_links(manifest: &Manifest, added: &Added, lost: &Tally, dir: FileId) 
         || nat_lt (count_of lost.now dir.0) (kids_in dir.0 manifest.now.lines)) }
 {
     added.links().has_links(dir) || lost.count(dir.0) < manifest.kids(dir)
+}
+
+/// Returns whether a name gives another file than the manifest says, or none where it says one.
+fn differs(manifest: &Manifest, link: &LinkChange) -> bool
+    ensures { result ≡ differs manifest.now link.now }
+{
+    !gives_same(link.target, manifest.child(link.dir, link.name.bytes()))
+}
+
+/// Leaves out each name that gives what the manifest says: its file moved away and came back.
+pub fn leave_out_same(manifest: &Manifest, links: &mut Vec<LinkChange>)
+    ensures { links.new.items ≡ filter (differs manifest.now) links.old.items }
+{
+    links.retain(|link| differs(manifest, link));
 }

@@ -25,8 +25,9 @@ use std::alloc::Global;
 use std::marker::Model;
 
 /// The tree that the requests of a mount read and change. It starts as its manifest says, and holds only what differs
-/// from it: the made files, the added links, the manifest's files that lost their link, and how many links each
-/// directory lost. The room for losses is taken at once, so that every name can be removed without memory.
+/// from it, or did before a file came back to its name: the made files, the added links, the manifest's files that lost
+/// their link, and how many links each directory lost. The room for losses is taken at once, so that every name can be
+/// removed without memory.
 #[derive(Drop)]
 pub struct Tree {
     alloc: Global,
@@ -217,7 +218,7 @@ impl Tree {
     }
 
     /// Returns how the tree differs from its manifest's: the made files, the names that give another file or none, and
-    /// the next file. The cost grows with the changes, and not with the manifest.
+    /// the next file. The cost grows with the names that ever changed, and not with the manifest.
     pub fn changes(&self) -> Result<Changes, NoMemory>
         ensures changes { IfOk result (AreChanges self.now) }
         ensures no_others { IfOk result (λ changes. (others : ChangesState) → AreChanges self.now others
@@ -232,6 +233,7 @@ impl Tree {
         added.list(self.alloc, &mut links)?;
         self.gone
             .list(self.alloc, self.manifest.lines(), added, &mut links)?;
+        overlay::leave_out_same(&self.manifest, &mut links);
         sort(&mut links);
         Ok(Changes {
             made: MadeList::of(made),

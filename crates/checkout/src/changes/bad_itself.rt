@@ -123,7 +123,7 @@ fn manifest_target(manifest: &Manifest, change: &LinkChange) -> Option<FileId>
 }
 
 /// Returns whether both give the same file, or neither gives one.
-fn gives_same(target: Option<FileId>, other: Option<FileId>) -> bool
+pub fn gives_same(target: Option<FileId>, other: Option<FileId>) -> bool
     ensures { result ≡ gives_same target other }
 {
     match (target, other) {

@@ -1,6 +1,6 @@
 -- What the parts of the overlay list is what tells the tree from its manifest's.
 use Rattle.std.proofs.Common.{◌++◌, map, refl, ap, sym, subst, ◌∙◌}
-use Rattle.std.proofs.lemmas.List.Sorted.{IsPermutation-append_left, IsPermutation-trans}
+use Rattle.std.proofs.lemmas.List.Sorted.{IsPermutation-append_left}
 use Rattle.std.specs.FinMap.{entries, entries_sorted, get-entries}
 use Rattle.std.specs.List.{AllByRecursion}
 use Rattle.std.specs.List.Sorted.{IsPermutation}
@@ -43,8 +43,9 @@ returns-clause-changes c =
     let gone = gone_changes i.added i.manifest.lines i.gone.files in
     let listed = c.in_ok-list-2.ensures.listed ∙ ap (λ links. c.list-2.new.links.items ++ gone_changes links c.lines.result.now i.gone.files) c.links-added.ensures ∙ ap (λ ls. c.list-2.new.links.items ++ gone_changes i.added ls i.gone.files) c.lines.ensures.lines in
     let are_added = subst (λ xs. IsPermutation xs c.list-2.new.links.items) (ap (λ links. c.new-links.result.items ++ map added_change (entries links)) c.links-added.ensures ∙ ap (λ xs. xs ++ added) c.new-links.ensures.items) c.in_ok-list.ensures in
-    let moved = IsPermutation-trans _ _ _ (IsPermutation-append_left gone added c.list-2.new.links.items are_added) (subst (λ xs. IsPermutation xs c.sort.new.links.items) listed c.sort.ensures.permutation) in
-    let links = AreLinkChanges-over i.manifest i.made i.added (is_gone i.gone) (count_of i.lost) i.next_file o.parts i.gone.files c.sort.new.links.items (λ q. refl) c.in_ok-list-2.ensures.distinct (all_gone i.gone) moved c.sort.ensures.sorted in
+    let listed_all = subst (λ xs. IsPermutation (added ++ gone) xs) (sym listed) (IsPermutation-append_left gone added c.list-2.new.links.items are_added) in
+    let moved = subst (λ xs. IsPermutation xs c.sort.new.links.items) c.leave_out_same.ensures c.sort.ensures.permutation in
+    let links = AreLinkChanges-over i.manifest i.made i.added (is_gone i.gone) (count_of i.lost) i.next_file o.parts i.gone.files c.list-3.new.links.items c.sort.new.links.items (λ q. refl) c.in_ok-list-2.ensures.distinct (all_gone i.gone) listed_all moved c.sort.ensures.sorted in
     record {
       made = subst (AreMade c.args.self.now) (sym made) (subst (λ t. AreMade t (map listed_file (entries i.made))) c.self.view_is (AreMade-over i.manifest i.made i.added (is_gone i.gone) (count_of i.lost) i.next_file o.parts));
       links = subst (AreLinkChanges c.args.self.now) (sym c.of-2.ensures.links) (subst (λ t. AreLinkChanges t c.sort.new.links.items) c.self.view_is links);
