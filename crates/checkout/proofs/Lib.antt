@@ -52,6 +52,7 @@ pub mod RemoveLaws
 pub mod RoundFour
 pub mod RoundTwo
 pub mod RoundsAround
+pub mod StandsAbove
 pub mod TakenLaws
 pub mod TakenSteps
 pub mod UnionLaws

@@ -10,4 +10,5 @@ pub mod MadeCodes
 pub mod Laying
 pub mod Listing
 pub mod Overlay
+pub mod RenamedTree
 pub mod Rounds

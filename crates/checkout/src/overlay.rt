@@ -3,17 +3,19 @@ ghost use Rattle.std.specs.Prelude.{◌≡◌, ◌==◌, ◌&&◌, ◌||◌, fil
 ghost use Rattle.std.specs.FinMap.{entries};
 ghost use Rattle.std.specs.List.{list_any};
 ghost use Rattle.checkout.specs.Added.{gives};
+ghost use Rattle.checkout.specs.Around.{links_now, AreBeside, IsDirAbove};
 ghost use Rattle.checkout.specs.Listing.{differs};
 ghost use Rattle.checkout.specs.UnlinkedFiles.{is_gone};
 ghost use Rattle.checkout.specs.Overlay.{is_line};
 ghost use Rattle.manifest.specs.Manifest.{kids_in};
 ghost use Rattle.manifest.specs.Tally.{count_of};
+ghost use Rattle.manifest.specs.Tree.{links_from};
 
 use crate::added::Added;
 use crate::changes::bad_itself::gives_same;
 use crate::unlinked_files::UnlinkedFiles;
 use eden_base::FileId;
-use manifest::{LinkChange, Manifest, Tally};
+use manifest::{LinkChange, Manifest, Tally, line_of};
 
 /// Returns whether the file is one of the manifest, below the root.
 pub fn is_line(manifest: &Manifest, file: FileId) -> bool
@@ -42,6 +44,26 @@ pub fn has_links(manifest: &Manifest, added: &Added, lost: &Tally, dir: FileId) 
         || nat_lt (count_of lost.now dir.0) (kids_in dir.0 manifest.now.lines)) }
 {
     added.links().has_links(dir) || lost.count(dir.0) < manifest.kids(dir)
+}
+
+/// Returns the directory in which a link gives the file.
+pub fn dir_above(
+    manifest: &Manifest,
+    added: &Added,
+    gone: &UnlinkedFiles,
+    file: FileId,
+) -> Option<FileId>
+    requires beside { AreBeside added.now (is_gone gone.now) (links_from 2 manifest.now.lines) }
+    ensures dir { IsDirAbove (links_now manifest.now added.now gone.now) file result }
+{
+    if let Some(dir) = added.dir_of(file) {
+        return Some(dir);
+    }
+    if gone.has(file) {
+        return None;
+    }
+    let line = line_of(manifest.lines(), file)?;
+    Some(line.dir)
 }
 
 /// Returns whether a name gives another file than the manifest says, or none where it says one.

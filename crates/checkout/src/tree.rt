@@ -1,9 +1,10 @@
 //! The files of a checkout and the names that lead to them.
-ghost use Rattle.std.specs.Prelude.{◌≡◌, ◌<◌, ◌==◌, ◌&&◌, ◌||◌, nat_lt, not, false, None, Some, IfErr, IfOk, IfSome, IsSome, OnErr, OnOk, Option};
+ghost use Rattle.std.specs.Prelude.{◌≡◌, ◌↔◌, ◌<◌, ◌==◌, ◌&&◌, ◌||◌, nat_lt, not, true, false, None, Some, IfErr, IfOk, IfSome, IsSome, OnErr, OnOk, Option};
 ghost use Rattle.std.specs.FinMap.{entries};
 ghost use Rattle.std.specs.List.{AllByRecursion, list_any};
 ghost use Rattle.eden_base.specs.Name.{IsNameText};
 ghost use Rattle.eden_base.specs.declared.attr.Kind.TheVariants.{Dir};
+ghost use Rattle.checkout.specs.Around.{IsDirAbove};
 ghost use Rattle.checkout.specs.BadChanges.{IsBadChange};
 ghost use Rattle.checkout.specs.Changed.{changed, IsChangeRefusal};
 ghost use Rattle.checkout.specs.Changes.{AreChanges};
@@ -11,6 +12,7 @@ ghost use Rattle.checkout.specs.declared.changes.Changes.{Changes as ChangesStat
 ghost use Rattle.checkout.specs.Create.{IsCreateRefusal};
 ghost use Rattle.manifest.specs.Tree.{Tree as TreeState, IsTree, tree_of, child_of, kind_of, file_of};
 ghost use Rattle.checkout.specs.ChangedTree.{attr_of, perm_made, next_file, nlink_of, has_links, is_empty_dir, is_full_dir, is_linked, is_unlinked, created, removed};
+ghost use Rattle.checkout.specs.RenamedTree.{IsAtOrAbove};
 
 use crate::added::Added;
 use crate::changes::bad_itself::bad_itself;
@@ -215,6 +217,33 @@ impl Tree {
             return None;
         }
         Some(file)
+    }
+
+    /// Returns the directory in which a name gives the file.
+    fn dir_above(&self, file: FileId) -> Option<FileId>
+        ensures dir { IsDirAbove self.now.links file result }
+        ensures is_tree { IsTree self.now }
+    {
+        overlay::dir_above(&self.manifest, &self.added, &self.gone, file)
+    }
+
+    /// Returns whether the file is the other or stands above it: whether some names lead from the one to the other. Goes
+    /// up from the other to the root, so that the cost grows with its depth alone. No way up is longer than there are
+    /// files.
+    pub fn is_at_or_above(&self, file: FileId, other: FileId) -> bool
+        ensures above { result ≡ true ↔ IsAtOrAbove self.now file other }
+    {
+        let mut at = other;
+        for _level in 0..self.next_file {
+            if at.0 == file.0 {
+                return true;
+            }
+            let Some(dir) = self.dir_above(at) else {
+                return false;
+            };
+            at = dir;
+        }
+        unreachable!()
     }
 
     /// Returns how the tree differs from its manifest's: the made files, the names that give another file or none, and

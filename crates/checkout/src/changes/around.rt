@@ -2,36 +2,17 @@
 ghost use Rattle.std.specs.Prelude.{◌≡◌, ◌↔◌, true, is_some, IfOk, OnOk};
 ghost use Rattle.std.specs.FinMap.{get};
 ghost use Rattle.std.specs.List.{AllByRecursion};
-ghost use Rattle.checkout.specs.Around.{links_now, AreApart, AreBeside, AreRight, GivesTarget, IsAbove, IsDirAbove, IsFirstAbove};
+ghost use Rattle.checkout.specs.Around.{links_now, AreApart, AreBeside, AreRight, GivesTarget, IsAbove, IsFirstAbove};
 ghost use Rattle.checkout.specs.UnlinkedFiles.{is_gone};
 ghost use Rattle.manifest.specs.Tree.{links_from};
 
 use super::colours::{Colours, from_file};
 use crate::added::Added;
+use crate::overlay::dir_above;
 use crate::unlinked_files::UnlinkedFiles;
 use eden_base::{FileId, NoMemory};
-use manifest::{LinkChange, Manifest, line_of};
+use manifest::{LinkChange, Manifest};
 use std::alloc::Global;
-
-/// Returns the directory in which a link gives the file.
-fn dir_above(
-    manifest: &Manifest,
-    added: &Added,
-    gone: &UnlinkedFiles,
-    file: FileId,
-) -> Option<FileId>
-    requires beside { AreBeside added.now (is_gone gone.now) (links_from 2 manifest.now.lines) }
-    ensures dir { IsDirAbove (links_now manifest.now added.now gone.now) file result }
-{
-    if let Some(dir) = added.dir_of(file) {
-        return Some(dir);
-    }
-    if gone.has(file) {
-        return None;
-    }
-    let line = line_of(manifest.lines(), file)?;
-    Some(line.dir)
-}
 
 /// Colours the files on the way up from a file. It stops at one that has a colour, so that no file is looked at twice.
 /// If that is a file of the same walk, the files from it on are a circle.

@@ -5,7 +5,7 @@ use Rattle.eden_base.specs.declared.number.FileId.{FileId}
 use Rattle.checkout.specs.Around.{links_now, StandsIn}
 use Rattle.manifest.specs.Manifest.{Line, line_of}
 use Rattle.checkout.proofs.AboveLaws.{above_by_added, above_by_line, none_above_gone, none_above_other}
-use Rattle.checkout.proofs.changes.around.dir_above.Goals as goal
+use Rattle.checkout.proofs.overlay.dir_above.Goals as goal
 
 pub returns-in-Some : goal.returns-in-Some
 returns-in-Some c = record { dir = above_by_added c.args.manifest.now c.args.added.now c.args.gone.now c.args.file c.in-Some.dir c.in-Some.ensures }
