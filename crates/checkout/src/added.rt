@@ -1,5 +1,5 @@
 //! The links that were added since the manifest, by name and by file.
-ghost use Rattle.std.specs.Prelude.{◌≡◌, List, ℕ, None, Some, false, MatchOption, OnErr, OnOk};
+ghost use Rattle.std.specs.Prelude.{◌≡◌, ◌≢◌, List, ℕ, None, Some, false, IfSome, MatchOption, OnErr, OnOk};
 ghost use Rattle.std.specs.FinMap.{empty, get, insert, remove};
 ghost use Rattle.checkout.specs.Added.{gives};
 
@@ -92,5 +92,37 @@ impl Added {
         let file = self.links.remove(dir, name)?;
         self.dirs.remove(&file.0);
         Some(file)
+    }
+
+    /// Lets a name in a directory give a file in place of what it gave, if anything. The name under which the file was
+    /// added before, if it was, goes.
+    pub fn rename(
+        &mut self,
+        alloc: Global,
+        dir: FileId,
+        name: &[u8],
+        to_dir: FileId,
+        to_name: &[u8],
+        file: FileId,
+    ) -> Result<(), NoMemory>
+        requires there { IfSome (get self.old (dir.0, name.now)) (λ other. other ≡ file) }
+        requires once { (d : FileId) (n : List ℕ) → get self.old (d.0, n) ≡ Some file → (d ≡ dir) × (n ≡ name.now) }
+        requires other { get self.old (to_dir.0, to_name.now) ≢ Some file }
+        requires apart { (dir ≡ to_dir) → name.now ≢ to_name.now }
+        ensures ok { OnOk result (self.new
+            ≡ insert (remove self.old (dir.0, name.now)) (to_dir.0, to_name.now) file) }
+        ensures err { OnErr result (self.new ≡ self.old) }
+    {
+        let replaced = self.links.get(to_dir, to_name);
+        self.dirs.reserve(1)?;
+        self.links.insert(alloc, to_dir, to_name, file)?;
+        self.links.remove(dir, name);
+        let Ok(_) = self.dirs.insert(file.0, to_dir) else {
+            unreachable!()
+        };
+        if let Some(other) = replaced {
+            self.dirs.remove(&other.0);
+        }
+        Ok(())
     }
 }

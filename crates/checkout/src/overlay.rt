@@ -1,9 +1,11 @@
 //! The names of a tree that is laid over a manifest's, by its parts. They may not make a tree yet.
-ghost use Rattle.std.specs.Prelude.{◌≡◌, ◌==◌, ◌&&◌, ◌||◌, filter, nat_lt, not};
-ghost use Rattle.std.specs.FinMap.{entries};
+ghost use Rattle.std.specs.Prelude.{◌≡◌, ◌==◌, ◌&&◌, ◌||◌, ℕ, filter, nat_lt, not};
+ghost use Rattle.std.specs.FinMap.{entries, get};
 ghost use Rattle.std.specs.List.{list_any};
 ghost use Rattle.checkout.specs.Added.{gives};
 ghost use Rattle.checkout.specs.Around.{links_now, AreBeside, IsDirAbove};
+ghost use Rattle.checkout.specs.BadChanges.{file_does};
+ghost use Rattle.checkout.specs.Laying.{AreTaken};
 ghost use Rattle.checkout.specs.Listing.{differs};
 ghost use Rattle.checkout.specs.UnlinkedFiles.{is_gone};
 ghost use Rattle.checkout.specs.Overlay.{is_line};
@@ -64,6 +66,29 @@ pub fn dir_above(
     }
     let line = line_of(manifest.lines(), file)?;
     Some(line.dir)
+}
+
+/// Lets the manifest's link under a name go, if there is one that is not gone. Takes no memory.
+pub fn lose(
+    manifest: &Manifest,
+    gone: &mut UnlinkedFiles,
+    lost: &mut Tally,
+    dir: FileId,
+    name: &[u8],
+)
+    requires so_far { AreTaken manifest.now gone.old lost.old }
+    ensures gone { (q : ℕ) → is_gone gone.new q
+        ≡ (file_does (λ file. q == file.0) (get (links_from 2 manifest.now.lines) (dir.0, name.now)) || is_gone gone.old q) }
+    ensures now { AreTaken manifest.now gone.new lost.new }
+{
+    let Some(target) = manifest.child(dir, name) else {
+        return;
+    };
+    if gone.has(target) {
+        return;
+    }
+    gone.add(target);
+    lost.raise(dir.0);
 }
 
 /// Returns whether a name gives another file than the manifest says, or none where it says one.

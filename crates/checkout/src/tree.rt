@@ -1,5 +1,5 @@
 //! The files of a checkout and the names that lead to them.
-ghost use Rattle.std.specs.Prelude.{◌≡◌, ◌↔◌, ◌<◌, ◌==◌, ◌&&◌, ◌||◌, nat_lt, not, true, false, None, Some, IfErr, IfOk, IfSome, IsSome, OnErr, OnOk, Option};
+ghost use Rattle.std.specs.Prelude.{◌≡◌, ◌≢◌, ◌↔◌, ◌<◌, ◌==◌, ◌&&◌, ◌||◌, nat_lt, not, true, false, None, Some, IfErr, IfOk, IfSome, IsSome, OnErr, OnOk, Option};
 ghost use Rattle.std.specs.FinMap.{entries};
 ghost use Rattle.std.specs.List.{AllByRecursion, list_any};
 ghost use Rattle.eden_base.specs.Name.{IsNameText};
@@ -12,7 +12,7 @@ ghost use Rattle.checkout.specs.declared.changes.Changes.{Changes as ChangesStat
 ghost use Rattle.checkout.specs.Create.{IsCreateRefusal};
 ghost use Rattle.manifest.specs.Tree.{Tree as TreeState, IsTree, tree_of, child_of, kind_of, file_of};
 ghost use Rattle.checkout.specs.ChangedTree.{attr_of, perm_made, next_file, nlink_of, has_links, is_empty_dir, is_full_dir, is_linked, is_unlinked, created, removed};
-ghost use Rattle.checkout.specs.RenamedTree.{IsAtOrAbove};
+ghost use Rattle.checkout.specs.RenamedTree.{can_replace, renamed, IsAtOrAbove};
 
 use crate::added::Added;
 use crate::changes::bad_itself::bad_itself;
@@ -319,5 +319,36 @@ impl Tree {
         self.gone.add(file);
         self.lost.raise(dir.0);
         file
+    }
+
+    /// Moves the file under a name in a directory to another name, in this or another directory. What stood there loses
+    /// its link and stays; it is returned.
+    pub fn rename(
+        &mut self,
+        dir: FileId,
+        name: &Name,
+        to_dir: FileId,
+        to_name: &Name,
+    ) -> Result<Option<FileId>, NoMemory>
+        requires there { IsSome (child_of self.old dir name.now) }
+        requires to_dir { kind_of self.old to_dir ≡ Some Dir }
+        requires reached { is_unlinked self.old to_dir ≡ false }
+        requires other { child_of self.old to_dir to_name.now ≢ child_of self.old dir name.now }
+        requires fits { IfSome (child_of self.old dir name.now) (λ file.
+            IfSome (child_of self.old to_dir to_name.now) (λ replaced. can_replace self.old file replaced ≡ true)) }
+        requires not_above { IfSome (child_of self.old dir name.now) (λ file.
+            IsAtOrAbove self.old file to_dir → ⊥) }
+        ensures renamed { OnOk result (self.new ≡ renamed self.old dir name.now to_dir to_name.now) }
+        ensures replaced { IfOk result (λ replaced. replaced ≡ child_of self.old to_dir to_name.now) }
+        ensures unchanged { OnErr result (self.new ≡ self.old) }
+        ensures is_tree { IsTree self.new }
+    {
+        let file = self.child(dir, name).unwrap();
+        let replaced = self.child(to_dir, to_name);
+        self.added.rename(self.alloc, dir, name.bytes(), to_dir, to_name.bytes(), file)?;
+        let (gone, lost) = (&mut self.gone, &mut self.lost);
+        overlay::lose(&self.manifest, gone, lost, dir, name.bytes());
+        overlay::lose(&self.manifest, gone, lost, to_dir, to_name.bytes());
+        Ok(replaced)
     }
 }
