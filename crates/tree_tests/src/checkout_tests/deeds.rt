@@ -1,4 +1,7 @@
 //! Calls on a tree with their expected results, as data. A test is a table of such calls.
+ghost use Rattle.std.specs.Prelude.{◌≡◌};
+ghost use Rattle.checkout.specs.RenamedTree.{can_replace};
+
 use crate::again::{parsed, tree_of};
 use checkout::{Changes, CreateFault, Made, Tree};
 use eden_base::{FileId, Kind, Name, NoMemory, Perm};
@@ -11,6 +14,9 @@ pub type MadeRow = (u64, Kind, u16);
 /// A name: its directory, its bytes, and the file that it gives or gave, or none.
 pub type Named = (u64, &'static [u8], Option<u64>);
 
+/// Where a name stands: its directory and its bytes.
+pub type Spot = (u64, &'static [u8]);
+
 /// A file's kind, permissions, size, and count of links.
 pub type Attributes = (Kind, u16, u64, u32);
 
@@ -20,6 +26,11 @@ pub enum Deed {
     Make(u64, &'static [u8], Kind, u16, u64),
     /// Removes a name, and gets its file. None as the file means that the precondition of `Tree::remove` does not hold.
     Remove(Named),
+    /// Moves a file from one name to another, and gets the file that stood there. None as the result means that the
+    /// precondition of `Tree::rename` does not hold.
+    Rename(Spot, Spot, Option<Option<u64>>),
+    /// Tells whether the first file is the second, or stands above it.
+    Stand(u64, u64, bool),
     Find(Named),
     Show(u64, Option<Attributes>),
     /// A file's kind and count of links, and whether it is an empty directory.
@@ -85,7 +96,7 @@ fn is_made(alloc: Global, tree: &mut Tree, place: (u64, &[u8]), what: MadeRow) -
 
 /// Removes `name` and returns its file, or none if the precondition of `Tree::remove` does not hold.
 #[tactic(auto, using(checkout::proofs::RemoveLaws::not_full_rules))]
-fn removed(tree: &mut Tree, dir: FileId, name: &Name) -> Option<FileId> {
+pub(crate) fn removed(tree: &mut Tree, dir: FileId, name: &Name) -> Option<FileId> {
     let file = tree.child(dir, name)?;
     if tree.is_empty_dir(file) {
         return Some(tree.remove(dir, name));
@@ -103,6 +114,78 @@ fn is_removed(alloc: Global, tree: &mut Tree, named: Named) -> bool {
     match parsed(alloc, bytes) {
         Some(name) => removed(tree, FileId(dir), &name) == file.map(FileId),
         None => false,
+    }
+}
+
+/// Returns whether `file` may take the name of `other`.
+fn can_replace(tree: &Tree, file: FileId, other: FileId) -> bool
+    ensures { result ≡ can_replace tree.now file other }
+{
+    match tree.kind(file) {
+        Some(Kind::Dir) => tree.is_empty_dir(other),
+        Some(Kind::File) => tree.kind(other) != Some(Kind::Dir),
+        None => tree.kind(other) != Some(Kind::Dir),
+    }
+}
+
+/// Moves a file if the precondition of `Tree::rename` holds, else returns none.
+pub(crate) fn renamed(
+    tree: &mut Tree,
+    dir: FileId,
+    name: &Name,
+    to_dir: FileId,
+    to_name: &Name,
+) -> Option<Result<Option<FileId>, NoMemory>> {
+    match tree.kind(to_dir) {
+        Some(Kind::Dir) => {}
+        Some(Kind::File) => return None,
+        None => return None,
+    }
+    if to_dir.0 != 1 && !tree.is_linked(to_dir) {
+        return None;
+    }
+    let file = tree.child(dir, name)?;
+    if tree.is_at_or_above(file, to_dir) {
+        return None;
+    }
+    if let Some(other) = tree.child(to_dir, to_name) {
+        if other.0 == file.0 || !can_replace(tree, file, other) {
+            return None;
+        }
+    }
+    Some(tree.rename(dir, name, to_dir, to_name))
+}
+
+/// Does the same, once more if memory was refused.
+pub(crate) fn renamed_again(
+    tree: &mut Tree,
+    dir: FileId,
+    name: &Name,
+    to_dir: FileId,
+    to_name: &Name,
+) -> Option<Option<FileId>> {
+    match renamed(tree, dir, name, to_dir, to_name)? {
+        Ok(replaced) => Some(replaced),
+        Err(NoMemory) => renamed(tree, dir, name, to_dir, to_name)?.ok(),
+    }
+}
+
+/// Moves a file from one name to another, and returns whether `replaced` is the result.
+fn is_renamed(
+    alloc: Global,
+    tree: &mut Tree,
+    from: Spot,
+    to: Spot,
+    replaced: Option<Option<u64>>,
+) -> bool {
+    match (parsed(alloc, from.1), parsed(alloc, to.1)) {
+        (Some(name), Some(to_name)) => {
+            let outcome = renamed_again(tree, FileId(from.0), &name, FileId(to.0), &to_name);
+            drop(name);
+            drop(to_name);
+            outcome == replaced.map(|file| file.map(FileId))
+        }
+        _ => false,
     }
 }
 
@@ -150,7 +233,7 @@ fn is_perm(tree: &Tree, file: u64, bits: Option<u16>) -> bool {
 }
 
 /// Returns the changes of `tree`, and asks for them once more if memory was refused.
-fn changes_again(tree: &Tree) -> Option<Changes> {
+pub(crate) fn changes_again(tree: &Tree) -> Option<Changes> {
     match tree.changes() {
         Ok(changes) => Some(changes),
         Err(NoMemory) => tree.changes().ok(),
@@ -214,6 +297,10 @@ fn goes_so(alloc: Global, tree: &mut Tree, deed: Deed) -> bool {
             is_made(alloc, tree, (dir, name), (file, kind, perm))
         }
         Deed::Remove(named) => is_removed(alloc, tree, named),
+        Deed::Rename(from, to, replaced) => is_renamed(alloc, tree, from, to, replaced),
+        Deed::Stand(file, other, stands) => {
+            tree.is_at_or_above(FileId(file), FileId(other)) == stands
+        }
         Deed::Find(named) => is_found(alloc, tree, named),
         Deed::Show(file, attributes) => is_shown(tree, file, attributes),
         Deed::Tell(file, kind, nlink, empty) => is_told(tree, FileId(file), kind, nlink, empty),
@@ -226,7 +313,7 @@ fn goes_so(alloc: Global, tree: &mut Tree, deed: Deed) -> bool {
 }
 
 /// Makes the calls of `deeds` one after another, and returns whether each result is the expected one.
-fn each_goes_so(alloc: Global, tree: &mut Tree, deeds: &[Deed]) -> bool {
+pub(crate) fn each_goes_so(alloc: Global, tree: &mut Tree, deeds: &[Deed]) -> bool {
     for deed in deeds {
         if !goes_so(alloc, tree, *deed) {
             return false;
