@@ -1,5 +1,5 @@
 -- The file is moved, or nothing is changed.
-use Rattle.std.proofs.Common.{sym, subst, ◌∙◌}
+use Rattle.std.proofs.Common.{rules, sym, subst, ◌∙◌}
 use Rattle.eden_base.specs.Name.{IsNameText}
 use Rattle.checkout.specs.UnlinkedFiles.{is_gone}
 use Rattle.manifest.specs.Tally.{count_of}
@@ -39,3 +39,7 @@ pub returns-clause-is_tree : goal.returns-clause-is_tree
 returns-clause-is_tree c =
     let i = c.self.inside in
     (rename-step i.manifest i.made i.added (is_gone i.gone) (count_of i.lost) i.next_file c.self.invariant.0 _ c.self.view_is c.args.dir c.args.name.now c.args.to_dir c.args.to_name.now c.unwrap-file.result (sym c.child.ensures.child ∙ c.unwrap-file.ensures) c.requires.other c.requires.fits c.requires.not_above c.requires.to_dir c.requires.reached c.rename.new.self c.lose.new.gone c.lose-2.new.gone c.lose-2.new.lost _ _ _ _ c.bytes.ensures.bytes c.bytes-2.ensures.bytes c.bytes-3.ensures.bytes c.bytes-4.ensures.bytes (subst IsNameText c.bytes-2.ensures.bytes c.bytes-2.ensures.is_name) c.in_ok-rename.ensures.ok c.lose.ensures.gone c.lose-2.ensures.gone c.lose-2.ensures.now).0.is_tree
+
+-- what a wrong body of planted/ breaks
+pub returns-clause-replaced : goal.returns-clause-replaced
+returns-clause-replaced c = search rules
