@@ -13,7 +13,7 @@ pub(crate) fn read_again(alloc: Global, text: &[u8]) -> Result<Manifest, Manifes
 }
 
 /// Makes the tree of `manifest`, and tries once more if memory was refused.
-fn tree_again(alloc: Global, manifest: &Manifest) -> Option<Tree> {
+pub(crate) fn tree_again(alloc: Global, manifest: &Manifest) -> Option<Tree> {
     match Tree::of(alloc, manifest) {
         Ok(tree) => Some(tree),
         Err(NoMemory) => Tree::of(alloc, manifest).ok(),

@@ -1,9 +1,9 @@
 //! A tree whose files move: what stands where, and what tells it from its manifest's.
 use super::deeds::{Deed, MadeRow, Named, changes_again, differs, each_goes_so};
-use crate::again::read_again;
+use crate::again::{read_again, tree_again};
 use crate::small::SMALL;
 use checkout::{ChangeFault, Changes, Tree};
-use eden_base::{Kind, NoMemory};
+use eden_base::Kind;
 use manifest::Manifest;
 use std::alloc::Global;
 
@@ -45,14 +45,6 @@ fn goes_so(
             comes
         }
         None => false,
-    }
-}
-
-/// Makes the tree of a manifest, again where memory was refused.
-fn tree_again(alloc: Global, manifest: &Manifest) -> Option<Tree> {
-    match Tree::of(alloc, manifest) {
-        Ok(tree) => Some(tree),
-        Err(NoMemory) => Tree::of(alloc, manifest).ok(),
     }
 }
 
