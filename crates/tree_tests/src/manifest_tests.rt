@@ -323,3 +323,64 @@ fn reads_small(alloc: Global) -> bool {
 fn reads_and_shares_again_after_memory_was_refused(rt: HostRuntime) {
     assert!(rt; reads_small(rt.alloc()));
 }
+
+/// Whole texts, each with the line and the kind of its fault.
+static FAULTS: [(&[u8], usize, ManifestFaultKind); 5] = [
+    (b"", 1, ManifestFaultKind::NoCommit),
+    (
+        b"commit 0123456789abcdef0123456789abcdef01234567\ndir src\nfile 0644 12 src/a\nfile 0755 0 src/b\nfile 0644 7 README\nfile 0644 1 x/y\n",
+        6,
+        ManifestFaultKind::NoParent,
+    ),
+    (
+        b"commit 0123456789abcdef0123456789abcdef01234567\ndir src\nfile 0644 12 src/a\nfile 0755 0 src/b\nfile 0644 7 README\ndir src\n",
+        6,
+        ManifestFaultKind::Twice,
+    ),
+    (
+        b"commit 0123456789abcdef0123456789abcdef01234567\ndir src\nfile 0644 12 src/a\nfile 0755 0 src/b\nfile 0644 7 README\nfile 644 1 z\n",
+        6,
+        ManifestFaultKind::BadMode,
+    ),
+    (
+        b"commit 0123456789abcdef0123456789abcdef01234567\ndir src\nfile 0644 12 src/a\nfile 0755 0 src/b\nfile 0644 7 README\ndir src/\n",
+        6,
+        ManifestFaultKind::BadPath,
+    ),
+];
+
+/// Returns the fault of a text.
+fn fault_of(alloc: Global, text: &[u8]) -> Option<ManifestFault> {
+    match Manifest::read(alloc, text) {
+        Ok(manifest) => {
+            drop(manifest);
+            None
+        }
+        Err(fault) => Some(fault),
+    }
+}
+
+/// Returns the fault of a text, which is read once more where memory was refused.
+fn fault_again(alloc: Global, text: &[u8]) -> Option<ManifestFault> {
+    match fault_of(alloc, text) {
+        Some(fault) if fault.kind == ManifestFaultKind::NoMemory => fault_of(alloc, text),
+        told => told,
+    }
+}
+
+/// Returns whether each text is refused for its fault.
+fn are_told(alloc: Global, rows: &[(&[u8], usize, ManifestFaultKind)]) -> bool {
+    for (text, line, kind) in rows {
+        let (line, kind) = (*line, *kind);
+        if fault_again(alloc, text) != Some(ManifestFault { line, kind }) {
+            return false;
+        }
+    }
+    true
+}
+
+/// Passes also where one allocation is refused.
+#[test]
+fn tells_faults_after_memory_was_refused(rt: HostRuntime) {
+    assert!(rt; are_told(rt.alloc(), &FAULTS));
+}

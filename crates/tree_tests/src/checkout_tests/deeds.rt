@@ -46,7 +46,7 @@ pub enum Deed {
 }
 
 /// Makes a file, or returns none if the precondition of `Tree::create` does not hold.
-fn created(
+pub(crate) fn created(
     tree: &mut Tree,
     dir: FileId,
     name: &Name,

@@ -1,8 +1,8 @@
 //! Trees that are made of changes, and the first of the changes that no tree has.
-use super::deeds::{MadeRow, Named, differs};
+use super::deeds::{MadeRow, Named, created, differs};
 use crate::again::{parsed, read_again};
 use crate::small::SMALL;
-use checkout::{ChangeFault, Changes, LinkList, Made, MadeList, Tree};
+use checkout::{ChangeFault, Changes, CreateFault, LinkList, Made, MadeList, Tree};
 use eden_base::{FileId, Kind, Perm};
 use manifest::{LinkChange, Manifest};
 use std::alloc::Global;
@@ -168,4 +168,47 @@ static MOVED: Told = (
 #[test]
 fn has_the_changes_that_it_was_made_of(rt: HostRuntime) {
     assert!(rt; goes_so(rt.alloc(), MOVED, None));
+}
+
+/// Nothing is changed, and no file id is left.
+static USED_UP: Told = (&[], &[], 9_223_372_036_854_775_807);
+
+/// Returns whether no file is made in the root of a tree, since no id is left, and the tree stays as it was.
+fn makes_no_file(alloc: Global, tree: &mut Tree) -> bool {
+    let (Some(name), Some(perm)) = (parsed(alloc, b"z"), Perm::of(0o400)) else {
+        return false;
+    };
+    let made = created(tree, FileId::ROOT, &name, Kind::File, perm);
+    drop(name);
+    made == Some(Err(CreateFault::NoFileId)) && differs(tree, USED_UP.0, USED_UP.1, USED_UP.2)
+}
+
+/// Returns that of the tree of these changes.
+fn makes_no_file_with(alloc: Global, manifest: &Manifest, changes: &Changes) -> bool {
+    match changed(alloc, manifest, changes) {
+        Ok(tree) => {
+            let mut tree = tree;
+            let is_refused = makes_no_file(alloc, &mut tree);
+            drop(tree);
+            is_refused
+        }
+        Err(_) => false,
+    }
+}
+
+/// Calls `makes_no_file_with` over the manifest `SMALL`.
+fn makes_no_file_in_the_end(alloc: Global) -> bool {
+    let (Ok(manifest), Some(changes)) = (read_again(alloc, SMALL), changes_again(alloc, USED_UP))
+    else {
+        return false;
+    };
+    let is_refused = makes_no_file_with(alloc, &manifest, &changes);
+    drop(changes);
+    drop(manifest);
+    is_refused
+}
+
+#[test]
+fn makes_no_file_behind_the_last_id(rt: HostRuntime) {
+    assert!(rt; makes_no_file_in_the_end(rt.alloc()));
 }
