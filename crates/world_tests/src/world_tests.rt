@@ -2,10 +2,12 @@
 pub(crate) mod deeds;
 pub(crate) mod events;
 mod facts;
+mod lines;
 mod orders;
 mod parts_tests;
 pub(crate) mod refused_tests;
 pub(crate) mod runs;
+mod stop_tests;
 mod takeover_tests;
 
 use crate::world_tests::deeds::{

@@ -31,7 +31,7 @@ fn add_files(text: &mut String) -> Result<(), AllocError> {
 }
 
 /// Reads the manifest of `add_files`, or returns none if memory was refused.
-fn manifest(alloc: Global) -> Option<Manifest> {
+pub(crate) fn manifest(alloc: Global) -> Option<Manifest> {
     let mut text = String::new(alloc);
     let written = add_files(&mut text);
     let manifest = Manifest::read(alloc, text.as_bytes());
@@ -58,7 +58,7 @@ fn put_lookup(alloc: Global, events: &mut Vec<Event>, file: u64) -> Option<()> {
 }
 
 /// Appends a start, a mount and the lookups of all files to `events`, and returns whether all could be made.
-fn are_begun(alloc: Global, events: &mut Vec<Event>) -> bool {
+pub(crate) fn are_begun(alloc: Global, events: &mut Vec<Event>) -> bool {
     for deed in BEGIN {
         if !is_put(alloc, events, deed) {
             return false;
