@@ -5,6 +5,7 @@ mod facts;
 mod lines;
 mod orders;
 mod parts_tests;
+mod refused_row_tests;
 pub(crate) mod refused_tests;
 pub(crate) mod runs;
 mod stop_tests;

@@ -9,7 +9,7 @@ use takeover_core::Versions;
 use world::{Event, Happened, Outcome, Refusal, World};
 
 /// Returns the last fact of `outcome`, or none.
-fn last_of(outcome: &Outcome) -> Option<Happened> {
+pub(crate) fn last_of(outcome: &Outcome) -> Option<Happened> {
     outcome.happened().last().copied()
 }
 
@@ -21,7 +21,7 @@ fn told_by(world: &mut World, event: &Event) -> Option<Happened> {
     last
 }
 
-const REFUSED: Option<Happened> = Some(Happened::Refused(Refusal::NoMemory));
+pub(crate) const REFUSED: Option<Happened> = Some(Happened::Refused(Refusal::NoMemory));
 
 /// Calls `told_by`, and once more if the event was refused as out of memory.
 pub(crate) fn last_told(world: &mut World, event: &Event) -> Option<Happened> {

@@ -101,7 +101,7 @@ pub(crate) fn all_go_so(alloc: Global, deeds: &[(Deed, Told)], found: &[Found]) 
 }
 
 /// Makes a world over `manifest`, and tries once more if memory was refused.
-fn world_of(alloc: Global, manifest: &Manifest) -> Option<World> {
+pub(crate) fn world_of(alloc: Global, manifest: &Manifest) -> Option<World> {
     match World::new(alloc, manifest, 8) {
         Ok(world) => Some(world),
         Err(NoMemory) => World::new(alloc, manifest, 8).ok(),
