@@ -1,6 +1,7 @@
 //! Images from outside, each of their cuts and changes, and limits. A call that was refused memory says so, and
 //! succeeds when it is made once more, as under `rt try --test --fail-alloc N`.
 mod asking;
+mod damage_tests;
 mod deeds;
 mod deep_tests;
 mod feeding_tests;
@@ -14,7 +15,7 @@ mod vectors;
 
 use crate::map_codec_tests::asking::{Asking, Asks};
 use crate::map_codec_tests::deeds::{Deed, all_go_so};
-use crate::map_codec_tests::images::{all, fault_of, has_text, image_of_bytes, is_written_again};
+use crate::map_codec_tests::images::{all, fault_of, is_written_again};
 use crate::map_codec_tests::vectors::{CHANGED, LOOKED_UP, MOVED, changed_with};
 use map_image::ImageFault;
 use std::alloc::{AllocError, Global};
@@ -48,11 +49,12 @@ fn fault_with(alloc: Global, at: usize, byte: u8) -> Option<ImageFault> {
 
 /// An index, a byte, and the fault of `CHANGED` with that byte there: in the magic, in the version, and in the mark and
 /// the count of the first entry.
-static FIRST_FAULTS: [(usize, u8, ImageFault); 4] = [
+static FIRST_FAULTS: [(usize, u8, ImageFault); 5] = [
     (0, 0x46, ImageFault::BadMagic),
     (5, 9, ImageFault::BadVersion),
     (62, 2, ImageFault::BadMark),
     (66, 0, ImageFault::ZeroUse),
+    (77, b'/', ImageFault::BadName),
 ];
 
 /// Returns whether `CHANGED` with the byte of each row has the fault of that row.
@@ -97,41 +99,6 @@ fn refuses_exchanged(alloc: Global) -> bool {
 fn refuses_what_follows_and_what_is_exchanged(rt: HostRuntime) {
     assert!(rt; refuses_a_byte_more(rt.alloc()));
     assert!(rt; refuses_exchanged(rt.alloc()));
-}
-
-/// Returns whether `bytes` are refused, or the image read from them is written as `bytes` again.
-fn is_refused_or_spelled_so(alloc: Global, bytes: &[u8]) -> bool {
-    match image_of_bytes(alloc, bytes) {
-        Ok(image) => {
-            let so = has_text(alloc, &image, bytes);
-            drop(image);
-            so
-        }
-        Err(_) => true,
-    }
-}
-
-/// Calls `is_refused_or_spelled_so` with `CHANGED`, in which the byte at the index `at` is `byte`.
-fn is_refused_or_spelled_with(alloc: Global, at: usize, byte: u8) -> bool {
-    is_refused_or_spelled_so(alloc, changed_with(at, byte).as_slice())
-}
-
-/// Calls `is_refused_or_spelled_with` for each index of `bytes`: with 0, with 0xff, and with the lowest bit turned.
-fn are_refused_or_spelled(alloc: Global, bytes: &[u8]) -> bool {
-    for at in 0..bytes.len() {
-        if !is_refused_or_spelled_with(alloc, at, 0)
-            || !is_refused_or_spelled_with(alloc, at, 0xff)
-            || !is_refused_or_spelled_with(alloc, at, bytes[at] ^ 1)
-        {
-            return false;
-        }
-    }
-    true
-}
-
-#[test]
-fn refuses_a_changed_byte_or_spells_it_so(rt: HostRuntime) {
-    assert!(rt; are_refused_or_spelled(rt.alloc(), &CHANGED));
 }
 
 const TAKEN_OUT: [Asking; 6] = [

@@ -1,5 +1,6 @@
 //! Checks of images over one manifest, with their expected outcomes, as data. A test is a table of such checks.
 use super::asking::{Asking, is_spelled_after};
+use super::damage_tests::is_told_everywhere;
 use super::deep_tests::{is_chain_handed, is_chain_raised, is_circle_refused};
 use super::handing_tests::{is_not_taken_with, is_rest_not_taken};
 use super::limit_tests::is_limited;
@@ -42,6 +43,8 @@ pub enum Deed {
     RaiseChain(u32),
     /// The image of this many entries in a circle is refused.
     RefuseCircle(u32),
+    /// The changed image in this version, with any byte damaged, is refused or sound.
+    Damage(u8),
 }
 
 /// Makes the check of `deed`, and returns whether its outcome is the expected one.
@@ -59,6 +62,7 @@ fn goes_so(alloc: Global, manifest: &Manifest, deed: Deed) -> bool {
         }
         Deed::RaiseChain(count) => is_chain_raised(alloc, manifest, count),
         Deed::RefuseCircle(count) => is_circle_refused(alloc, manifest, count),
+        Deed::Damage(version) => is_told_everywhere(alloc, manifest, version),
     }
 }
 

@@ -46,7 +46,7 @@ fn ended(reader: ImageReader, piece: &[u8]) -> Result<Image, ImageFault>
 }
 
 /// Reads the image of `bytes` in two pieces, the first of `len` bytes.
-fn image_of_two(alloc: Global, bytes: &[u8], len: usize) -> Result<Image, ImageFault>
+pub(crate) fn image_of_two(alloc: Global, bytes: &[u8], len: usize) -> Result<Image, ImageFault>
     ensures fit { IfOk result IsFit }
 {
     let (first, second) = bytes
@@ -58,7 +58,7 @@ fn image_of_two(alloc: Global, bytes: &[u8], len: usize) -> Result<Image, ImageF
 }
 
 /// Reads the image of `bytes`, fed one by one.
-fn image_of_each(alloc: Global, bytes: &[u8]) -> Result<Image, ImageFault>
+pub(crate) fn image_of_each(alloc: Global, bytes: &[u8]) -> Result<Image, ImageFault>
     ensures fit { IfOk result IsFit }
 {
     let mut reader = reader_of(alloc)?;

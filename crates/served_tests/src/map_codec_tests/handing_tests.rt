@@ -10,7 +10,11 @@ use map_codec::{HandoverFault, hand_over, take_over};
 use std::alloc::{AllocError, Global};
 
 /// Takes `bytes` over at generation 1, and once more if memory was refused.
-fn taken(alloc: Global, manifest: &Manifest, bytes: &[u8]) -> Result<Served, HandoverFault> {
+pub(crate) fn taken(
+    alloc: Global,
+    manifest: &Manifest,
+    bytes: &[u8],
+) -> Result<Served, HandoverFault> {
     match take_over(alloc, bytes, manifest, 8, 1) {
         Err(HandoverFault::NoMemory) => take_over(alloc, bytes, manifest, 8, 1),
         answer => answer,
@@ -65,17 +69,21 @@ fn refuses_to_take_what_is_no_image_of_this_mount(rt: HostRuntime) {
     assert!(rt; all_go_so(rt.alloc(), &NOT_TAKEN));
 }
 
-/// Hands `served` over in version 1, and once more if memory was refused.
-fn handed(alloc: Global, served: &Served) -> Result<Vec<u8>, HandoverFault> {
-    match hand_over(alloc, served, 1, 1) {
-        Err(HandoverFault::NoMemory) => hand_over(alloc, served, 1, 1),
+/// Hands `served` over at generation 1 in `version`, and once more if memory was refused.
+pub(crate) fn handed_in(
+    alloc: Global,
+    served: &Served,
+    version: u16,
+) -> Result<Vec<u8>, HandoverFault> {
+    match hand_over(alloc, served, 1, version) {
+        Err(HandoverFault::NoMemory) => hand_over(alloc, served, 1, version),
         answer => answer,
     }
 }
 
 /// Returns whether `served` is handed over as `bytes`, or refused if `is_refused`.
 fn is_handed_so(alloc: Global, served: &Served, bytes: &[u8], is_refused: bool) -> bool {
-    match handed(alloc, served) {
+    match handed_in(alloc, served, 1) {
         Ok(text) => !is_refused && text.as_slice() == bytes,
         Err(fault) => is_refused && fault == HandoverFault::Refused,
     }
