@@ -3,6 +3,7 @@ use super::deeds::{Asks, asked};
 use super::hosted::{Hosted, answer};
 use eden_base::{Errno, Number};
 use fuse_wire::{Answer, Request};
+use map_codec::hand_over;
 use std::alloc::Global;
 
 const FOUR_FILES: &[u8] =
@@ -201,4 +202,132 @@ fn keeps_as_many_loaded_as_the_limit_says(rt: HostRuntime) {
     for (limit, loaded) in &LOADED {
         assert!(rt; stay_loaded(rt.alloc(), *limit) == Some(*loaded));
     }
+}
+
+/// A manifest of four files, of which a limit of one keeps one loaded.
+const LIMITED: &[u8] =
+    b"commit 0123456789abcdef0123456789abcdef01234567\ndir src\nfile 0644 12 src/a\nfile 0755 0 src/b\nfile 0644 7 README\n";
+
+/// A directory and a name to look up in it, or a number with no name to ask for; and the number in the answer.
+type Asked = (u64, &'static [u8], u64);
+
+/// Each file is looked up, and then two that are no longer loaded are asked for. The backing is asked for all but `src`.
+static ASKED: [Asked; 6] = [
+    (1, b"src", 2),
+    (2, b"a", 3),
+    (2, b"b", 4),
+    (1, b"README", 5),
+    (3, b"", 3),
+    (4, b"", 4),
+];
+
+/// Makes the request of a row.
+fn request_of(alloc: Global, row: Asked) -> Option<Request> {
+    let (number, name, _) = row;
+    if name.is_empty() {
+        return Some(Request::Getattr {
+            node: Number(number),
+        });
+    }
+    asked(alloc, Asks::LookUp, number, name)
+}
+
+/// Returns the bytes that a daemon would hand over: its entries with their counts, the next number, and all changes of
+/// its tree.
+fn known(alloc: Global, served: &Hosted) -> Option<Vec<u8>> {
+    match hand_over(alloc, &served.served, 1, 1) {
+        Ok(bytes) => Some(bytes),
+        Err(_refused) => hand_over(alloc, &served.served, 1, 1).ok(),
+    }
+}
+
+/// Answers a request by a backing that gives so many answers before it fails once, and again where memory was refused.
+fn answered(
+    alloc: Global,
+    served: &mut Hosted,
+    answers: &mut u64,
+    request: &Request,
+) -> Option<Answer> {
+    match served.apply_counting(alloc, answers, request) {
+        Some(Answer::Error(Errno::ENOMEM)) => served.apply_counting(alloc, answers, request),
+        answer => answer,
+    }
+}
+
+/// Answers a request. Where that is EIO, the request is answered once more. Returns whether EIO changed nothing, and the
+/// number told is the expected one.
+fn answers_in_the_end(
+    alloc: Global,
+    served: &mut Hosted,
+    answers: &mut u64,
+    request: &Request,
+    number: u64,
+    failures: &mut u64,
+) -> bool {
+    let before = known(alloc, served);
+    let mut told = answered(alloc, served, answers, request);
+    let mut is_unchanged = true;
+    if told == Some(Answer::Error(Errno::EIO)) {
+        *failures = failures.saturating_add(1);
+        let after = known(alloc, served);
+        is_unchanged = before.is_some() && before == after;
+        drop(after);
+        told = answered(alloc, served, answers, request);
+    }
+    drop(before);
+    is_unchanged && number_told(told) == number
+}
+
+/// Returns that of the request of a row.
+fn row_is_answered(
+    alloc: Global,
+    served: &mut Hosted,
+    answers: &mut u64,
+    row: Asked,
+    failures: &mut u64,
+) -> bool {
+    match request_of(alloc, row) {
+        Some(request) => {
+            let so = answers_in_the_end(alloc, served, answers, &request, row.2, failures);
+            drop(request);
+            so
+        }
+        None => false,
+    }
+}
+
+/// Returns how often EIO was answered to the rows by a backing that fails at its call behind so many, where it changed
+/// nothing and each row was answered in the end.
+fn failures_behind(alloc: Global, served: &mut Hosted, calls: u64) -> Option<u64> {
+    let mut answers = calls;
+    let mut failures = 0;
+    for row in &ASKED {
+        if !row_is_answered(alloc, served, &mut answers, *row, &mut failures) {
+            return None;
+        }
+    }
+    Some(failures)
+}
+
+/// Calls `failures_behind` on a new daemon.
+fn failures_of_new(alloc: Global, calls: u64) -> Option<u64> {
+    let mut served = Hosted::of(alloc, LIMITED, 1)?;
+    let failures = failures_behind(alloc, &mut served, calls);
+    drop(served);
+    failures
+}
+
+/// Returns whether each of the five calls of the backing, and no other, may fail so.
+fn each_call_fails(alloc: Global) -> bool {
+    for calls in 0..5 {
+        if failures_of_new(alloc, calls) != Some(1) {
+            return false;
+        }
+    }
+    failures_of_new(alloc, 5) == Some(0)
+}
+
+#[test]
+fn answers_eio_to_each_call_that_fails_and_changes_nothing(rt: HostRuntime) {
+    assert!(rt; each_call_fails(rt.alloc()));
 }

@@ -66,6 +66,28 @@ impl Hosted {
         };
         self.served.apply(alloc, &mut backing, request)
     }
+
+    /// Answers a request from a backing that gives `answers` answers more, and then fails once. It takes those that it
+    /// gave from `answers`, which is beyond all once it has failed.
+    pub fn apply_counting(
+        &mut self,
+        alloc: Global,
+        answers: &mut u64,
+        request: &Request,
+    ) -> Option<Answer> {
+        let mut backing = FailingBacking {
+            manifest: ManifestBacking::of(&self.manifest),
+            answers: *answers,
+            has_failed: false,
+        };
+        let answer = self.served.apply(alloc, &mut backing, request);
+        *answers = if backing.has_failed {
+            u64::MAX
+        } else {
+            backing.answers
+        };
+        answer
+    }
 }
 
 /// A backing that gives `answers` answers, then fails once, and then answers again.
