@@ -2,7 +2,7 @@
 mod channels;
 mod streams;
 
-use crate::links_tests::streams::{Interrupted, Pieces, Sink};
+use crate::links_tests::streams::{Interrupted, Late, NeverWritten, Pieces, Sink};
 use byte_codec::Bytes;
 use links::{Frame, FrameFault, read_frame, write_frame};
 use std::alloc::Global;
@@ -10,7 +10,9 @@ use std::io::BufReader;
 use std::test::Fail;
 
 /// The text of a Claim from generation 1.
-static CLAIM: [u8; 13] = [0, 0, 0, 8, 9, 0, 0, 0, 0, 0, 0, 0, 1];
+const CLAIM_TEXT: [u8; 13] = [0, 0, 0, 8, 9, 0, 0, 0, 0, 0, 0, 0, 1];
+
+static CLAIM: [u8; 13] = CLAIM_TEXT;
 
 /// `CLAIM`, and after it the text of an Empty, which has no body.
 static TWO: [u8; 18] = [0, 0, 0, 8, 9, 0, 0, 0, 0, 0, 0, 0, 1, 0, 0, 0, 0, 3];
@@ -115,11 +117,26 @@ fn a_faulty_frame_is_told_where_it_shows(rt: HostRuntime) {
     assert!(rt; faults_are_told(rt.alloc(), &FAULTS));
 }
 
-/// Reads `CLAIM` byte by byte, while the read at the position `fails` fails. Returns whether the fault is `Read`, and
-/// no read follows.
-fn read_fails(alloc: Global, fails: usize) -> bool {
+/// Streams: the claim, each that is faulty, and one that ends within a length; then an Empty, an Offer, and data of two
+/// bytes. With each, how many reads of one byte come to its end or its fault.
+static STREAMS: [(&[u8], usize); 8] = [
+    (&CLAIM_TEXT, 13),
+    (&[0, 1, 0, 1], 4),
+    (&[0, 0, 0, 0, 200], 5),
+    (&[0, 0, 0, 7, 9, 0, 0, 0, 0, 0, 0, 1], 12),
+    (&[0, 0, 0], 4),
+    (&[0, 0, 0, 0, 3], 5),
+    (&[0, 0, 0, 3, 32, 1, 0, 1], 8),
+    (
+        &[0, 0, 0, 14, 38, 0, 0, 0, 3, 0, 0, 0, 0, 0, 0, 0, 1, 7, 8],
+        19,
+    ),
+];
+
+/// Returns whether a read that fails, of one byte each, ends the frame at once.
+fn read_fails(alloc: Global, rest: &[u8], fails: usize) -> bool {
     let mut reader = Pieces {
-        rest: &CLAIM,
+        rest,
         first: 1,
         later: 1,
         fails,
@@ -128,10 +145,20 @@ fn read_fails(alloc: Global, fails: usize) -> bool {
     matches!(read_frame(alloc, &mut reader), Err(FrameFault::Read)) && reader.reads == fails
 }
 
-/// Calls `read_fails` with each position, and once more if the first call returned false.
-fn each_read_fails(alloc: Global) -> bool {
-    for fails in 1..14 {
-        if !read_fails(alloc, fails) && !read_fails(alloc, fails) {
+/// Returns whether a failure of any of these reads ends the frame at once, and one of the next is not met.
+fn each_read_fails(alloc: Global, stream: &[u8], reads: usize) -> bool {
+    for fails in 1..reads + 1 {
+        if !read_fails(alloc, stream, fails) && !read_fails(alloc, stream, fails) {
+            return false;
+        }
+    }
+    !read_fails(alloc, stream, reads + 1)
+}
+
+/// Returns that of each stream.
+fn all_reads_fail(alloc: Global, streams: &[(&[u8], usize)]) -> bool {
+    for (stream, reads) in streams {
+        if *reads > 99 || !each_read_fails(alloc, stream, *reads) {
             return false;
         }
     }
@@ -140,7 +167,26 @@ fn each_read_fails(alloc: Global) -> bool {
 
 #[test]
 fn a_read_that_fails_is_told(rt: HostRuntime) {
-    assert!(rt; each_read_fails(rt.alloc()));
+    assert!(rt; all_reads_fail(rt.alloc(), &STREAMS));
+}
+
+/// Returns whether the claim comes behind this many reads that are interrupted.
+fn comes_late(alloc: Global, interrupted: usize) -> bool {
+    let mut reader = Late {
+        rest: &CLAIM,
+        interrupted,
+    };
+    is_claim(read_frame(alloc, &mut reader))
+}
+
+/// Returns whether interrupted reads are made again, and count: the claim takes thirteen reads more.
+fn comes_late_enough(alloc: Global) -> bool {
+    comes_late(alloc, 1) && comes_late(alloc, 131_059) && !comes_late(alloc, 131_060)
+}
+
+#[test]
+fn an_interrupted_read_counts(rt: HostRuntime) {
+    assert!(rt; comes_late_enough(rt.alloc()) || comes_late_enough(rt.alloc()));
 }
 
 /// Reads from a reader of which each read is interrupted. Returns how many reads are made, if the fault is `Read`.
@@ -191,7 +237,7 @@ fn small_frames_cost_one_read_behind_a_buffer(rt: HostRuntime) {
 
 /// Makes a writer that takes `most` bytes at a time.
 fn sink(alloc: Global, most: usize, fails: usize, stutters: bool) -> Option<Sink> {
-    match Vec::with_capacity(alloc, 16) {
+    match Vec::with_capacity(alloc, 32) {
         Ok(held) => Some(Sink {
             held,
             most,
@@ -242,12 +288,44 @@ fn a_frame_is_one_write(rt: HostRuntime) {
     assert!(rt; writes(rt.alloc()) || writes(rt.alloc()));
 }
 
-/// Writes a Claim byte by byte, while one of the 13 writes fails. Returns whether that is a fault, and no write
-/// follows.
-fn each_write_fails(alloc: Global) -> bool {
-    for fails in 1..14 {
-        let writer = sink(alloc, 1, fails, false);
-        if !writes_claim(alloc, writer, Some(FrameFault::Write), fails - 1, fails) {
+/// Returns whether a write that fails, of one byte each, ends a frame at once, behind the front of its text.
+fn write_fails(alloc: Global, frame: &Frame, text: &[u8], fails: usize) -> bool {
+    let Some(mut writer) = sink(alloc, 1, fails, false) else {
+        return false;
+    };
+    let told = write_frame(alloc, &mut writer, frame);
+    told == Err(FrameFault::Write)
+        && writer.writes == fails
+        && text.get(..fails.saturating_sub(1)) == Some(writer.held.as_slice())
+}
+
+/// Returns whether a failure of any write ends a frame at once.
+fn each_write_fails(alloc: Global, frame: &Frame, text: &[u8]) -> bool {
+    for fails in 1..text.len() + 1 {
+        if !write_fails(alloc, frame, text, fails) && !write_fails(alloc, frame, text, fails) {
+            return false;
+        }
+    }
+    true
+}
+
+/// Returns whether a failure of any write ends the frame of a text at once, where it is one.
+fn frame_is_not_written(alloc: Global, text: &[u8]) -> bool {
+    let mut bytes = text;
+    match read_slice(alloc, &mut bytes) {
+        Ok(Some(frame)) => {
+            let fails = each_write_fails(alloc, &frame, text);
+            drop(frame);
+            fails
+        }
+        _ => true,
+    }
+}
+
+/// Returns that of each stream.
+fn frames_are_not_written(alloc: Global, streams: &[(&[u8], usize)]) -> bool {
+    for (stream, _reads) in streams {
+        if !frame_is_not_written(alloc, stream) {
             return false;
         }
     }
@@ -256,7 +334,26 @@ fn each_write_fails(alloc: Global) -> bool {
 
 #[test]
 fn a_write_that_fails_is_told(rt: HostRuntime) {
-    assert!(rt; each_write_fails(rt.alloc()) || each_write_fails(rt.alloc()));
+    assert!(rt; frames_are_not_written(rt.alloc(), &STREAMS));
+}
+
+/// Returns how often a writer is written whose every write is interrupted, where that is told as Write.
+fn interrupted_writes(alloc: Global) -> Option<usize> {
+    let mut writer = NeverWritten { writes: 0 };
+    match write_frame(alloc, &mut writer, &Frame::Empty) {
+        Err(FrameFault::Write) => Some(writer.writes),
+        _ => None,
+    }
+}
+
+/// Returns whether a write that is interrupted is made again, 131,072 times in all.
+fn writes_to_the_last(alloc: Global) -> bool {
+    interrupted_writes(alloc) == Some(131_072)
+}
+
+#[test]
+fn an_interrupted_write_is_made_again_131072_times(rt: HostRuntime) {
+    assert!(rt; writes_to_the_last(rt.alloc()) || writes_to_the_last(rt.alloc()));
 }
 
 /// Writes an Ask of `len` bytes. Returns whether that comes to `fault`, and `written` bytes are written.

@@ -45,6 +45,44 @@ impl Read for Interrupted {
     }
 }
 
+/// Bytes that are read one at a time behind some reads that are interrupted.
+#[derive(Drop)]
+pub(crate) struct Late<'a> {
+    pub rest: &'a [u8],
+    /// How many reads more are interrupted.
+    pub interrupted: usize,
+}
+
+impl Read for Late<'_> {
+    fn read(&mut self, room: &mut [u8]) -> io::Result<usize> {
+        if self.interrupted > 0 {
+            self.interrupted -= 1;
+            return Err(io::Error::from(ErrorKind::Interrupted));
+        }
+        let count = room.len().min(self.rest.len()).min(1);
+        room[..count].copy_from_slice(&self.rest[..count]);
+        self.rest = &self.rest[count..];
+        Ok(count)
+    }
+}
+
+/// A writer whose every write is interrupted.
+#[derive(Drop)]
+pub(crate) struct NeverWritten {
+    pub writes: usize,
+}
+
+impl Write for NeverWritten {
+    fn write(&mut self, _bytes: &[u8]) -> io::Result<usize> {
+        self.writes = self.writes.saturating_add(1);
+        Err(io::Error::from(ErrorKind::Interrupted))
+    }
+
+    fn flush(&mut self) -> io::Result<()> {
+        Ok(())
+    }
+}
+
 /// A writer that appends a few bytes at a time to `held`.
 #[derive(Drop)]
 pub(crate) struct Sink {
