@@ -91,7 +91,34 @@ fn receipts_that_are_exchanged_unsettle_a_round(rt: HostRuntime) {
     assert!(rt; as_wanted);
 }
 
-/// Passes also if one allocation is refused: the round gives back what it was handed, and is served again.
+/// Returns whether a round of one ask on each channel leaves both in its journal, in either order.
+fn serves_both<R: Threads + Wait + Sync>(rt: &R, alloc: Global) -> bool {
+    let in_order = Left {
+        records: 2,
+        first: Some(0),
+        second: Some(1),
+        taken: 1,
+        replies: 1,
+        is_settled: true,
+    };
+    let in_other_order = Left {
+        first: Some(1),
+        second: Some(0),
+        ..in_order
+    };
+    let left = round_again(rt, alloc, &[1], &[2], 64, &Stop::new(), Change::None);
+    left == Some(in_order) || left == Some(in_other_order)
+}
+
+/// Passes also where one allocation is refused: a round gives back what it was handed, and is served again. A worker that
+/// has no thread of its own runs behind the other.
+#[test]
+fn an_ask_of_each_channel_is_served(rt: HostRuntime) {
+    let served = serves_both(&rt, rt.alloc());
+    assert!(rt; served);
+}
+
+/// Passes also where one allocation is refused: a round gives back what it was handed, and is served again.
 #[test]
 fn one_turn_takes_one_ask_of_three(rt: HostRuntime) {
     let wanted = Left {

@@ -29,7 +29,7 @@ type Script = (u64, usize, Then);
 const WELL: Script = (1, 9, Then::Empty);
 
 /// Rows: two channels, and how a round over them ends.
-static ENDINGS: [(Script, Script, Ended); 10] = [
+static ENDINGS: [(Script, Script, Ended); 16] = [
     (WELL, WELL, Ended::Well(2)),
     ((2, 9, Then::Stopped), WELL, Ended::Well(3)),
     (WELL, (2, 9, Then::Stopped), Ended::Well(3)),
@@ -40,6 +40,12 @@ static ENDINGS: [(Script, Script, Ended); 10] = [
     (WELL, (5, 4, Then::Empty), Ended::Broken),
     ((0, 9, Then::Broken), (1, 0, Then::Empty), Ended::Broken),
     ((4, 4, Then::Empty), (4, 4, Then::Stopped), Ended::Well(8)),
+    ((0, 9, Then::Broken), WELL, Ended::Broken),
+    ((1, 9, Then::Broken), WELL, Ended::Broken),
+    ((1, 0, Then::Empty), WELL, Ended::Broken),
+    (WELL, (0, 9, Then::Broken), Ended::Broken),
+    (WELL, (1, 9, Then::Broken), Ended::Broken),
+    (WELL, (1, 0, Then::Empty), Ended::Broken),
 ];
 
 /// Makes the channels of `first` and `second`.
