@@ -4,7 +4,7 @@
 use super::events::manifest;
 use super::lines::event_of;
 use super::parts_tests;
-use super::refused_tests::{REFUSED, last_of, last_told};
+use super::refused_tests::{REFUSED, last_of, last_told, reply_told};
 use super::runs::world_of;
 use eden_base::Errno;
 use fuse_wire::{Answer, Reply, Request};
@@ -88,10 +88,10 @@ fn done_once(world: &mut World, issue: &Event) -> Option<Happened> {
 }
 
 /// Returns whether the kernel was answered that memory was refused.
-fn is_out_of_memory(told: Option<Happened>) -> bool {
-    match told {
-        Some(Happened::Answered(reply)) => reply.answer == Answer::Error(Errno::ENOMEM),
-        _other => false,
+fn is_out_of_memory(told: &Happened) -> bool {
+    match reply_told(told) {
+        Some(reply) => reply.answer == Answer::Error(Errno::ENOMEM),
+        None => false,
     }
 }
 
@@ -99,7 +99,11 @@ fn is_out_of_memory(told: Option<Happened>) -> bool {
 fn done(world: &mut World, request: Request, late: &mut u64) -> Option<Happened> {
     let issue = Event::Issue(request);
     let mut told = done_once(world, &issue);
-    if is_out_of_memory(told) {
+    let is_refused = match &told {
+        Some(told) => is_out_of_memory(told),
+        None => false,
+    };
+    if is_refused {
         *late = late.saturating_add(1);
         told = done_once(world, &issue);
     }
@@ -108,18 +112,18 @@ fn done(world: &mut World, request: Request, late: &mut u64) -> Option<Happened>
 }
 
 /// Prints what a `do` told last, with the unique that it has where none was made again.
-fn print_done(out: &mut Vec<u8>, told: Option<Happened>, late: u64) -> io::Result<()> {
+fn print_done(out: &mut Vec<u8>, told: &Happened, late: u64) -> io::Result<()> {
     match told {
-        Some(Happened::Answered(reply)) => {
+        Happened::Answered(reply) => {
             let unique = reply.unique.saturating_sub(late);
             let answer = reply.answer;
             print_reply(out, "answer", &Reply { unique, answer })
         }
-        Some(Happened::Forgot { forgot, .. }) => {
+        Happened::Forgot { forgot, .. } => {
             let name = forgot.name();
             writeln!(out, "forgot {name}")
         }
-        Some(Happened::Refused(refusal)) => print_refusal(out, refusal),
+        Happened::Refused(refusal) => print_refusal(out, *refusal),
         _other => writeln!(out, "nothing"),
     }
 }
@@ -140,10 +144,10 @@ fn print_told(
     late: &mut u64,
 ) -> io::Result<()> {
     match event {
-        Event::Do(request) => {
-            let told = done(world, request, late);
-            print_done(out, told, *late)
-        }
+        Event::Do(request) => match done(world, request, late) {
+            Some(told) => print_done(out, &told, *late),
+            None => writeln!(out, "nothing"),
+        },
         other => {
             let printed = print_other(out, world, &other);
             drop(other);

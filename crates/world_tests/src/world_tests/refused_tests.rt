@@ -4,6 +4,7 @@ use super::events::event;
 use super::facts::{counts, happened, is_idle};
 use super::runs::new_world;
 use eden_base::DaemonId;
+use fuse_wire::Reply;
 use std::alloc::Global;
 use takeover_core::Versions;
 use world::{Event, Happened, Outcome, Refusal, World};
@@ -30,6 +31,14 @@ pub(crate) fn last_told(world: &mut World, event: &Event) -> Option<Happened> {
         return told_by(world, event);
     }
     told
+}
+
+/// Returns the reply that reached the kernel, where that was told.
+pub(crate) fn reply_told(told: &Happened) -> Option<&Reply> {
+    match told {
+        Happened::Answered(reply) => Some(reply),
+        _other => None,
+    }
 }
 
 /// Lets the event of `deed` happen. Returns whether its last fact is `expected`, or true if no fact is expected.

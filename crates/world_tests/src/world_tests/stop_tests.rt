@@ -4,7 +4,7 @@ mod rows;
 use super::events::{manifest, room};
 use super::lines::are_put;
 use super::parts_tests;
-use super::refused_tests::last_told;
+use super::refused_tests::{last_told, reply_told};
 use crate::world_tests::stop_tests::rows::{ROWS, Row, Tally};
 use eden_base::{DaemonId, NoMemory, Number};
 use fuse_wire::{Answer, Request};
@@ -92,14 +92,22 @@ fn started(world: &mut World) -> Option<DaemonId> {
     }
 }
 
+/// Returns whether a reply that is no error reached the kernel.
+fn is_no_error(told: &Happened) -> bool {
+    match reply_told(told) {
+        Some(reply) => !matches!(reply.answer, Answer::Error(_)),
+        None => false,
+    }
+}
+
 /// Returns whether the kernel is answered, and no error.
 fn is_answered(world: &mut World) -> bool {
     let ask = Event::Do(Request::Getattr { node: Number::ROOT });
     let told = last_told(world, &ask);
     drop(ask);
     match told {
-        Some(Happened::Answered(reply)) => !matches!(reply.answer, Answer::Error(_)),
-        _other => false,
+        Some(told) => is_no_error(&told),
+        None => false,
     }
 }
 
