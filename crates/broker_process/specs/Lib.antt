@@ -1,2 +1,3 @@
 pub mod Hall
+pub mod Playing
 pub mod Visitors

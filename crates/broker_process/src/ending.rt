@@ -1,5 +1,6 @@
 //! A broker, from the start of its socket to the end.
-ghost use Rattle.std.specs.Prelude.{All};
+ghost use Rattle.std.specs.Prelude.{◌≡◌, Err, All};
+ghost use Rattle.broker_process.specs.Playing.{RunsBroker};
 ghost use Rattle.script_lines.specs.BrokerLine.{IsSendableLine};
 
 use crate::fault::BrokerFault;
@@ -18,56 +19,79 @@ use std::sync::Wait;
 use std::thread::{Scope, Threads};
 use std::{fs, thread};
 
-/// Plays the kernel by a script for daemons that connect to the socket at a path, and writes the result of each line
-/// to `out`. It returns when every daemon left, and removes the socket.
-pub fn run_broker<R: Threads + Wait + Clock + Files + Net + Sync, W: Write>(
+/// How a broker ran, with the writer of its lines.
+#[derive(Drop)]
+pub struct BrokerRun<W> {
+    pub out: W,
+    pub ended: Result<(), BrokerFault>,
+}
+
+/// Plays the kernel by `script` for daemons that connect to the socket at a path, and writes the result of each line to
+/// `out`. Returns when every daemon left, and removes the socket.
+pub fn run_broker<R: Threads + Wait + Clock + Files + Net + Sync, W: Write + Drop>(
     rt: &R,
     alloc: Global,
     socket: &str,
     script: &[BrokerLine],
-    out: &mut W,
-) -> Result<(), BrokerFault>
+    out: W,
+) -> BrokerRun<W>
     requires sendable { All IsSendableLine script.now }
+    ensures runs { RunsBroker script.now result.ended (W.contents out) (W.contents result.out) }
 {
-    let Ok(hall) = Hall::new(alloc) else {
-        return Err(BrokerFault::NoMemory);
+    let hall = match Hall::new(alloc) {
+        Ok(hall) => hall,
+        Err(NoMemory) => return fails(out, BrokerFault::NoMemory),
     };
     let listener = match listen_at(rt, alloc, socket) {
         Ok(listener) => listener,
-        Err(error) => return Err(BrokerFault::CannotListen(error)),
+        Err(error) => return fails(out, BrokerFault::CannotListen(error)),
     };
     let closer = match Closer::of(&listener) {
         Ok(closer) => closer,
-        Err(error) => return Err(BrokerFault::CannotListen(error)),
+        Err(error) => return fails(out, BrokerFault::CannotListen(error)),
     };
     let ran = open(rt, alloc, &hall, &listener, &closer, script, out);
     let _removed = fs::remove_file(rt, socket);
     ran
 }
 
+/// Returns how a broker ran that printed nothing, and ends by `fault`.
+fn fails<W: Write + Drop>(out: W, fault: BrokerFault) -> BrokerRun<W>
+    ensures ended { result.ended ≡ Err fault }
+    ensures same { W.contents result.out ≡ W.contents out }
+{
+    BrokerRun {
+        out,
+        ended: Err(fault),
+    }
+}
+
 /// Takes connections in a thread while the script is played.
-fn open<R: Threads + Wait + Clock + Sync, W: Write>(
+fn open<R: Threads + Wait + Clock + Sync, W: Write + Drop>(
     rt: &R,
     alloc: Global,
     hall: &Hall,
     listener: &UnixListener,
     closer: &Closer,
     script: &[BrokerLine],
-    out: &mut W,
-) -> Result<(), BrokerFault>
+    out: W,
+) -> BrokerRun<W>
     requires sendable { All IsSendableLine script.now }
+    ensures runs { RunsBroker script.now result.ended (W.contents out) (W.contents result.out) }
 {
     thread::scope(
         thread::scope_env(),
         rt,
-        |scope| -> Result<(), BrokerFault>
+        move |scope| -> BrokerRun<W>
             requires { All IsSendableLine script.now }
+            ensures { RunsBroker script.entry.now result.ended
+                (W.contents out) (W.contents result.out) }
         { open_within(scope, rt, alloc, hall, listener, closer, script, out) },
     )
 }
 
 /// Takes connections in a thread of a scope while the script is played, and ends them all then.
-fn open_within<'s, 'e: 's, R: Threads + Wait + Clock + Sync + 's, W: Write>(
+fn open_within<'s, 'e: 's, R: Threads + Wait + Clock + Sync + 's, W: Write + Drop>(
     scope: &Scope<'s, &'e ()>,
     rt: &'e R,
     alloc: Global,
@@ -75,21 +99,26 @@ fn open_within<'s, 'e: 's, R: Threads + Wait + Clock + Sync + 's, W: Write>(
     listener: &'e UnixListener,
     closer: &Closer,
     script: &[BrokerLine],
-    out: &mut W,
-) -> Result<(), BrokerFault>
+    out: W,
+) -> BrokerRun<W>
     requires sendable { All IsSendableLine script.now }
+    ensures runs { RunsBroker script.now result.ended (W.contents out) (W.contents result.out) }
 {
     if scope
         .spawn(move || receive_all(rt, alloc, hall, listener))
         .is_err()
     {
-        return Err(BrokerFault::NoThread);
+        return fails(out, BrokerFault::NoThread);
     }
-    let played = play(rt, hall, script, out);
+    let mut out = out;
+    let played = play(rt, hall, script, &mut out);
     hall.end(rt);
     closer.close();
     match played {
-        Ok(()) => Ok(()),
-        Err(error) => Err(BrokerFault::CannotWrite(error)),
+        Ok(()) => BrokerRun { out, ended: Ok(()) },
+        Err(error) => BrokerRun {
+            out,
+            ended: Err(BrokerFault::CannotWrite(error)),
+        },
     }
 }

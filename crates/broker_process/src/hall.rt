@@ -1,8 +1,13 @@
 //! What the connections of a broker share with its script.
-ghost use Rattle.std.specs.Prelude.{◌≡◌, false};
+ghost use Rattle.std.specs.Prelude.{◌≡◌, ◌↔◌, false, IsTrue, OnOk};
 ghost use Rattle.std.specs.Option.{option_map_or};
 ghost use Rattle.broker_desk.specs.Desk.{told_by};
+ghost use Rattle.broker_core.specs.Broker.{BrokerState};
 ghost use Rattle.broker_process.specs.Hall.{wakes};
+ghost use Rattle.broker_process.specs.Playing.{Began, HasCome};
+ghost use Rattle.broker_script.specs.Beginning.{Begins};
+ghost use Rattle.broker_script.specs.Printed.{PrintsBegun};
+ghost use Rattle.broker_script.specs.declared.awaited.Came.TheVariants.{Lacks};
 ghost use Rattle.script_lines.specs.BrokerLine.{IsSendableLine};
 
 use crate::visitors::Visitors;
@@ -105,6 +110,7 @@ impl State {
     /// Begins what a line says, and notes what the script waits for from then on.
     fn begin(&mut self, line: &BrokerLine, now: Option<Instant>) -> Begun
         requires sendable { IsSendableLine line.now }
+        ensures begins { Begins self.old.desk line.now result self.new.desk }
     {
         let begun = begin(&mut self.desk, line);
         if let BrokerLine::Ask(_) = line {
@@ -158,7 +164,9 @@ fn wakes(waiting: Waiting, told: &Frame) -> bool
 }
 
 /// Returns whether the reply came but memory for its number was refused.
-fn is_lacking(came: &Came) -> bool {
+fn is_lacking(came: &Came) -> bool
+    ensures lacks { IsTrue result ↔ (came.now ≡ Lacks) }
+{
     matches!(came, Came::Lacks)
 }
 
@@ -271,6 +279,7 @@ impl Hall {
     /// Begins what a line of the script says.
     pub(crate) fn begin<R: Wait + Clock>(&self, rt: &R, line: &BrokerLine) -> Begun
         requires sendable { IsSendableLine line.now }
+        ensures began { Began line.now result }
     {
         let now = Instant::now(rt).ok();
         let begun = self.state.lock(rt).begin(line, now);
@@ -279,7 +288,9 @@ impl Hall {
     }
 
     /// Waits until something came of `awaited`, and returns what came.
-    pub(crate) fn wait_for<R: Wait + Clock>(&self, rt: &R, awaited: &Awaited) -> Came {
+    pub(crate) fn wait_for<R: Wait + Clock>(&self, rt: &R, awaited: &Awaited) -> Came
+        ensures come { HasCome awaited.now result }
+    {
         for _ in rt.forever() {
             let seen = self.events.notifications();
             let looked = look(&mut self.state.lock(rt).desk, awaited);
@@ -304,7 +315,10 @@ impl Hall {
         rt: &R,
         out: &mut W,
         begun: &Begun,
-    ) -> io::Result<()> {
+    ) -> io::Result<()>
+        ensures printed { OnOk result ((broker : BrokerState) × PrintsBegun broker begun.now
+            (W.contents out.old) (W.contents out.new)) }
+    {
         print_begun(out, self.state.lock(rt).desk.broker(), begun)
     }
 

@@ -8,5 +8,5 @@ mod reception;
 mod script;
 mod visitors;
 
-pub use ending::run_broker;
+pub use ending::{BrokerRun, run_broker};
 pub use fault::BrokerFault;

@@ -1,5 +1,6 @@
 //! A script that plays the kernel.
-ghost use Rattle.std.specs.Prelude.{All};
+ghost use Rattle.std.specs.Prelude.{All, OnOk};
+ghost use Rattle.broker_process.specs.Playing.{PlaysLine, PlaysScript};
 ghost use Rattle.script_lines.specs.BrokerLine.{IsSendableLine};
 
 use crate::hall::Hall;
@@ -17,6 +18,7 @@ pub(crate) fn play<R: Wait + Clock, W: Write>(
     out: &mut W,
 ) -> io::Result<()>
     requires sendable { All IsSendableLine script.now }
+    ensures plays { OnOk result (PlaysScript script.now (W.contents out.old) (W.contents out.new)) }
 {
     for line in script {
         play_line(rt, hall, line, out)?;
@@ -38,6 +40,7 @@ fn play_line<R: Wait + Clock, W: Write>(
     out: &mut W,
 ) -> io::Result<()>
     requires sendable { IsSendableLine line.now }
+    ensures plays { OnOk result (PlaysLine line.now (W.contents out.old) (W.contents out.new)) }
 {
     let begun = hall.begin(rt, line);
     hall.print_begun(rt, out, &begun)?;

@@ -1,2 +1,3 @@
 mod FramesTold
+mod LinesPrinted
 mod NextRound

@@ -1,3 +1,4 @@
+pub mod Ending
 pub mod Patience
 pub mod Serving
 pub mod Takeovers

@@ -6,6 +6,8 @@ use Rattle.daemon.specs.Daemon.{lent_server}
 use Rattle.daemon.specs.Server.{ServerState}
 use Rattle.daemon.specs.declared.lease.Lease.{Lease}
 use Rattle.daemon_desk.specs.Desk.{DeskState, is_draining, lendable}
+use Rattle.takeover_core.specs.declared.phase.Phase.{Phase}
+use Rattle.takeover_core.specs.declared.phase.Phase.TheVariants as phases
 use Rattle.daemon_process.specs.declared.exit.Exit.{Exit}
 use Rattle.daemon_process.specs.declared.exit.Exit.TheVariants.{Faulty}
 use Rattle.daemon_process.specs.declared.fault.DaemonFault.TheVariants.{CannotWrite}
@@ -13,6 +15,10 @@ use Rattle.daemon_process.specs.declared.shared.Next.{Next}
 use Rattle.daemon_process.specs.declared.shared.Next.TheVariants as next
 
 -- ---- what comes next
+
+-- the daemon serves in this phase
+abbrev pub IsServing : Phase → Type 0
+IsServing phase = (generation : ℕ) × (phase ≡ phases.Serving generation)
 
 -- the lease of the round that comes next, if one does
 abbrev pub served_next : Next → Option Lease

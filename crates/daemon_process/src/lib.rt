@@ -19,4 +19,4 @@ mod telling;
 
 pub use fault::DaemonFault;
 pub use orders::{Orders, Start};
-pub use process::run_daemon;
+pub use process::{DaemonRun, run_daemon};

@@ -1,5 +1,6 @@
 //! A daemon, from its start to its end.
-ghost use Rattle.std.specs.Prelude.{◌≡◌, [], ◌∷◌};
+ghost use Rattle.std.specs.Prelude.{◌≡◌, ℕ, List, [], ◌∷◌, Option, IfOk};
+ghost use Rattle.daemon_process.specs.Ending.{PrintsExit, PrintsUntil, RunsDaemon};
 
 use crate::arrival::Arrival;
 use crate::beginning::{Seated, begin};
@@ -27,23 +28,63 @@ use takeover_core::Versions;
 /// The versions of the image that a daemon writes and reads: whole, and in parts.
 const VERSIONS: [u16; 2] = [1, 2];
 
-/// Runs a daemon over the checkout of a manifest, and writes its lines to `out`, each at once. It returns when another
+/// How a daemon ran, with the writer of its lines.
+#[derive(Drop)]
+pub struct DaemonRun<W> {
+    pub out: W,
+    pub ended: Result<(), DaemonFault>,
+}
+
+/// How a daemon serves until its end, with the writer of its lines.
+#[derive(Drop)]
+struct Service<W> {
+    out: W,
+    exit: Exit,
+}
+
+/// Runs a daemon over the checkout of `manifest`, and writes its lines to `out`, each at once. Returns when another
 /// daemon took over or the mount is over.
-pub fn run_daemon<R: Threads + Wait + Clock + Files + Net + Sync, W: Write>(
+pub fn run_daemon<R: Threads + Wait + Clock + Files + Net + Sync, W: Write + Drop>(
     rt: &R,
     alloc: Global,
     orders: &Orders<'_>,
     manifest: Manifest,
-    out: &mut W,
-) -> Result<(), DaemonFault> {
+    out: W,
+) -> DaemonRun<W>
+    ensures runs { RunsDaemon result.ended (W.contents out) (W.contents result.out) }
+{
     let shared = Shared::new(DaemonDesk::new(alloc, manifest, orders.limit, versions()));
-    let exit = match begin(rt, alloc, &shared, orders) {
-        Ok(seated) => run(rt, alloc, &shared, orders, seated, out),
-        Err(exit) => exit,
-    };
-    match print_exit(out, exit) {
-        Ok(told) => told,
-        Err(error) => Err(DaemonFault::CannotWrite(error)),
+    end_run(serve_mount(rt, alloc, &shared, orders, out))
+}
+
+/// Gets the seat and serves until the daemon ends.
+fn serve_mount<R: Threads + Wait + Clock + Files + Net + Sync, W: Write + Drop>(
+    rt: &R,
+    alloc: Global,
+    shared: &Shared,
+    orders: &Orders<'_>,
+    out: W,
+) -> Service<W>
+    ensures prints { PrintsUntil (W.contents out) (W.contents result.out) result.exit }
+{
+    match begin(rt, alloc, shared, orders) {
+        Ok(seated) => run(rt, alloc, shared, orders, seated, out),
+        Err(exit) => Service { out, exit },
+    }
+}
+
+/// Prints how a daemon ends, and returns how it ran.
+fn end_run<W: Write + Drop>(service: Service<W>) -> DaemonRun<W>
+    ensures runs { (old : Option (List ℕ)) → PrintsUntil old (W.contents service.out) service.exit
+        → RunsDaemon result.ended old (W.contents result.out) }
+{
+    let Service { mut out, exit } = service;
+    match print_exit(&mut out, exit) {
+        Ok(ended) => DaemonRun { out, ended },
+        Err(error) => {
+            let ended = Err(DaemonFault::CannotWrite(error));
+            DaemonRun { out, ended }
+        }
     }
 }
 
@@ -55,7 +96,9 @@ fn versions() -> Versions
 }
 
 /// Prints how a daemon ends, unless it ends by a fault.
-fn print_exit<W: Write>(out: &mut W, exit: Exit) -> io::Result<Result<(), DaemonFault>> {
+fn print_exit<W: Write>(out: &mut W, exit: Exit) -> io::Result<Result<(), DaemonFault>>
+    ensures prints { IfOk result (λ told. PrintsExit exit told (W.contents out.old) (W.contents out.new)) }
+{
     match exit {
         Exit::HandedOver => out.write_all(b"handed over\n")?,
         Exit::Ended => out.write_all(b"ended\n")?,
@@ -66,14 +109,16 @@ fn print_exit<W: Write>(out: &mut W, exit: Exit) -> io::Result<Result<(), Daemon
 }
 
 /// Serves the mount and takeovers, each in threads of its own, until the daemon ends.
-fn run<R: Threads + Wait + Clock + Sync, W: Write>(
+fn run<R: Threads + Wait + Clock + Sync, W: Write + Drop>(
     rt: &R,
     alloc: Global,
     shared: &Shared,
     orders: &Orders<'_>,
     seated: Seated<'_, R>,
-    out: &mut W,
-) -> Exit {
+    out: W,
+) -> Service<W>
+    ensures prints { PrintsUntil (W.contents out) (W.contents result.out) result.exit }
+{
     let Seated { arrival, listener } = seated;
     let Arrival {
         connection,
@@ -81,21 +126,31 @@ fn run<R: Threads + Wait + Clock + Sync, W: Write>(
     } = arrival;
     let closer = match Closer::of(&listener) {
         Ok(closer) => closer,
-        Err(error) => return Exit::Faulty(DaemonFault::CannotListen(error)),
+        Err(error) => {
+            let exit = Exit::Faulty(DaemonFault::CannotListen(error));
+            return Service { out, exit };
+        }
     };
     let lobby = Lobby::new();
     let patience = orders.patience;
+    let (lobby, listener, closer) = (&lobby, &listener, &closer);
     let workers = workers.as_slice();
-    thread::scope(thread::scope_env(), rt, |scope| {
-        run_within(
-            scope, rt, alloc, shared, &lobby, &listener, &closer, connection, workers, patience,
-            out,
-        )
-    })
+    thread::scope(
+        thread::scope_env(),
+        rt,
+        move |scope| -> Service<W>
+            ensures { PrintsUntil (W.contents out) (W.contents result.out) result.exit }
+        {
+            run_within(
+                scope, rt, alloc, shared, lobby, listener, closer, connection, workers, patience,
+                out,
+            )
+        },
+    )
 }
 
 /// Serves the mount in this thread and takeovers in two more, of which one lets connections in.
-fn run_within<'s, 'e: 's, R: Threads + Wait + Clock + Sync + 's, W: Write>(
+fn run_within<'s, 'e: 's, R: Threads + Wait + Clock + Sync + 's, W: Write + Drop>(
     scope: &Scope<'s, &'e ()>,
     rt: &'e R,
     alloc: Global,
@@ -106,17 +161,34 @@ fn run_within<'s, 'e: 's, R: Threads + Wait + Clock + Sync + 's, W: Write>(
     broker: Connection<'e, R>,
     workers: &[UnixStream],
     patience: Duration,
-    out: &mut W,
-) -> Exit {
+    out: W,
+) -> Service<W>
+    ensures prints { PrintsUntil (W.contents out) (W.contents result.out) result.exit }
+{
+    let mut out = out;
     let receiving = scope.spawn(move || lobby.receive(rt, listener));
     let handing = scope.spawn(move || hand_over_all(rt, alloc, shared, lobby, broker, patience));
-    let exit = if receiving.is_ok() && handing.is_ok() {
-        serve(rt, alloc, shared, workers, out)
-    } else {
-        Exit::Faulty(DaemonFault::NoThread)
-    };
+    let are_made = receiving.is_ok() && handing.is_ok();
+    let exit = serve_if(rt, alloc, shared, workers, are_made, &mut out);
     shared.end(rt, exit);
     lobby.end(rt);
     closer.close();
-    exit
+    Service { out, exit }
+}
+
+/// Serves if the threads that takeovers need were made, and returns how the daemon ends.
+fn serve_if<R: Threads + Wait + Clock + Sync, W: Write>(
+    rt: &R,
+    alloc: Global,
+    shared: &Shared,
+    workers: &[UnixStream],
+    are_made: bool,
+    out: &mut W,
+) -> Exit
+    ensures prints { PrintsUntil (W.contents out.old) (W.contents out.new) result }
+{
+    if !are_made {
+        return Exit::Faulty(DaemonFault::NoThread);
+    }
+    serve(rt, alloc, shared, workers, out)
 }

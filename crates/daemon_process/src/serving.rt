@@ -1,6 +1,7 @@
 //! A daemon while it serves.
 ghost use Rattle.std.specs.Prelude.{◌≡◌, ◌==◌, not, IfOk, OnOk, OnErr};
 ghost use Rattle.std.specs.Io.KnownBytes.{Appends};
+ghost use Rattle.daemon_process.specs.Ending.{PrintsUntil};
 ghost use Rattle.daemon_process.specs.Serving.{PrintsRound, printed_of, serving_line};
 
 use crate::arrival::{Worker, channels};
@@ -38,7 +39,9 @@ pub(crate) fn serve<R: Threads + Wait + Clock + Sync, W: Write>(
     shared: &Shared,
     workers: &[UnixStream],
     out: &mut W,
-) -> Exit {
+) -> Exit
+    ensures prints { PrintsUntil (W.contents out.old) (W.contents out.new) result }
+{
     let mut crew = Crew {
         generation: 0,
         channels: Vec::new(alloc),

@@ -1,8 +1,9 @@
 //! What the threads of a daemon share.
-ghost use Rattle.std.specs.Prelude.{◌≡◌};
+ghost use Rattle.std.specs.Prelude.{◌≡◌, ◌⊎◌, None};
 ghost use Rattle.std.specs.Option.{IfSome};
 ghost use Rattle.takeover_core.specs.declared.phase.Phase.TheVariants.{Serving};
-ghost use Rattle.daemon_process.specs.Serving.{ComesNext, served_next};
+ghost use Rattle.daemon_desk.specs.Desk.{Hears};
+ghost use Rattle.daemon_process.specs.Serving.{ComesNext, IsServing, served_next};
 
 use crate::exit::Exit;
 use daemon::Lease;
@@ -84,7 +85,11 @@ impl State {
     }
 
     /// Hears a frame of another daemon. If the daemon then is not serving any more, asks the round to stop.
-    fn hear(&mut self, frame: &Frame) -> Hearing {
+    fn hear(&mut self, frame: &Frame) -> Hearing
+        ensures hears { Hears self.old.desk frame.now result self.new.desk }
+        ensures exit { self.new.exit ≡ self.old.exit }
+        ensures stops { IsServing self.new.desk.daemon.node.phase ⊎ (self.new.stop ≡ None) }
+    {
         let heard = self.desk.hear(frame);
         if !matches!(self.desk.phase(), Phase::Serving { .. }) {
             if let Some(stop) = self.stop.take() {

@@ -130,7 +130,7 @@ by_numbers left right xs ys f g b d n m order was one other n_is m_is is =
     let low : n ≡ from_be_bytes w64 (take 8 xs) = n_is ∙ ap (λ (l : List ℕ). from_be_bytes w64 l) one.front_is in
     let high : m ≡ from_be_bytes w64 (take 8 ys) = m_is ∙ ap (λ (l : List ℕ). from_be_bytes w64 l) other.front_is in
     let by : order ≡ nat_cmp (from_be_bytes w64 (take 8 xs)) (from_be_bytes w64 (take 8 ys)) =
-        is ∙ ap (λ (k : ℕ). nat_cmp k m) low ∙ ap (λ (k : ℕ). nat_cmp (from_be_bytes w64 (take 8 xs)) k) high in
+    is ∙ ap (λ (k : ℕ). nat_cmp k m) low ∙ ap (λ (k : ℕ). nat_cmp (from_be_bytes w64 (take 8 xs)) k) high in
     ap (λ (l : List ℕ). ordering_then order (slice_cmp nat_cmp l d)) one.behind_is
     ∙ ap (λ (l : List ℕ). ordering_then order (slice_cmp nat_cmp (drop 8 xs) l)) other.behind_is
     ∙ by_order left right xs ys order was (omega (arith, one.len)) (omega (arith, other.len)) by
@@ -154,7 +154,8 @@ goes-there Greater rest all same is = cc
 -- they are the same
 pub goes_on : (left right xs ys f g b d : List ℕ) (n m : ℕ) (order : Ordering) → IsLeft left right xs ys → IsParted xs f b → IsParted ys g d →
     n ≡ from_be_bytes w64 f → m ≡ from_be_bytes w64 g → order ≡ nat_cmp n m → not (ordering_index order == 1) ≡ false → IsLeft left right b d
-goes_on left right xs ys f g b d n m order was one other n_is m_is is same =
-    (goes-there order (slice_cmp nat_cmp b d) (slice_cmp nat_cmp left right) same (by_numbers left right xs ys f g b d n m order was one other n_is m_is is),
-    subst AreDigits (sym one.behind_is) (digits-drop 8 xs was.1),
-    subst AreDigits (sym other.behind_is) (digits-drop 8 ys was.2))
+goes_on left right xs ys f g b d n m order was one other n_is m_is is same = (
+  goes-there order (slice_cmp nat_cmp b d) (slice_cmp nat_cmp left right) same (by_numbers left right xs ys f g b d n m order was one other n_is m_is is),
+  subst AreDigits (sym one.behind_is) (digits-drop 8 xs was.1),
+  subst AreDigits (sym other.behind_is) (digits-drop 8 ys was.2),
+)

@@ -1,7 +1,7 @@
 -- Lemmas on errands that were noted, and are run over sockets.
-use Rattle.std.proofs.Common.{◌≡◌, ◌⊎◌, ℕ, Bool, true, false, List, Option, Some, None, Result, Ok, Err, refl, ap, subst, sym, ◌∙◌, inl, inr, string_bytes}
-use Rattle.std.specs.Prelude.{IfErr}
+use Rattle.std.proofs.Common.{◌≡◌, ◌⊎◌, ℕ, Bool, true, false, List, [], Option, Some, None, Result, Ok, Err, refl, ap, subst, sym, ◌∙◌, inl, inr}
 use Rattle.std.specs.Io.KnownBytes.{Keeps}
+use Rattle.std.proofs.KnownBytes.{Appends-kept, Appends-nil}
 use Rattle.std.specs.declared.io.Error.{Error as IoError}
 use Rattle.command_line.specs.Asked.{IsErrand}
 use Rattle.command_line.specs.declared.errand.BrokerWords.{BrokerWords}
@@ -13,14 +13,14 @@ use Rattle.world_script.specs.ProgramEnd.{EndsAfter, EndsBy, Had, RunsErrand, Te
 use Rattle.world_script.specs.Refusal.{IsManifestFault, IsReadRefusal}
 use Rattle.world_script.specs.declared.failure.Failure.{Failure}
 use Rattle.world_script.specs.declared.fault.Fault.{Fault}
-use Rattle.world_script.specs.declared.fault.Fault.TheVariants.{BadManifest, CannotListen, CannotRead, NoBroker, NoDaemon, NoMemory, TooLong}
+use Rattle.world_script.specs.declared.fault.Fault.TheVariants.{BadManifest, CannotRead, NoMemory, TooLong}
 use Rattle.world_script.specs.declared.program_end.ProgramEnd.{ProgramEnd}
 use Rattle.world_script.proofs.ProcessLemmas.{ends_with, ends_with-map}
-use Rattle.edend.specs.Errands.{Names, RunsOver, name_at, over_sockets}
+use Rattle.edend.proofs.NotedErrands.{runs_to-noted}
+use Rattle.edend.specs.Errands.{Names, PrintsFirst, RunsOver, RunsTo, name_at, over_sockets}
 use Rattle.edend.specs.Note.{IsNoted, Notes}
 use Rattle.edend.specs.declared.note.Note.{Note}
 use Rattle.edend.specs.declared.note.Noted.{Noted}
-use Rattle.edend.specs.declared.note.Noted.TheVariants.{Broker, Daemon}
 
 -- a file that can't be read gives the fault its name
 read_by_broker : (words : BrokerWords) (fault : Fault) → IsReadRefusal fault → name_by words.script.now fault ≡ name_at (errand.Broker words) fault
@@ -56,76 +56,69 @@ names-no_memory : (e : Errand) → Names e (plain NoMemory)
 names-no_memory (errand.Broker words) = refl
 names-no_memory (errand.Daemon words) = refl
 
--- two errands with the same words name the same for a fault
-same_of_broker : (a b : BrokerWords) (fault : Fault) → a.socket.now ≡ b.socket.now → a.script.now ≡ b.script.now → name_at (errand.Broker a) fault ≡ name_at (errand.Broker b) fault
-same_of_broker a b CannotListen socket script = ap (λ (p : List ℕ). Some p) socket
-same_of_broker a b fault socket script = ap (λ (p : List ℕ). name_by p fault) script
-
-same_of_daemon : (a b : DaemonWords) (fault : Fault) → a.broker.now ≡ b.broker.now → a.takeover.now ≡ b.takeover.now → a.manifest.now ≡ b.manifest.now → name_at (errand.Daemon a) fault ≡ name_at (errand.Daemon b) fault
-same_of_daemon a b CannotListen broker takeover manifest = ap (λ (p : List ℕ). Some p) takeover
-same_of_daemon a b NoBroker broker takeover manifest = ap (λ (p : List ℕ). Some p) broker
-same_of_daemon a b NoDaemon broker takeover manifest = ap (λ (p : List ℕ). Some p) takeover
-same_of_daemon a b fault broker takeover manifest = ap (λ (p : List ℕ). name_by p fault) manifest
-
-same_names : (noted : Noted) (a b : Errand) (fault : Fault) → IsNoted noted a → IsNoted noted b → name_at a fault ≡ name_at b fault
-same_names (Broker noted) (errand.Broker a) (errand.Broker b) fault of_a of_b =
-    same_of_broker a b fault (sym of_a.0 ∙ of_b.0) (sym of_a.1 ∙ of_b.1)
-same_names (Daemon noted) (errand.Daemon a) (errand.Daemon b) fault of_a of_b =
-    same_of_daemon a b fault (sym of_a.1 ∙ of_b.1) (sym of_a.2 ∙ of_b.2) (sym of_a.3 ∙ of_b.3)
-same_names (Broker noted) (errand.Daemon a) b fault of_a of_b = absurd of_a
-same_names (Broker noted) (errand.Broker a) (errand.Daemon b) fault of_a of_b = absurd of_b
-same_names (Daemon noted) (errand.Broker a) b fault of_a of_b = absurd of_a
-same_names (Daemon noted) (errand.Daemon a) (errand.Broker b) fault of_a of_b = absurd of_b
-
-names-noted : (noted : Noted) (a b : Errand) (ran : Result (Unit {0}) Failure) → IsNoted noted a → IsNoted noted b →
-    IfErr ran (λ failure. Names a failure) → IfErr ran (λ failure. Names b failure)
-names-noted noted a b (Ok done) of_a of_b names = tt
-names-noted noted a b (Err failure) of_a of_b names = names ∙ same_names noted a b failure.fault of_a of_b
-
 -- an errand that was noted so was run, and the process ended after it
-pub runs_over : (noted : Noted) (a b : Errand) (ran : Result (Unit {0}) Failure) (output begun ended output_after errors opened errors_after : Option (List ℕ)) (status : ℕ) (said : Result (Unit {0}) IoError) →
-    IsNoted noted a → IsNoted noted b → IfErr ran (λ failure. Names a failure) → Keeps output begun → Keeps errors opened →
-    EndsWith (EndsAfter ran ended output_after) opened errors_after status said → RunsOver b output output_after errors errors_after status said
-runs_over noted a b ran output begun ended output_after errors opened errors_after status said of_a of_b names first kept ends =
-    ends_with {W = Option (List ℕ)} (λ w. w) (λ w ending. RunsErrand b over_sockets output output_after ending ⊎ Tells (plain NoMemory) output output_after ending)
+pub runs_over : (noted : Noted) (a b : Errand) (input : Option (List ℕ)) (file : List ℕ → Option (List ℕ)) (ran : Result (Unit {0}) Failure) (output begun ended output_after errors opened errors_after : Option (List ℕ)) (status : ℕ) (said : Result (Unit {0}) IoError) →
+    IsNoted noted a → IsNoted noted b → RunsTo input file a ran begun ended → Keeps output begun → Keeps errors opened →
+    EndsWith (EndsAfter ran ended output_after) opened errors_after status said → RunsOver input file b output output_after errors errors_after status said
+runs_over noted a b input file ran output begun ended output_after errors opened errors_after status said of_a of_b runs first kept ends =
+    ends_with {W = Option (List ℕ)} (λ w. w) (λ w ending. RunsErrand b (over_sockets input file) output output_after ending ⊎ Tells (plain NoMemory) output output_after ending)
     None None ends.ending errors opened errors_after status said
-    (inl (record { result = ran; begun = begun; ended = ended; first = first; ran = names-noted noted a b ran of_a of_b names; ends = ends.is }))
+    (inl (record { result = ran; begun = begun; ended = ended; first = first; ran = runs_to-noted noted a b input file ran begun ended of_a of_b runs; ends = ends.is }))
     refl kept ends.status_is ends.says
 
-notes-less : (old new : Note) (e : Errand) (ran : Result (Unit {0}) Failure) (before after : Option (List ℕ)) → Notes old new e ran before after → IfErr ran (λ failure. Names e failure)
-notes-less old new e (Ok done) before after notes = tt
-notes-less old new e (Err failure) before after notes = subst (λ (f : Failure). Names e f) (sym notes.0) (names-no_memory e)
+-- nothing was printed
+prints-nothing : (e : Errand) (before after : Option (List ℕ)) → Keeps before after → PrintsFirst e before after
+prints-nothing (errand.Broker words) before after kept = Appends-kept before before after [] (Appends-nil before) kept
+prints-nothing (errand.Daemon words) before after kept = ([], Appends-kept before before after [] (Appends-nil before) kept)
 
-runs_errand-less : (old new : Note) (e : Errand) (before after : Option (List ℕ)) (ending : ProgramEnd) →
-    RunsErrand e (known_of Notes old new) before after ending → RunsErrand e over_sockets before after ending
-runs_errand-less old new e before after ending runs = record {
+-- a failure before anything was printed
+first-none : (e : Errand) (known : Option (List ℕ)) → PrintsFirst e known known
+first-none (errand.Broker words) known = Appends-nil known
+first-none (errand.Daemon words) known = ([], Appends-nil known)
+
+pub fails-to : (input : Option (List ℕ)) (file : List ℕ → Option (List ℕ)) (e : Errand) (failure : Failure) (ended : Result (Unit {0}) Failure) (old new : Option (List ℕ)) →
+    ended ≡ Err failure → new ≡ old → Names e failure → RunsTo input file e ended old new
+fails-to input file e failure ended old new is same names =
+    subst (λ (r : Result (Unit {0}) Failure). RunsTo input file e r old new) (sym is)
+    (names, inr (subst (λ (n : Option (List ℕ)). PrintsFirst e old n) (sym same) (first-none e old)))
+
+notes-less : (input : Option (List ℕ)) (file : List ℕ → Option (List ℕ)) (old new : Note) (e : Errand) (ran : Result (Unit {0}) Failure) (before after : Option (List ℕ)) →
+    new.errand ≡ None → Notes old new e ran before after → RunsTo input file e ran before after
+notes-less input file old new e (Ok done) before after none (noted, kept) =
+    let bad : Some noted.0 ≡ None = sym noted.1 ∙ none in cc
+notes-less input file old new e (Err failure) before after none (is, same, kept) =
+    (subst (λ (f : Failure). Names e f) (sym is) (names-no_memory e), inr (prints-nothing e before after kept))
+
+runs_errand-less : (input : Option (List ℕ)) (file : List ℕ → Option (List ℕ)) (old new : Note) (e : Errand) (before after : Option (List ℕ)) (ending : ProgramEnd) →
+    new.errand ≡ None → RunsErrand e (known_of Notes old new) before after ending → RunsErrand e (over_sockets input file) before after ending
+runs_errand-less input file old new e before after ending none runs = record {
   result = runs.result;
   begun = runs.begun;
   ended = runs.ended;
   first = runs.first;
-  ran = notes-less old new e runs.result runs.begun runs.ended runs.ran;
+  ran = notes-less input file old new e runs.result runs.begun runs.ended none runs.ran;
   ends = runs.ends;
 }
 
 ends_by-less : (old new : Note) (had : Had) (input : Option (List ℕ)) (file : List ℕ → Option (List ℕ)) (before after : Option (List ℕ)) (ending : ProgramEnd) →
-    EndsBy had input file (known_of Notes old new) before after ending → EndsBy had input file over_sockets before after ending
-ends_by-less old new had input file before after ending ends = record {
+    new.errand ≡ None → EndsBy had input file (known_of Notes old new) before after ending → EndsBy had input file (over_sockets input file) before after ending
+ends_by-less old new had input file before after ending none ends = record {
   script = ends.script;
   idle = λ none. tt;
   errand = λ asks. elim (ends.errand asks) [
-    | inl named ↦ inl (record { errand = named.errand; named = named.named; runs = runs_errand-less old new named.errand before after ending named.runs })
+    | inl named ↦ inl (record { errand = named.errand; named = named.named; runs = runs_errand-less input file old new named.errand before after ending none named.runs })
     | inr told ↦ inr (told.0, tt)
   ];
 }
 
 -- nothing was noted: what is known of notes is known of errands over sockets
 pub runs_in-less : (old new : Note) (words : Option (List (List ℕ))) (input : Option (List ℕ)) (file : List ℕ → Option (List ℕ)) (output output_after errors errors_after : Option (List ℕ)) (status : ℕ) (said : Result (Unit {0}) IoError) →
-    RunsIn words input file (known_of Notes old new) output output_after errors errors_after status said →
-    RunsIn words input file over_sockets output output_after errors errors_after status said
-runs_in-less old new words input file output output_after errors errors_after status said runs = record {
+    new.errand ≡ None → RunsIn words input file (known_of Notes old new) output output_after errors errors_after status said →
+    RunsIn words input file (over_sockets input file) output output_after errors errors_after status said
+runs_in-less old new words input file output output_after errors errors_after status said none runs = record {
   had = runs.had;
   are = runs.are;
-  ends = ends_with-map (λ ending by. ends_by-less old new runs.had input file output output_after ending by) runs.ends;
+  ends = ends_with-map (λ ending by. ends_by-less old new runs.had input file output output_after ending none by) runs.ends;
 }
 
 -- what was noted was named
@@ -152,8 +145,8 @@ noted_by had input file old new noted before after ending true is none some ends
 ]
 
 ends_by-over : (had : Had) (input : Option (List ℕ)) (file : List ℕ → Option (List ℕ)) (before after : Option (List ℕ)) (ending : ProgramEnd) (e : Errand) →
-    asks_errand had ≡ true → IsErrand (command_had had) e → RunsErrand e over_sockets before after ending ⊎ Tells (plain NoMemory) before after ending →
-    EndsBy had input file over_sockets before after ending
+    asks_errand had ≡ true → IsErrand (command_had had) e → RunsErrand e (over_sockets input file) before after ending ⊎ Tells (plain NoMemory) before after ending →
+    EndsBy had input file (over_sockets input file) before after ending
 ends_by-over had input file before after ending e asked named either = record {
   script = λ none. let bad : true ≡ false = sym asked ∙ none in cc;
   idle = λ none. tt;
@@ -169,8 +162,8 @@ pub runs_in-noted : (old new : Note) (noted : Noted) (words : Option (List (List
     (output_after errors_after : Option (List ℕ)) (status : ℕ) (said : Result (Unit {0}) IoError) →
     RunsIn words input file (known_of Notes old new) output first_output errors first_errors first_status first_said →
     old.errand ≡ None → new.errand ≡ Some noted →
-    ((e : Errand) → IsNoted noted e → RunsOver e output output_after errors errors_after status said) →
-    RunsIn words input file over_sockets output output_after errors errors_after status said
+    ((e : Errand) → IsNoted noted e → RunsOver input file e output output_after errors errors_after status said) →
+    RunsIn words input file (over_sockets input file) output output_after errors errors_after status said
 runs_in-noted old new noted words input file output first_output errors first_errors first_status first_said output_after errors_after status said runs none some over =
     let by = noted_by runs.had input file old new noted output first_output runs.ends.ending (asks_errand runs.had) refl none some runs.ends.is in
     record {

@@ -1,1 +1,2 @@
 pub mod ErrandLemmas
+mod NotedErrands

@@ -1,13 +1,20 @@
 -- How an errand over sockets ends. (This project's own.)
-use Rattle.std.specs.Prelude.{ℕ, List, Option, Some, Result, IfErr, ◌≡◌, ◌⊎◌, ⊤}
+use Rattle.std.specs.Prelude.{ℕ, List, [], Option, Some, Result, Ok, Err, ◌≡◌, ◌⊎◌, ⊤}
+use Rattle.std.specs.Io.KnownBytes.{Appends}
+use Rattle.std.specs.Option.{IfSome}
 use Rattle.std.specs.declared.io.Error.{Error as IoError}
 use Rattle.command_line.specs.declared.errand.Errand.{Errand}
 use Rattle.command_line.specs.declared.errand.Errand.TheVariants.{Broker, Daemon}
+use Rattle.broker_process.specs.Playing.{PlaysScript}
+use Rattle.broker_script.specs.Reading.{Says}
+use Rattle.script_lines.specs.declared.broker_line.BrokerLine.{BrokerLine}
+use Rattle.daemon_process.specs.Ending.{PrintsServing, RunsDaemon}
 use Rattle.world_script.specs.Process.{EndsWith}
+use Rattle.world_script.specs.Source.{script_at}
 use Rattle.world_script.specs.ProgramEnd.{ErrandsKnown, RunsErrand, Tells, name_by, name_of, plain}
 use Rattle.world_script.specs.declared.failure.Failure.{Failure}
 use Rattle.world_script.specs.declared.fault.Fault.{Fault}
-use Rattle.world_script.specs.declared.fault.Fault.TheVariants.{CannotListen, NoBroker, NoDaemon, NoMemory}
+use Rattle.world_script.specs.declared.fault.Fault.TheVariants.{CannotListen, CannotWrite, NoBroker, NoDaemon, NoMemory}
 
 -- the socket, file or stream whose error caused an errand's fault, if an error did
 abbrev pub name_at : Errand → Fault → Option (List ℕ)
@@ -22,16 +29,44 @@ name_at (Daemon words) fault = name_by words.manifest.now fault
 abbrev pub Names : Errand → Failure → Type 0
 Names errand failure = name_of failure ≡ name_at errand failure.fault
 
--- what is known of errands over sockets
-abbrev pub over_sockets : ErrandsKnown
-over_sockets = record { ends = λ errand ran before after. IfErr ran (λ failure. Names errand failure); idle = ⊤ }
+-- a script was read at the broker's path, and was played whole
+pub record PlaysRead (known : Option (List ℕ)) (before after : Option (List ℕ)) : Type 0 where
+  pub text : List ℕ
+  pub read : IfSome known (λ all. text ≡ all)
+  pub script : List BrokerLine
+  pub says : Says text script
+  pub plays : PlaysScript script before after
+
+-- an errand ran well, over what is known of standard input and of the files
+abbrev pub RunsWell :
+    Option (List ℕ) → (List ℕ → Option (List ℕ)) → Errand → Option (List ℕ) → Option (List ℕ) → Type 0
+RunsWell input file (Broker words) before after = PlaysRead (script_at input file words.script.now) before after
+RunsWell input file (Daemon words) before after = RunsDaemon (Ok tt) before after
+
+-- what was printed before an errand failed, where each line could be
+abbrev pub PrintsFirst : Errand → Option (List ℕ) → Option (List ℕ) → Type 0
+PrintsFirst (Broker words) before after = Appends before after []
+PrintsFirst (Daemon words) before after = PrintsServing before after
+
+-- an errand ran well, or it failed, which names the cause
+abbrev pub RunsTo :
+    Option (List ℕ) → (List ℕ → Option (List ℕ)) → Errand → Result (Unit {0}) Failure →
+    Option (List ℕ) → Option (List ℕ) → Type 0
+RunsTo input file errand (Ok done) before after = RunsWell input file errand before after
+RunsTo input file errand (Err failure) before after =
+    Names errand failure × ((failure.fault ≡ CannotWrite) ⊎ PrintsFirst errand before after)
+
+-- what is known of errands over sockets, by what is known of standard input and of the files
+abbrev pub over_sockets : Option (List ℕ) → (List ℕ → Option (List ℕ)) → ErrandsKnown
+over_sockets input file = record { ends = RunsTo input file; idle = ⊤ }
 
 -- the process ended after this errand over sockets, or there was no memory to gather what it prints
 abbrev pub RunsOver :
-    Errand → Option (List ℕ) → Option (List ℕ) → Option (List ℕ) → Option (List ℕ) →
+    Option (List ℕ) → (List ℕ → Option (List ℕ)) → Errand →
+    Option (List ℕ) → Option (List ℕ) → Option (List ℕ) → Option (List ℕ) →
     ℕ → Result (Unit {0}) IoError → Type 0
-RunsOver errand output output_after errors errors_after status said =
+RunsOver input file errand output output_after errors errors_after status said =
     EndsWith
-    (λ ending. RunsErrand errand over_sockets output output_after ending
+    (λ ending. RunsErrand errand (over_sockets input file) output output_after ending
     ⊎ Tells (plain NoMemory) output output_after ending)
     errors errors_after status said

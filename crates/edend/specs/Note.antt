@@ -1,12 +1,11 @@
 -- An errand that was noted, with owned strings. (This project's own.)
-use Rattle.std.specs.Prelude.{◌≡◌, ℕ, List, Option, Some, Result, Ok, Err, string_bytes}
+use Rattle.std.specs.Prelude.{◌≡◌, Some, Ok, Err, string_bytes}
 use Rattle.std.specs.Io.KnownBytes.{Keeps}
 use Rattle.command_line.specs.declared.errand.BrokerWords.{BrokerWords}
 use Rattle.command_line.specs.declared.errand.DaemonWords.{DaemonWords}
 use Rattle.command_line.specs.declared.errand.Errand.{Errand}
 use Rattle.command_line.specs.declared.errand.Errand.TheVariants as errand
 use Rattle.world_script.specs.ProgramEnd.{ErrandEnds, plain}
-use Rattle.world_script.specs.declared.failure.Failure.{Failure}
 use Rattle.world_script.specs.declared.fault.Fault.TheVariants.{NoMemory}
 use Rattle.edend.specs.declared.note.Note.{Note}
 use Rattle.edend.specs.declared.note.Noted.{Noted}

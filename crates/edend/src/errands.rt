@@ -1,9 +1,13 @@
 //! The program in a process, and the errands that it runs over sockets.
-ghost use Rattle.std.specs.Prelude.{◌≡◌, IfErr, Some};
+ghost use Rattle.std.specs.Prelude.{◌≡◌, ◌⊎◌, ℕ, List, Option, Some, Err};
+ghost use Rattle.broker_process.specs.Playing.{RunsBroker};
 ghost use Rattle.command_line.specs.declared.errand.Errand.TheVariants.{Broker as BrokerErrand, Daemon as DaemonErrand};
 ghost use Rattle.world_script.specs.Process.{RunsIn};
 ghost use Rattle.world_script.specs.ProgramEnd.{name_of};
-ghost use Rattle.edend.specs.Errands.{Names, RunsOver, over_sockets};
+ghost use Rattle.daemon_process.specs.Ending.{RunsDaemon};
+ghost use Rattle.script_lines.specs.declared.broker_line.BrokerLine.{BrokerLine};
+ghost use Rattle.world_script.specs.declared.fault.Fault.TheVariants.{CannotWrite};
+ghost use Rattle.edend.specs.Errands.{Names, PrintsFirst, RunsOver, RunsTo, over_sockets};
 ghost use Rattle.edend.specs.Note.{IsNoted};
 
 use crate::note::{Note, Noted};
@@ -29,7 +33,8 @@ pub fn run_edend<R: Threads + Wait + Clock + Files + Net + Sync, P: Process>(
     process: &P,
 ) -> RunIn<P::Output, P::Errors>
     ensures runs { RunsIn (P.known_words process.now)
-        (P.input_bytes process.now) (P.file_bytes process.now) over_sockets
+        (P.input_bytes process.now) (P.file_bytes process.now)
+        (over_sockets (P.input_bytes process.now) (P.file_bytes process.now))
         (P.output_bytes process.now) (P.Output.contents result.output)
         (P.errors_bytes process.now) (P.Errors.contents result.errors)
         result.status result.said }
@@ -49,33 +54,53 @@ fn run_noted<R: Threads + Wait + Clock + Files + Net + Sync, P: Process>(
     process: &P,
     noted: &Noted,
 ) -> RunIn<P::Output, P::Errors>
-    ensures { (errand : _) → IsNoted noted.now errand → RunsOver errand
+    ensures { (errand : _) → IsNoted noted.now errand → RunsOver
+        (P.input_bytes process.now) (P.file_bytes process.now) errand
         (P.output_bytes process.now) (P.Output.contents result.output)
         (P.errors_bytes process.now) (P.Errors.contents result.errors)
         result.status result.said }
 {
-    let mut lines = match gather_lines(alloc, process) {
+    let lines = match gather_lines(alloc, process) {
         Ok(lines) => lines,
         Err(ended) => return ended,
     };
     let errand = noted.errand();
-    let ran = run(host, alloc, process, &errand, &mut lines);
-    end_errand(ran, lines, process.errors())
+    let ErrandRun { out, ended } = run(host, alloc, process, &errand, lines);
+    end_errand(ended, out, process.errors())
+}
+
+/// How an errand over sockets ran, with the writer of its lines.
+#[derive(Drop)]
+struct ErrandRun<'a, W> {
+    out: W,
+    ended: Result<(), Failure<'a>>,
 }
 
 /// Runs an errand over sockets.
-fn run<'a, R: Threads + Wait + Clock + Files + Net + Sync, S: Sources, W: Write>(
+fn run<'a, R: Threads + Wait + Clock + Files + Net + Sync, S: Sources, W: Write + Drop>(
     host: &R,
     alloc: Global,
     sources: &S,
     errand: &Errand<'a>,
-    out: &mut W,
-) -> Result<(), Failure<'a>>
-    ensures { IfErr result (λ failure. Names errand.now failure) }
+    out: W,
+) -> ErrandRun<'a, W>
+    ensures { RunsTo (S.input_bytes sources.now) (S.file_bytes sources.now) errand.now result.ended
+        (W.contents out) (W.contents result.out) }
 {
     match errand {
         Errand::Broker(words) => broker(host, alloc, sources, words, out),
         Errand::Daemon(words) => daemon(host, alloc, sources, words, out),
+    }
+}
+
+/// Returns the run of an errand that printed nothing and failed by `failure`.
+fn fails<'a, W: Write + Drop>(out: W, failure: Failure<'a>) -> ErrandRun<'a, W>
+    ensures ended { result.ended ≡ Err failure.entry }
+    ensures same { W.contents result.out ≡ W.contents out }
+{
+    ErrandRun {
+        out,
+        ended: Err(failure),
     }
 }
 
@@ -91,26 +116,34 @@ fn caused<'a>(fault: Fault, name: &'a str, error: io::Error) -> Failure<'a>
 }
 
 /// Reads a broker's script, and plays the kernel by it.
-fn broker<'a, R: Threads + Wait + Clock + Files + Net + Sync, S: Sources, W: Write>(
+fn broker<'a, R: Threads + Wait + Clock + Files + Net + Sync, S: Sources, W: Write + Drop>(
     host: &R,
     alloc: Global,
     sources: &S,
     words: &BrokerWords<'a>,
-    out: &mut W,
-) -> Result<(), Failure<'a>>
-    ensures { IfErr result (λ failure. Names (BrokerErrand words.now) failure) }
+    out: W,
+) -> ErrandRun<'a, W>
+    ensures { RunsTo (S.input_bytes sources.now) (S.file_bytes sources.now)
+        (BrokerErrand words.now) result.ended (W.contents out) (W.contents result.out) }
 {
     let text = match read_path(alloc, sources, words.script) {
         Ok(text) => text,
-        Err(error) => return Err(Failure::of_run(&error, words.script)),
+        Err(error) => return fails(out, Failure::of_run(&error, words.script)),
     };
     let script = match read_broker_script(alloc, text.as_slice()) {
         Ok(script) => script,
-        Err(fault) => return Err(failure_of_script(fault, words)),
+        Err(fault) => return fails(out, failure_of_script(fault, words)),
     };
-    match run_broker(host, alloc, words.socket, script.as_slice(), out) {
-        Ok(()) => Ok(()),
-        Err(fault) => Err(failure_of_broker(fault, words)),
+    let run = run_broker(host, alloc, words.socket, script.as_slice(), out);
+    match run.ended {
+        Ok(()) => ErrandRun {
+            out: run.out,
+            ended: Ok(()),
+        },
+        Err(fault) => ErrandRun {
+            out: run.out,
+            ended: Err(failure_of_broker(fault, words)),
+        },
     }
 }
 
@@ -126,7 +159,10 @@ fn failure_of_script<'a>(fault: BrokerScriptFault, _words: &BrokerWords<'a>) -> 
 
 /// Returns the failure of a broker that these words ask for.
 fn failure_of_broker<'a>(fault: BrokerFault, words: &BrokerWords<'a>) -> Failure<'a>
-    ensures { Names (BrokerErrand words.now) result }
+    ensures names { Names (BrokerErrand words.now) result }
+    ensures first { (script : List BrokerLine) (old new : Option (List ℕ))
+        → RunsBroker script (Err fault) old new
+        → (result.fault ≡ CannotWrite) ⊎ PrintsFirst (BrokerErrand words.now) old new }
 {
     match fault {
         BrokerFault::CannotListen(error) => caused(Fault::CannotListen, words.socket, error),
@@ -137,27 +173,35 @@ fn failure_of_broker<'a>(fault: BrokerFault, words: &BrokerWords<'a>) -> Failure
 }
 
 /// Reads a manifest, and runs a daemon over its checkout.
-fn daemon<'a, R: Threads + Wait + Clock + Files + Net + Sync, S: Sources, W: Write>(
+fn daemon<'a, R: Threads + Wait + Clock + Files + Net + Sync, S: Sources, W: Write + Drop>(
     host: &R,
     alloc: Global,
     sources: &S,
     words: &DaemonWords<'a>,
-    out: &mut W,
-) -> Result<(), Failure<'a>>
-    ensures { IfErr result (λ failure. Names (DaemonErrand words.now) failure) }
+    out: W,
+) -> ErrandRun<'a, W>
+    ensures { RunsTo (S.input_bytes sources.now) (S.file_bytes sources.now)
+        (DaemonErrand words.now) result.ended (W.contents out) (W.contents result.out) }
 {
     let text = match read_path(alloc, sources, words.manifest) {
         Ok(text) => text,
-        Err(error) => return Err(Failure::of_run(&error, words.manifest)),
+        Err(error) => return fails(out, Failure::of_run(&error, words.manifest)),
     };
     let manifest = match read_manifest(alloc, text.as_slice()) {
         Ok(manifest) => manifest,
-        Err(fault) => return Err(Failure::plain(fault)),
+        Err(fault) => return fails(out, Failure::plain(fault)),
     };
     drop(text);
-    match run_daemon(host, alloc, &orders_of(words), manifest, out) {
-        Ok(()) => Ok(()),
-        Err(fault) => Err(failure_of_daemon(fault, words)),
+    let run = run_daemon(host, alloc, &orders_of(words), manifest, out);
+    match run.ended {
+        Ok(()) => ErrandRun {
+            out: run.out,
+            ended: Ok(()),
+        },
+        Err(fault) => ErrandRun {
+            out: run.out,
+            ended: Err(failure_of_daemon(fault, words)),
+        },
     }
 }
 
@@ -188,7 +232,9 @@ fn start_of(start: world_script::Start) -> Start {
 
 /// Returns the failure of a daemon that these words ask for.
 fn failure_of_daemon<'a>(fault: DaemonFault, words: &DaemonWords<'a>) -> Failure<'a>
-    ensures { Names (DaemonErrand words.now) result }
+    ensures names { Names (DaemonErrand words.now) result }
+    ensures first { (old new : Option (List ℕ)) → RunsDaemon (Err fault) old new
+        → (result.fault ≡ CannotWrite) ⊎ PrintsFirst (DaemonErrand words.now) old new }
 {
     match fault {
         DaemonFault::NoBroker(error) => caused(Fault::NoBroker, words.broker, error),

@@ -30,8 +30,7 @@ pub enum Forgot {
     Lowered,
     /// The number was struck, and so was each directory above it that then had count 0 and no child.
     Dropped,
-    /// The number is unknown, `k` is 0, or the count is below `k`. The forget is counted in `bad_items`, and nothing
-    /// else changes.
+    /// The number is unknown, `k` is 0, or the count is below `k`. `bad_items` rises, and nothing else changes.
     Bad,
     /// The number is the root, which is held always. Nothing changes.
     Root,
@@ -165,8 +164,7 @@ impl InodeMap {
         Some(&self.table.get(number)?.place)
     }
 
-    /// Returns the least number above `number` that has an entry, if there is one. Calls that each go on from the last
-    /// result find every such number once.
+    /// Returns the least number above `number` that has an entry, if there is one.
     pub fn after(&self, number: Number) -> Option<Number>
         ensures after { result ≡ number_after self.now.entries number.0 }
         ensures numbers { AreNumbers 2 self.now.next self.now.entries }
@@ -190,8 +188,7 @@ impl InodeMap {
         self.table.find(parent, name)
     }
 
-    /// Returns the file that `number` names in `tree`, if any. It is found by the names above `number`. Takes no
-    /// memory.
+    /// Returns the file that `number` names in `tree`, if any, by the names above `number`. Takes no memory.
     pub fn locate(&mut self, tree: &Tree, number: Number) -> Option<FileId>
         ensures found { MatchOption result
             ((file : FileId) → IsFileOf tree.now self.old.entries number.0 file → ⊥)
@@ -268,8 +265,7 @@ impl InodeMap {
         Ok(self.table.add(parent, name))
     }
 
-    /// Gives out the number that a name in a directory has, as `give` does. Takes no memory. A forget of that number
-    /// with `k` 1 undoes this.
+    /// Gives out the number that a name has, as `give` does. A forget with `k` 1 undoes this. Takes no memory.
     pub fn give_again(
         &mut self,
         parent: Number,
@@ -333,9 +329,8 @@ impl InodeMap {
         Forgot::Dropped
     }
 
-    /// Takes the name of `number` away: from then on a mark says that the number names `file`. If the entry of its
-    /// directory is then of no use (count 0 and no child), it is removed, and so is each entry above it that is then of
-    /// no use.
+    /// Takes the name of `number` away: from then on a mark says that the number names `file`. Removes the entry of its
+    /// directory if that then has count 0 and no child, and then each such entry above it.
     pub fn unlink(&mut self, number: Number, file: FileId)
         requires linked { IsLinked self.old.entries number.0 }
         requires no_kids { list_any (is_kid_of number.0) self.old.entries ≡ false }
@@ -410,8 +405,7 @@ fn is_useless(table: &Table, number: Number) -> bool
     }
 }
 
-/// Removes the entry of `number` if it is of no use (count 0 and no child), and each entry above it that is then of no
-/// use.
+/// Removes the entry of `number` if it has count 0 and no child, and then each such entry above it.
 fn prune(table: &mut Table, loaded: &mut Nodes<LoadedAttr>, number: Number)
     requires numbers { AreNumbers 2 table.old.next table.old.entries }
     requires others_of_use { AreOfUseBut (Some number.0) table.old.entries }
@@ -429,8 +423,7 @@ fn prune(table: &mut Table, loaded: &mut Nodes<LoadedAttr>, number: Number)
     }
 }
 
-/// Removes the entry of `number`, which is of no use (count 0 and no child), and each entry above it that is then of no
-/// use.
+/// Removes the entry of `number`, which has count 0 and no child, and then each such entry above it.
 fn drop_upwards(table: &mut Table, loaded: &mut Nodes<LoadedAttr>, number: Number)
     requires numbers { AreNumbers 2 table.old.next table.old.entries }
     requires useless { is_useless table.old.entries number.0 ≡ true }

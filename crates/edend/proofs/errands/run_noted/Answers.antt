@@ -9,4 +9,4 @@ returns-in-Err g c = λ errand is. ends_with-map (λ ending told. inr told) c.in
 
 pub returns : goal.returns
 returns g c = λ errand is.
-    runs_over c.args.noted.now c.errand-errand.result errand c.run-ran.result _ _ _ _ _ _ _ _ _ c.errand-errand.ensures.same is c.run-ran.ensures c.in-Ok.ensures.gathers c.errors.ensures.bytes c.end_errand.ensures.ends
+    runs_over c.args.noted.now c.errand-errand.result errand _ _ c.run-out.result.ended _ _ _ _ _ _ _ _ _ c.errand-errand.ensures.same is c.run-out.ensures c.in-Ok.ensures.gathers c.errors.ensures.bytes c.end_errand.ensures.ends

@@ -1,5 +1,5 @@
-use Rattle.std.proofs.Common.{◌≡◌, ◌∙◌, refl}
-use Rattle.daemon_process.specs.Patience.{Waits, Not, Longer}
+use Rattle.std.proofs.Common.{◌∙◌, refl}
+use Rattle.daemon_process.specs.Patience.{Not, Longer}
 use Rattle.daemon_process.proofs.patient.Patient.look.Goals as goal
 
 -- nothing was looked for yet

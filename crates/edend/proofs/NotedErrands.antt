@@ -1,0 +1,66 @@
+-- Errands that were noted alike run alike.
+use Rattle.std.proofs.Common.{◌≡◌, ◌⊎◌, ℕ, List, Option, Some, Result, Ok, Err, ap, subst, sym, ◌∙◌, inl, inr}
+use Rattle.world_script.specs.Source.{script_at}
+use Rattle.command_line.specs.declared.errand.BrokerWords.{BrokerWords}
+use Rattle.command_line.specs.declared.errand.DaemonWords.{DaemonWords}
+use Rattle.command_line.specs.declared.errand.Errand.{Errand}
+use Rattle.command_line.specs.declared.errand.Errand.TheVariants as errand
+use Rattle.world_script.specs.ProgramEnd.{name_by}
+use Rattle.world_script.specs.declared.failure.Failure.{Failure}
+use Rattle.world_script.specs.declared.fault.Fault.{Fault}
+use Rattle.world_script.specs.declared.fault.Fault.TheVariants.{CannotListen, CannotWrite, NoBroker, NoDaemon}
+use Rattle.edend.specs.Errands.{PlaysRead, PrintsFirst, RunsTo, RunsWell, name_at}
+use Rattle.edend.specs.Note.{IsNoted}
+use Rattle.edend.specs.declared.note.Noted.{Noted}
+use Rattle.edend.specs.declared.note.Noted.TheVariants.{Broker, Daemon}
+
+-- two errands with the same words name the same for a fault
+same_of_broker : (a b : BrokerWords) (fault : Fault) → a.socket.now ≡ b.socket.now → a.script.now ≡ b.script.now → name_at (errand.Broker a) fault ≡ name_at (errand.Broker b) fault
+same_of_broker a b CannotListen socket script = ap (λ (p : List ℕ). Some p) socket
+same_of_broker a b fault socket script = ap (λ (p : List ℕ). name_by p fault) script
+
+same_of_daemon : (a b : DaemonWords) (fault : Fault) → a.broker.now ≡ b.broker.now → a.takeover.now ≡ b.takeover.now → a.manifest.now ≡ b.manifest.now → name_at (errand.Daemon a) fault ≡ name_at (errand.Daemon b) fault
+same_of_daemon a b CannotListen broker takeover manifest = ap (λ (p : List ℕ). Some p) takeover
+same_of_daemon a b NoBroker broker takeover manifest = ap (λ (p : List ℕ). Some p) broker
+same_of_daemon a b NoDaemon broker takeover manifest = ap (λ (p : List ℕ). Some p) takeover
+same_of_daemon a b fault broker takeover manifest = ap (λ (p : List ℕ). name_by p fault) manifest
+
+same_names : (noted : Noted) (a b : Errand) (fault : Fault) → IsNoted noted a → IsNoted noted b → name_at a fault ≡ name_at b fault
+same_names (Broker noted) (errand.Broker a) (errand.Broker b) fault of_a of_b =
+    same_of_broker a b fault (sym of_a.0 ∙ of_b.0) (sym of_a.1 ∙ of_b.1)
+same_names (Daemon noted) (errand.Daemon a) (errand.Daemon b) fault of_a of_b =
+    same_of_daemon a b fault (sym of_a.1 ∙ of_b.1) (sym of_a.2 ∙ of_b.2) (sym of_a.3 ∙ of_b.3)
+same_names (Broker noted) (errand.Daemon a) b fault of_a of_b = absurd of_a
+same_names (Broker noted) (errand.Broker a) (errand.Daemon b) fault of_a of_b = absurd of_b
+same_names (Daemon noted) (errand.Broker a) b fault of_a of_b = absurd of_a
+same_names (Daemon noted) (errand.Daemon a) (errand.Broker b) fault of_a of_b = absurd of_b
+
+-- and they run alike
+runs_well-noted : (noted : Noted) (a b : Errand) (input : Option (List ℕ)) (file : List ℕ → Option (List ℕ)) (before after : Option (List ℕ)) →
+    IsNoted noted a → IsNoted noted b → RunsWell input file a before after → RunsWell input file b before after
+runs_well-noted (Broker noted) (errand.Broker a) (errand.Broker b) input file before after of_a of_b well =
+    subst (λ (path : List ℕ). PlaysRead (script_at input file path) before after) (sym of_a.1 ∙ of_b.1) well
+runs_well-noted (Daemon noted) (errand.Daemon a) (errand.Daemon b) input file before after of_a of_b well = well
+runs_well-noted (Broker noted) (errand.Daemon a) b input file before after of_a of_b well = absurd of_a
+runs_well-noted (Broker noted) (errand.Broker a) (errand.Daemon b) input file before after of_a of_b well = absurd of_b
+runs_well-noted (Daemon noted) (errand.Broker a) b input file before after of_a of_b well = absurd of_a
+runs_well-noted (Daemon noted) (errand.Daemon a) (errand.Broker b) input file before after of_a of_b well = absurd of_b
+
+prints_first-noted : (noted : Noted) (a b : Errand) (before after : Option (List ℕ)) → IsNoted noted a → IsNoted noted b → PrintsFirst a before after → PrintsFirst b before after
+prints_first-noted (Broker noted) (errand.Broker a) (errand.Broker b) before after of_a of_b first = first
+prints_first-noted (Daemon noted) (errand.Daemon a) (errand.Daemon b) before after of_a of_b first = first
+prints_first-noted (Broker noted) (errand.Daemon a) b before after of_a of_b first = absurd of_a
+prints_first-noted (Broker noted) (errand.Broker a) (errand.Daemon b) before after of_a of_b first = absurd of_b
+prints_first-noted (Daemon noted) (errand.Broker a) b before after of_a of_b first = absurd of_a
+prints_first-noted (Daemon noted) (errand.Daemon a) (errand.Broker b) before after of_a of_b first = absurd of_b
+
+failed-noted : (noted : Noted) (a b : Errand) (fault : Fault) (before after : Option (List ℕ)) → IsNoted noted a → IsNoted noted b →
+    (fault ≡ CannotWrite) ⊎ PrintsFirst a before after → (fault ≡ CannotWrite) ⊎ PrintsFirst b before after
+failed-noted noted a b fault before after of_a of_b (inl unwritten) = inl unwritten
+failed-noted noted a b fault before after of_a of_b (inr first) = inr (prints_first-noted noted a b before after of_a of_b first)
+
+pub runs_to-noted : (noted : Noted) (a b : Errand) (input : Option (List ℕ)) (file : List ℕ → Option (List ℕ)) (ran : Result (Unit {0}) Failure) (before after : Option (List ℕ)) →
+    IsNoted noted a → IsNoted noted b → RunsTo input file a ran before after → RunsTo input file b ran before after
+runs_to-noted noted a b input file (Ok done) before after of_a of_b well = runs_well-noted noted a b input file before after of_a of_b well
+runs_to-noted noted a b input file (Err failure) before after of_a of_b (names, first) =
+    (names ∙ same_names noted a b failure.fault of_a of_b, failed-noted noted a b failure.fault before after of_a of_b first)
