@@ -1,0 +1,136 @@
+"""Rows: a daemon whose broker is a peer that speaks frames by hand."""
+import time
+
+from process_rows.checks import WAIT, row, same
+from process_rows.daemons import mounted_by_hand
+from process_rows.frames import drip, frame, u64
+
+
+def as_broker(room, answers, lines, status):
+    """Lets a daemon with one worker mount at a peer that answers what it asks by the answers' names, one by one. The
+    worker's connection is answered behind the first."""
+    listener = room.listen(room.broker_at)
+    daemon = room.mount("--workers", "1", "--patience", "1000")
+    first = room.accept(listener)
+    worker = None
+    for who, wanted, answer in answers:
+        if who == "worker" and worker is None:
+            worker = room.accept(listener)
+        end = first if who == "first" else worker
+        got = end.read()
+        same(got and got[0], wanted)
+        if answer is None:
+            end.close()
+        else:
+            end.send(*answer)
+    daemon.ends(lines, status)
+
+
+ATTACHING = [("first", "Attach", ("Attached", u64(1))), ("worker", "Attach", ("Attached", u64(1)))]
+MOUNTING = [*ATTACHING, ("first", "Mount", ("Mounted", u64(1)))]
+
+
+@row
+def a_broker_may_have_ended(room):
+    """A daemon whose Attach is answered Ended ends well."""
+    as_broker(room, [("first", "Attach", ("Ended",))], ["ended"], 0)
+
+
+@row
+def a_broker_may_close(room):
+    """A daemon whose broker closes the connection is broken."""
+    as_broker(room, [("first", "Attach", None)], ["fault: broken"], 1)
+
+
+@row
+def a_broker_may_answer_something_else(room):
+    """A daemon whose Mount is answered by another frame is broken."""
+    as_broker(room, [*ATTACHING, ("first", "Mount", ("Posted",))], ["fault: broken"], 1)
+
+
+@row
+def a_broker_may_be_silent(room):
+    """A daemon whose broker doesn't answer gives up."""
+    listener = room.listen(room.broker_at)
+    daemon = room.mount("--patience", "300")
+    room.accept(listener)
+    daemon.ends(["fault: broken"], 1)
+
+
+@row
+def a_take_may_be_answered_ended(room):
+    """A daemon whose Take is answered Ended ends well."""
+    as_broker(room, [*MOUNTING, ("worker", "Take", ("Ended",))], ["serving 1", "ended"], 0)
+
+
+@row
+def a_take_may_be_stale(room):
+    """A daemon whose Take is answered Stale while it serves is broken."""
+    as_broker(room, [*MOUNTING, ("worker", "Take", ("Stale", u64(2)))], ["serving 1", "fault: broken"], 1)
+
+
+def breaks_after_five_seconds(daemon, began):
+    """Shows that a daemon ends by a fault five seconds later."""
+    daemon.ends(["serving 1", "fault: broken"], 1)
+    took = time.monotonic() - began
+    if not 4 < took < 10:
+        raise AssertionError(f"it ended after {took} s")
+
+
+@row
+def a_broker_may_not_answer_a_take(room):
+    """A daemon whose Take isn't answered for five seconds is broken."""
+    daemon, _first, _worker = mounted_by_hand(room)
+    breaks_after_five_seconds(daemon, time.monotonic())
+
+
+@row
+def a_broker_may_answer_a_part(room):
+    """A daemon is broken where an answer that began isn't whole five seconds later, whatever comes of it."""
+    daemon, _first, worker = mounted_by_hand(room)
+    time.sleep(1)
+    began = time.monotonic()
+    drip(worker.end, frame("Ask", bytes(40)))
+    breaks_after_five_seconds(daemon, began)
+
+
+@row
+def a_broker_may_not_read(room):
+    """A daemon whose broker answers and doesn't read is broken where a write waits for five seconds."""
+    daemon, _first, worker = mounted_by_hand(room)
+    worker.end.settimeout(0.1)
+    began = time.monotonic()
+    while daemon.child.poll() is None and time.monotonic() - began < WAIT:
+        try:
+            worker.end.sendall(frame("Empty"))
+        except OSError:
+            pass
+    breaks_after_five_seconds(daemon, began)
+
+
+@row
+def a_daemon_never_sleeps_between_takes(room):
+    """A daemon whose Takes find nothing takes again at once, also where a round ends."""
+    daemon, _first, worker = mounted_by_hand(room)
+    waits = []
+    for _ in range(600):
+        worker.send("Empty")
+        began = time.perf_counter()
+        same(worker.read(), ("Take", u64(1)))
+        waits.append(time.perf_counter() - began)
+    # A round ends behind ten Takes that found nothing. Others run beside this row, so each place in a round has its least.
+    least = [min(waits[place::10]) for place in range(10)]
+    if max(least) > 0.001:
+        raise AssertionError(f"a Take came after {max(least)} s")
+    worker.send("Ended")
+    daemon.ends(["serving 1", "ended"])
+
+
+@row
+def a_broker_may_be_killed(room):
+    """A daemon whose broker is killed is broken."""
+    broker = room.broker("seat 1", "seat 2")
+    daemon = room.mount("--workers", "4")
+    daemon.printed("serving 1")
+    broker.kill()
+    daemon.ends(["serving 1", "fault: broken"], 1)

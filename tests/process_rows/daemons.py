@@ -1,0 +1,91 @@
+"""A daemon that serves, and a peer that has it hand over."""
+import struct
+
+from process_rows.checks import same
+from process_rows.frames import OFFER, PART, u32, u64
+from process_rows.rooms import ATTR_1
+
+
+def serving(room, *options, script=("seat 1", "seat 2", "ask getattr 1")):
+    """Starts a broker and a daemon, and waits until the daemon serves."""
+    broker = room.broker(*script)
+    daemon = room.mount(*options)
+    daemon.printed("serving 1")
+    return broker, daemon
+
+
+def ends_by_takeover(room, broker, daemon):
+    """Shows that a daemon serves on at generation 1: another one takes over from it."""
+    new = room.take_over()
+    broker.ends(["seat 1", "seat 2", f"answer 1 {ATTR_1}", "ended"])
+    daemon.ends(["serving 1", "handed over"])
+    new.ends(["serving 2", "ended"])
+
+
+def ends_by_claim(broker, daemon):
+    """Shows that a daemon claimed the seat again."""
+    broker.ends(["seat 1", "seat 2", f"answer 1 {ATTR_1}", "ended"])
+    daemon.ends(["serving 1", "serving 2", "ended"])
+
+
+def offered(room, session=1):
+    """Offers, and returns a peer that was told that the daemon is ready."""
+    it = room.peer(room.takeover_at)
+    it.end.sendall(OFFER)
+    same(it.read(), ("Choice", u32(session) + b"\x00\x01"))
+    same(it.read(), ("Ready", u32(session) + u64(1)))
+    return it
+
+
+def handed_over(room, session=1):
+    """Gets the data of a takeover and claims nothing; the peer is closed. Returns session, generation and image."""
+    it = offered(room, session)
+    name, body = it.ask("Pong", u32(session))
+    same(name, "Data")
+    it.close()
+    return body[:4], body[4:12], body[12:]
+
+
+LONG_NAMES = [f"{number:03}" + "n" * 252 for number in range(300)]
+
+
+def long_checkout(room):
+    """Writes a manifest of 300 directories, each with a name of 255 bytes."""
+    room.write("long", f"commit {'01' * 20}\n{''.join(f'dir {name}{chr(10)}' for name in LONG_NAMES)}".encode())
+
+
+def parts_of(room, session=1):
+    """Gets the parts of an image, and claims nothing; the peer is closed."""
+    it = room.peer(room.takeover_at)
+    it.send("Offer", b"\x01\x00\x02")
+    same(it.read(), ("Choice", u32(session) + b"\x00\x02"))
+    name, body = it.read()
+    same((name, body[:4]), ("Ready", u32(session)))
+    it.send("Pong", u32(session))
+    parts, count = [], 1
+    while len(parts) < count:
+        name, told = it.read()
+        same((name, told[:12]), ("Part", body))
+        position, count = struct.unpack(">II", told[12:20])
+        same(position, len(parts) + 1)
+        parts.append(told[20:])
+    it.close()
+    same([len(text) for text in parts[:-1]], [PART] * (count - 1))
+    same(0 < len(parts[-1]) <= PART, True)
+    return parts
+
+
+def mounted_by_hand(room, *options, **streams):
+    """Lets a daemon with one worker mount at a peer. Returns the daemon, and both connections: its Take is asked."""
+    listener = room.listen(room.broker_at)
+    daemon = room.mount("--workers", "1", *options, **streams)
+    first = room.accept(listener)
+    same(first.read(), ("Attach", u64(0)))
+    first.send("Attached", u64(1))
+    worker = room.accept(listener)
+    same(worker.read(), ("Attach", u64(1)))
+    worker.send("Attached", u64(1))
+    same(first.read()[0], "Mount")
+    first.send("Mounted", u64(1))
+    same(worker.read(), ("Take", u64(1)))
+    return daemon, first, worker

@@ -1,0 +1,149 @@
+"""Rows: a daemon that takes over from a peer that speaks frames by hand."""
+import os
+import time
+
+from process_rows.checks import row, same
+from process_rows.daemons import LONG_NAMES, handed_over, long_checkout, parts_of
+from process_rows.frames import BOTH_VERSIONS, PART, u32, u64
+
+
+def against_a_daemon(room, talk, lines, status=1, patience="8000"):
+    """Lets a daemon take over from a peer that talks by hand."""
+    room.broker("seat 1")
+    listener = room.listen(room.takeover_at)
+    new = room.take_over("--patience", patience)
+    other = room.accept(listener)
+    same(other.read(), ("Offer", BOTH_VERSIONS))
+    talk(other)
+    new.ends(lines, status)
+
+
+@row
+def an_offer_may_have_no_version_in_common(room):
+    """An offer that is answered NoCommon is refused."""
+    against_a_daemon(room, lambda other: other.send("NoCommon"), ["fault: offer refused"])
+
+
+@row
+def an_offer_may_come_at_a_bad_time(room):
+    """An offer that is answered Busy is refused."""
+    against_a_daemon(room, lambda other: other.send("Busy"), ["fault: offer refused"])
+
+
+@row
+def a_takeover_fails_where_the_other_daemon_closes(room):
+    """A takeover fails where the other daemon closes the connection, and nothing is left of the socket."""
+    against_a_daemon(room, lambda other: other.close(), ["fault: takeover failed"])
+    same([name for name in os.listdir(room.path) if name.startswith("takeover.sock.")], [])
+
+
+@row
+def a_takeover_fails_where_the_other_daemon_is_silent(room):
+    """A takeover fails where the other daemon is silent."""
+    against_a_daemon(room, lambda other: None, ["fault: takeover failed"], patience="500")
+
+
+@row
+def a_takeover_fails_by_a_brokers_frame(room):
+    """A takeover fails where the other daemon sends a broker's frame."""
+    against_a_daemon(room, lambda other: other.send("Empty"), ["fault: takeover failed"])
+
+
+@row
+def a_takeover_fails_by_bad_data(room):
+    """A takeover fails where the data can't be raised, and the other daemon is told so."""
+
+    def talk(other):
+        other.send("Choice", u32(1) + b"\x00\x01")
+        same(other.ask("Ready", u32(1) + u64(1)), ("Pong", u32(1)))
+        same(other.ask("Data", u32(1) + u64(1) + b"no image"), ("Failed", u32(1)))
+
+    against_a_daemon(room, talk, ["fault: takeover failed"])
+
+
+def part(position, count, text, session=1, generation=1):
+    """Returns the body of a part."""
+    return u32(session) + u64(generation) + u32(position) + u32(count) + text
+
+
+@row
+def a_takeover_fails_by_a_bad_first_part(room):
+    """A takeover fails by the first part where no image begins so, and the other daemon is told at once."""
+
+    def talk(other):
+        other.send("Choice", u32(1) + b"\x00\x02")
+        same(other.ask("Ready", u32(1) + u64(1)), ("Pong", u32(1)))
+        same(other.ask("Part", part(1, 2, b"no image" * 512)), ("Failed", u32(1)))
+
+    against_a_daemon(room, talk, ["fault: takeover failed"])
+
+
+@row
+def a_takeover_fails_between_parts(room):
+    """A takeover fails where the connection ends between two parts; parts that aren't the next one are ignored."""
+    images = []
+
+    def talk(other):
+        other.send("Choice", u32(1) + b"\x00\x02")
+        same(other.ask("Ready", u32(1) + u64(1)), ("Pong", u32(1)))
+        first = images[0][:PART]
+        other.send("Part", part(2, 2, images[0][PART:]))
+        other.send("Part", part(1, 2, first, session=2))
+        other.send("Part", part(1, 2, first))
+        other.send("Part", part(1, 2, first))
+        other.send("Part", part(2, 3, images[0][PART:]))
+        other.close()
+
+    long_checkout(room)
+    broker = room.broker("seat 1", *(f"ask lookup 1 {name}" for name in LONG_NAMES[:20]), "seat 2")
+    first = room.mount(manifest="long")
+    broker.printed(21)
+    images.append(b"".join(parts_of(room)))
+    same((broker.ending(), first.ending()), (("ended", 0), ("ended", 0)))
+    os.unlink(room.takeover_at)
+    against_a_daemon(room, talk, ["fault: takeover failed"])
+
+
+@row
+def a_new_daemon_waits_longer_behind_pong(room):
+    """A new daemon that said it is there waits ten times the patience for the data."""
+    ponged = []
+
+    def talk(other):
+        other.send("Choice", u32(1) + b"\x00\x01")
+        same(other.ask("Ready", u32(1) + u64(1)), ("Pong", u32(1)))
+        ponged.append(time.monotonic())
+
+    against_a_daemon(room, talk, ["fault: takeover failed"], patience="600")
+    took = time.monotonic() - ponged[0]
+    if not 5.5 < took < 14:
+        raise AssertionError(f"it waited for {took} s")
+
+
+@row
+def a_stale_claim_fails(room):
+    """A takeover fails where the claim is stale: here another daemon has the seat at another generation."""
+    images = []
+
+    def talk(other):
+        other.send("Choice", u32(1) + b"\x00\x01")
+        same(other.ask("Ready", u32(1) + u64(7)), ("Pong", u32(1)))
+        other.send("Data", u32(1) + u64(7) + images[0])
+
+    broker = room.broker("seat 1", "seat 2")
+    guest = room.peer()
+    guest.attach()
+    first = room.mount()
+    first.printed("serving 1")
+    images.append(handed_over(room, 1)[2].replace(u64(1), u64(7), 1))
+    first.printed("serving 2")
+    os.rename(room.takeover_at, f"{room.path}/first.sock")
+    listener = room.listen(room.takeover_at)
+    new = room.take_over("--patience", "8000")
+    other = room.accept(listener)
+    other.read()
+    talk(other)
+    new.ends(["fault: takeover failed"], 1)
+    guest.close()
+    broker.ends(["seat 1", "seat 2", "ended"])
+    first.ends(["serving 1", "serving 2", "ended"])

@@ -1,0 +1,149 @@
+"""Folders in which processes of the program run, and what these print."""
+import os
+import resource
+import socket
+import subprocess
+import threading
+import time
+
+from process_rows.checks import WAIT, same
+from process_rows.frames import Peer
+
+MANIFEST = b"""commit 0123456789abcdef0123456789abcdef01234567
+dir src
+file 0644 12 src/a
+file 0755 0 src/b
+file 0644 7 README
+"""
+OTHER_MANIFEST = MANIFEST.replace(b"commit 01", b"commit 02")
+ENTRY = "entry 2 dir 0755 0 2"
+ATTR_1 = "attr 1 dir 0755 0 2"
+
+
+class Running:
+    """A process of the program, and the lines that it printed so far."""
+
+    def __init__(
+        self, program, room, words, stdin=subprocess.DEVNULL, stdout=subprocess.PIPE, megabytes=None, env=None
+    ):
+        limit = megabytes and (lambda: resource.setrlimit(resource.RLIMIT_AS, (megabytes << 20, megabytes << 20)))
+        self.words = words
+        self.child = subprocess.Popen(
+            [program, *words], stdin=stdin, stdout=stdout, stderr=subprocess.PIPE, cwd=room, preexec_fn=limit, env=env
+        )
+        self.pid = self.child.pid
+        self.lines = []
+        self.changed = threading.Condition()
+        self.reader = threading.Thread(target=self.read, daemon=True)
+        self.reader.start()
+
+    def read(self):
+        for line in self.child.stdout or []:
+            with self.changed:
+                self.lines.append(line.decode("latin-1").rstrip("\n"))
+                self.changed.notify_all()
+
+    def printed(self, what):
+        """Waits until a line was printed, or a count of lines."""
+        is_there = (lambda: len(self.lines) >= what) if isinstance(what, int) else (lambda: what in self.lines)
+        with self.changed:
+            if not self.changed.wait_for(is_there, WAIT):
+                raise AssertionError(f"{what!r} was not printed, but {self.lines}")
+
+    def ends(self, lines, status=0, error=None):
+        """Waits for the end, and compares what was printed, and the status."""
+        got = self.child.wait(WAIT)
+        self.reader.join(WAIT)
+        same(self.lines, lines)
+        same(got, status)
+        if error is not None:
+            said = self.child.stderr.read().decode("latin-1")
+            if error not in said:
+                raise AssertionError(f"{said!r} has no {error!r}")
+
+    def ending(self):
+        """Waits for the end, and returns the last line that was printed, and the status."""
+        status = self.child.wait(WAIT)
+        self.reader.join(WAIT)
+        return self.lines[-1], status
+
+    def used(self):
+        """Returns the processor time that it used, in seconds, with that of its threads that ended."""
+        return time.clock_gettime(~self.pid << 3 | 2)
+
+    def kill(self):
+        self.child.kill()
+
+
+class Room:
+    """A folder, and what runs in it."""
+
+    def __init__(self, path, program):
+        self.path = path
+        self.program = program
+        self.broker_at = f"{path}/broker.sock"
+        self.takeover_at = f"{path}/takeover.sock"
+        self.running = []
+        self.ends = []
+        self.write("m", MANIFEST)
+
+    def write(self, name, text):
+        with open(f"{self.path}/{name}", "wb") as file:
+            file.write(text)
+        return name
+
+    def run(self, *words, **streams):
+        it = Running(self.program, self.path, words, **streams)
+        self.running.append(it)
+        return it
+
+    def broker(self, *lines):
+        """Starts a broker, and waits until it listens."""
+        self.write("script", "".join(f"{line}\n" for line in lines).encode())
+        it = self.run("broker", "broker.sock", "script")
+        self.await_socket(self.broker_at)
+        return it
+
+    def await_socket(self, path):
+        until = time.monotonic() + WAIT
+        while not os.path.exists(path):
+            if time.monotonic() > until:
+                raise AssertionError(f"nobody listens at {path}")
+            time.sleep(0.005)
+
+    def mount(self, *options, manifest="m", **streams):
+        return self.run("daemon", "--mount", "broker.sock", "takeover.sock", manifest, *options, **streams)
+
+    def take_over(self, *options, manifest="m", **streams):
+        return self.run("daemon", "--takeover", "broker.sock", "takeover.sock", manifest, *options, **streams)
+
+    def peer(self, path=None):
+        """Connects to the broker, or to another socket."""
+        it = Peer.at(path or self.broker_at)
+        self.ends.append(it)
+        return it
+
+    def listen(self, path):
+        """Listens in place of a broker or a daemon."""
+        it = socket.socket(socket.AF_UNIX, socket.SOCK_STREAM)
+        it.settimeout(WAIT)
+        it.bind(path)
+        it.listen()
+        self.ends.append(it)
+        return it
+
+    def accept(self, listener):
+        it = Peer(listener.accept()[0])
+        self.ends.append(it)
+        return it
+
+    def printed(self):
+        """Returns what each process that ran here has printed."""
+        return [f"{it.words}: {it.lines}" for it in self.running]
+
+    def clear(self):
+        for it in self.running:
+            it.kill()
+            it.child.wait()
+        for it in self.ends:
+            it.close()
