@@ -7,7 +7,7 @@ use Rattle.std.proofs.KnownBytes.{Appends-nil, Appends-trans}
 use Rattle.std.proofs.lemmas.List.{append-nil, map-append}
 use Rattle.std.proofs.lemmas.List.Folds.{concat-append}
 use Rattle.daemon_process.specs.Ending.{PrintsExit, PrintsLast, PrintsServing, PrintsUntil, RunsDaemon}
-use Rattle.daemon_process.specs.Serving.{PrintsRound, printed_of, serving_line}
+use Rattle.daemon_process.specs.Serving.{PrintsRound, Spell, begins, printed_of, serving_line}
 use Rattle.daemon_process.specs.declared.exit.Exit.{Exit}
 use Rattle.daemon_process.specs.declared.exit.Exit.TheVariants.{Ended, Faulty, HandedOver}
 use Rattle.daemon_process.specs.declared.fault.DaemonFault.{DaemonFault}
@@ -35,23 +35,23 @@ serving-line true generation old mid new was line = serving-more generation old 
 serving-line false generation old mid new was line = serving-same old mid new was line
 
 -- a round more, unless its line could not be printed
-serving-round : (was generation now : ℕ) (old mid new : Option (List ℕ)) (exit : Option Exit) → PrintsServing old mid → PrintsRound was generation now mid new exit →
+serving-round : (was round now : Spell) (old mid new : Option (List ℕ)) (exit : Option Exit) → PrintsServing old mid → PrintsRound was round now mid new exit →
     PrintsServing old new ⊎ ((error : _) × (exit ≡ Some (Faulty (fault.CannotWrite error))))
-serving-round was generation now old mid new exit served (inl unmanned) = inl (serving-same old mid new served unmanned.nothing)
-serving-round was generation now old mid new exit served (inr (inl manned)) = inl (serving-line (not (was == generation)) generation old mid new served manned.line)
-serving-round was generation now old mid new exit served (inr (inr failed)) = inr failed
+serving-round was round now old mid new exit served (inl unmanned) = inl (serving-same old mid new served unmanned.nothing)
+serving-round was round now old mid new exit served (inr (inl manned)) = inl (serving-line (begins was round) round.0 old mid new served manned.line)
+serving-round was round now old mid new exit served (inr (inr failed)) = inr failed
 
 -- the daemon goes on behind it
-pub serving-on : (was generation now : ℕ) (old mid new : Option (List ℕ)) → PrintsServing old mid → PrintsRound was generation now mid new None → PrintsServing old new
-serving-on was generation now old mid new served round = elim (serving-round was generation now old mid new None served round) [
-  | inl prints ↦ prints
+pub serving-on : (was round now : Spell) (old mid new : Option (List ℕ)) → PrintsServing old mid → PrintsRound was round now mid new None → PrintsServing old new
+serving-on was round now old mid new served prints = elim (serving-round was round now old mid new None served prints) [
+  | inl all ↦ all
   | inr (error, none) ↦ cc
 ]
 
 -- or it ends behind it
-pub serving-ends : (was generation now : ℕ) (old mid new : Option (List ℕ)) (exit : Exit) → PrintsServing old mid → PrintsRound was generation now mid new (Some exit) → PrintsUntil old new exit
-serving-ends was generation now old mid new exit served round = elim (serving-round was generation now old mid new (Some exit) served round) [
-  | inl prints ↦ inl prints
+pub serving-ends : (was round now : Spell) (old mid new : Option (List ℕ)) (exit : Exit) → PrintsServing old mid → PrintsRound was round now mid new (Some exit) → PrintsUntil old new exit
+serving-ends was round now old mid new exit served prints = elim (serving-round was round now old mid new (Some exit) served prints) [
+  | inl all ↦ inl all
   | inr (error, is) ↦ inr (error, cc)
 ]
 

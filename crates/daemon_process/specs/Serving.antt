@@ -1,5 +1,5 @@
 -- What a daemon's main thread does next, and what it prints while it serves. (This project's own.)
-use Rattle.std.specs.Prelude.{◌≡◌, ◌⊎◌, ℕ, ◌==◌, Bool, true, false, not, List, [], ◌∷◌, ◌++◌, codes, Option, Some, None}
+use Rattle.std.specs.Prelude.{◌≡◌, ◌⊎◌, ℕ, ◌+◌, ◌==◌, Bool, true, false, ◌&&◌, not, List, [], ◌∷◌, ◌++◌, codes, Option, Some, None, if◌then◌else◌}
 use Rattle.std.specs.Fmt.{decimal}
 use Rattle.std.specs.Io.KnownBytes.{Appends}
 use Rattle.daemon.specs.Daemon.{lent_server}
@@ -22,14 +22,24 @@ IsServing phase = (generation : ℕ) × (phase ≡ phases.Serving generation)
 
 -- the lease of the round that comes next, if one does
 abbrev pub served_next : Next → Option Lease
-served_next (next.Serve lease stop) = Some lease
+served_next (next.Serve lease stop stops) = Some lease
 served_next other = None
+
+-- how often rounds were asked to stop before it
+abbrev pub stops_next : Next → Option ℕ
+stops_next (next.Serve lease stop stops) = Some stops
+stops_next other = None
+
+-- how often rounds were asked to stop, once more if one may run; after the greatest count comes 0
+abbrev pub stops_behind : Bool → ℕ → ℕ
+stops_behind true stops = if stops == 18446744073709551615 then 0 else stops + 1
+stops_behind false stops = stops
 
 -- a round over what may be lent comes next, or a wait if nothing may be; or a pause, if memory for the round's stop was
 -- refused
 abbrev pub IsRound : Option ServerState → Next → Type 0
 IsRound server next.Pause = Unit {0}
-IsRound (Some server) (next.Serve lease stop) = lent_server lease ≡ server
+IsRound (Some server) (next.Serve lease stop stops) = lent_server lease ≡ server
 IsRound None next.Wait = Unit {0}
 IsRound server other = ⊥
 
@@ -49,25 +59,37 @@ ComesNext None desk what = ComesWhile (is_draining desk.daemon.node.phase) (lend
 abbrev pub serving_line : ℕ → List ℕ
 serving_line generation = codes "serving " ++ decimal generation ++ 10 ∷ []
 
--- the line of a round; none if the channels were at the round's generation before
+-- a time in which a daemon serves without a break: its generation, and how often rounds were asked to stop before
+abbrev pub Spell : Type 0
+Spell = ℕ × ℕ
+
+-- both are one spell
+abbrev pub IsSameSpell : Spell → Spell → Type 0
+IsSameSpell a b = a ≡ b
+
+-- it begins to serve: a round is of another spell than the one before
+abbrev pub begins : Spell → Spell → Bool
+begins was is = not ((was.0 == is.0) && (was.1 == is.1))
+
+-- the line of a round; none if the daemon served in the same spell before
 abbrev pub printed_of : Bool → ℕ → List ℕ
 printed_of true generation = serving_line generation
 printed_of false generation = []
 
 -- no channels could be made for the round, and nothing was printed
-pub record IsUnmanned (was now : ℕ) (old new : Option (List ℕ)) : Type 0 where
-  pub same : now ≡ was
+pub record IsUnmanned (was now : Spell) (old new : Option (List ℕ)) : Type 0 where
+  pub same : IsSameSpell now was
   pub nothing : Appends old new []
 
--- the channels are at the round's generation, and the round's line was printed
-pub record IsManned (was generation now : ℕ) (old new : Option (List ℕ)) : Type 0 where
-  pub at : now ≡ generation
-  pub line : Appends old new (printed_of (not (was == generation)) generation)
+-- the channels are of the round's spell, and the round's line was printed
+pub record IsManned (was round now : Spell) (old new : Option (List ℕ)) : Type 0 where
+  pub at : IsSameSpell now round
+  pub line : Appends old new (printed_of (begins was round) round.0)
 
--- What a round prints, by the channels' generation before it, its own generation, and the channels' generation after
--- it. If its line cannot be written, the daemon ends.
-abbrev pub PrintsRound : (was generation now : ℕ) → (old new : Option (List ℕ)) → Option Exit → Type 0
-PrintsRound was generation now old new exit =
+-- What a round prints, by the spell before it, its own spell, and the spell after it. If its line cannot be written, the
+-- daemon ends.
+abbrev pub PrintsRound : (was round now : Spell) → (old new : Option (List ℕ)) → Option Exit → Type 0
+PrintsRound was round now old new exit =
     IsUnmanned was now old new
-    ⊎ (IsManned was generation now old new
+    ⊎ (IsManned was round now old new
     ⊎ ((error : _) × (exit ≡ Some (Faulty (CannotWrite error)))))

@@ -1,8 +1,8 @@
 //! A daemon while it serves.
-ghost use Rattle.std.specs.Prelude.{◌≡◌, ◌==◌, not, IfOk, OnOk, OnErr};
+ghost use Rattle.std.specs.Prelude.{◌≡◌, IfOk, OnErr, OnOk};
 ghost use Rattle.std.specs.Io.KnownBytes.{Appends};
 ghost use Rattle.daemon_process.specs.Ending.{PrintsUntil};
-ghost use Rattle.daemon_process.specs.Serving.{PrintsRound, printed_of, serving_line};
+ghost use Rattle.daemon_process.specs.Serving.{IsSameSpell, PrintsRound, begins, printed_of, serving_line};
 
 use crate::arrival::{Worker, channels};
 use crate::exit::Exit;
@@ -28,6 +28,8 @@ const PAUSE: u64 = 1;
 #[derive(Drop)]
 struct Crew<'a, R: Clock> {
     generation: u64,
+    /// How often rounds had been asked to stop when its last one began.
+    stops: u64,
     channels: Vec<Worker<'a, R>>,
     rooms: Rooms,
 }
@@ -44,15 +46,16 @@ pub(crate) fn serve<R: Threads + Wait + Clock + Sync, W: Write>(
 {
     let mut crew = Crew {
         generation: 0,
+        stops: 0,
         channels: Vec::new(alloc),
         rooms: Rooms::new(alloc),
     };
     for _ in rt.forever() {
         let seen = shared.changes();
         match shared.next(rt, alloc) {
-            Next::Serve(lease, stop) => {
+            Next::Serve(lease, stop, stops) => {
                 if let Some(exit) = serve_lease(
-                    rt, alloc, shared, workers, &mut crew, lease, &stop, out,
+                    rt, alloc, shared, workers, &mut crew, lease, &stop, stops, out,
                 ) {
                     return exit;
                 }
@@ -74,12 +77,13 @@ fn serve_lease<'a, R: Threads + Wait + Clock + Sync, W: Write>(
     crew: &mut Crew<'a, R>,
     lease: Lease,
     stop: &Arc<Stop>,
+    stops: u64,
     out: &mut W,
 ) -> Option<Exit>
-    ensures prints { PrintsRound crew.old.generation lease.generation crew.new.generation
-        (W.contents out.old) (W.contents out.new) result }
+    ensures prints { PrintsRound (crew.old.generation, crew.old.stops) (lease.generation, stops)
+        (crew.new.generation, crew.new.stops) (W.contents out.old) (W.contents out.new) result }
 {
-    let Ok(is_new) = man(rt, alloc, workers, crew, lease.generation, stop) else {
+    let Ok(is_new) = man(rt, alloc, workers, crew, lease.generation, stop, stops) else {
         shared.take_back(rt, lease);
         thread::sleep(rt, Duration::from_millis(PAUSE));
         return None;
@@ -101,7 +105,7 @@ fn serve_lease<'a, R: Threads + Wait + Clock + Sync, W: Write>(
 }
 
 /// Makes the workers' channels at `generation`, if the present ones are of another, and else lets these heed `stop`.
-/// Returns whether the channels are new.
+/// Returns whether the daemon begins to serve: it is at another generation, or a round was asked to stop meanwhile.
 fn man<'a, R: Clock>(
     rt: &'a R,
     alloc: Global,
@@ -109,23 +113,30 @@ fn man<'a, R: Clock>(
     crew: &mut Crew<'a, R>,
     generation: u64,
     stop: &Arc<Stop>,
+    stops: u64,
 ) -> io::Result<bool>
-    ensures new { IfOk result (λ is_new. is_new ≡ not (crew.old.generation == generation)) }
-    ensures at { OnOk result (crew.new.generation ≡ generation) }
-    ensures same { OnErr result (crew.new.generation ≡ crew.old.generation) }
+    ensures new { IfOk result (λ is_new.
+        is_new ≡ begins (crew.old.generation, crew.old.stops) (generation, stops)) }
+    ensures at { OnOk result
+        (IsSameSpell (crew.new.generation, crew.new.stops) (generation, stops)) }
+    ensures same { OnErr result (IsSameSpell (crew.new.generation, crew.new.stops)
+        (crew.old.generation, crew.old.stops)) }
 {
     if crew.generation == generation {
         for channel in crew.channels.iter_mut() {
             channel.heed(Arc::try_clone(stop)?);
         }
-        return Ok(false);
+        let is_new = crew.stops != stops;
+        crew.stops = stops;
+        return Ok(is_new);
     }
     crew.channels = channels(rt, alloc, workers, generation, stop)?;
     crew.generation = generation;
+    crew.stops = stops;
     Ok(true)
 }
 
-/// Prints that the daemon serves at `generation`, if its channels are new.
+/// Prints that the daemon serves at `generation`, if it begins to.
 fn print_round<W: Write>(out: &mut W, is_new: bool, generation: u64) -> io::Result<()>
     ensures line { OnOk result (Appends (W.contents out.old) (W.contents out.new)
         (printed_of is_new generation)) }

@@ -1,9 +1,9 @@
 //! What the threads of a daemon share.
-ghost use Rattle.std.specs.Prelude.{◌≡◌, ◌⊎◌, None};
+ghost use Rattle.std.specs.Prelude.{◌≡◌, ◌⊎◌, None, is_some};
 ghost use Rattle.std.specs.Option.{IfSome};
 ghost use Rattle.takeover_core.specs.declared.phase.Phase.TheVariants.{Serving};
 ghost use Rattle.daemon_desk.specs.Desk.{Hears};
-ghost use Rattle.daemon_process.specs.Serving.{ComesNext, IsServing, served_next};
+ghost use Rattle.daemon_process.specs.Serving.{ComesNext, IsServing, served_next, stops_behind, stops_next};
 
 use crate::exit::Exit;
 use daemon::Lease;
@@ -25,14 +25,16 @@ struct State {
     desk: DaemonDesk,
     /// The stop of the round that runs now.
     stop: Option<Arc<Stop>>,
+    /// How often a round was asked to stop.
+    stops: u64,
     exit: Option<Exit>,
 }
 
 /// What a daemon's main thread does next.
 #[derive(Drop)]
 pub(crate) enum Next {
-    /// It serves a round, until it is asked to stop.
-    Serve(Lease, Arc<Stop>),
+    /// It serves a round, until it is asked to stop. The number is how often rounds were asked to stop before.
+    Serve(Lease, Arc<Stop>, u64),
     /// It waits for a change.
     Wait,
     /// It waits a moment, as memory was refused.
@@ -54,6 +56,8 @@ impl State {
         ensures next { ComesNext self.old.exit self.old.desk result }
         ensures serves { IfSome (served_next result) (λ lease.
             self.old.desk.daemon.node.phase ≡ Serving lease.generation) }
+        ensures stops { IfSome (stops_next result) (λ stops. stops ≡ self.old.stops) }
+        ensures kept { self.new.stops ≡ self.old.stops }
     {
         if let Some(exit) = self.exit {
             return Next::Exit(exit);
@@ -65,7 +69,7 @@ impl State {
             return Next::Pause;
         };
         match self.desk.lend() {
-            Some(lease) => Next::Serve(lease, stop),
+            Some(lease) => Next::Serve(lease, stop, self.stops),
             None => Next::Wait,
         }
     }
@@ -74,6 +78,7 @@ impl State {
     fn stop_of_round(&mut self, alloc: Global) -> Result<Arc<Stop>, NoMemory>
         ensures desk { self.new.desk ≡ self.old.desk }
         ensures exit { self.new.exit ≡ self.old.exit }
+        ensures stops { self.new.stops ≡ self.old.stops }
     {
         if let Some(stop) = &self.stop {
             return Ok(Arc::try_clone(stop)?);
@@ -92,11 +97,22 @@ impl State {
     {
         let heard = self.desk.hear(frame);
         if !matches!(self.desk.phase(), Phase::Serving { .. }) {
-            if let Some(stop) = self.stop.take() {
-                stop.ask();
-            }
+            self.stop_round();
         }
         heard
+    }
+
+    /// Asks the round that runs now to stop, where one may.
+    fn stop_round(&mut self)
+        ensures stops { self.new.stops ≡ stops_behind (is_some self.old.stop) self.old.stops }
+        ensures none { self.new.stop ≡ None }
+        ensures desk { self.new.desk ≡ self.old.desk }
+        ensures exit { self.new.exit ≡ self.old.exit }
+    {
+        if let Some(stop) = self.stop.take() {
+            stop.ask();
+            self.stops = self.stops.wrapping_add(1);
+        }
     }
 }
 
@@ -107,6 +123,7 @@ impl Shared {
             state: Mutex::new(State {
                 desk,
                 stop: None,
+                stops: 0,
                 exit: None,
             }),
             changes: Condvar::new(),
