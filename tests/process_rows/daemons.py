@@ -14,18 +14,29 @@ def serving(room, *options, script=("seat 1", "seat 2", "ask getattr 1")):
     return broker, daemon
 
 
+def mounted_anew(room, manifest="m"):
+    """Mounts behind a daemon that was killed, and again while that one is still seated. Returns the daemon."""
+    for _ in range(100):
+        it = room.mount(manifest=manifest)
+        it.printed(1)
+        if it.lines[0] != "fault: seated":
+            return it
+    raise AssertionError("a daemon that was killed is still seated")
+
+
 def ends_by_takeover(room, broker, daemon):
-    """Shows that a daemon serves on at generation 1: another one takes over from it."""
+    """Shows that a daemon serves on at generation 1: another one takes over from it. Behind each takeover that came to
+    nothing it says that it serves, unless it was offered the next one before."""
     new = room.take_over()
     broker.ends(["seat 1", "seat 2", f"answer 1 {ATTR_1}", "ended"])
-    daemon.ends(["serving 1", "handed over"])
+    daemon.ends(["serving 1", "handed over"], may_repeat=True)
     new.ends(["serving 2", "ended"])
 
 
 def ends_by_claim(broker, daemon):
     """Shows that a daemon claimed the seat again."""
     broker.ends(["seat 1", "seat 2", f"answer 1 {ATTR_1}", "ended"])
-    daemon.ends(["serving 1", "serving 2", "ended"])
+    daemon.ends(["serving 1", "serving 2", "ended"], may_repeat=True)
 
 
 def offered(room, session=1):
@@ -49,9 +60,9 @@ def handed_over(room, session=1):
 LONG_NAMES = [f"{number:03}" + "n" * 252 for number in range(300)]
 
 
-def long_checkout(room):
-    """Writes a manifest of 300 directories, each with a name of 255 bytes."""
-    room.write("long", f"commit {'01' * 20}\n{''.join(f'dir {name}{chr(10)}' for name in LONG_NAMES)}".encode())
+def long_checkout(room, names=LONG_NAMES):
+    """Writes a manifest of directories, each with a name of 255 bytes."""
+    room.write("long", f"commit {'01' * 20}\n{''.join(f'dir {name}{chr(10)}' for name in names)}".encode())
 
 
 def parts_of(room, session=1):

@@ -4,13 +4,12 @@ import os
 import socket
 import stat
 import struct
-import subprocess
 import time
 
 from process_rows.checks import WAIT, row, row_of_proved, same
 from process_rows.daemons import mounted_by_hand
 from process_rows.frames import request, u64
-from process_rows.rooms import ATTR_1, ENTRY, MANIFEST
+from process_rows.rooms import ATTR_1, ENTRY, MANIFEST, run_to_end
 
 
 @row
@@ -198,7 +197,7 @@ def forgets_are_not_lost_for_want_of_memory(room):
     """A batch of forgets is served where memory for reading it is refused; else the daemon ends, and with it the mount."""
     room.write("refusing.c", REFUSING.encode())
     words = ["cc", "-O1", "-shared", "-fPIC", "-o", "refusing.so", "refusing.c", "-ldl"]
-    subprocess.run(words, cwd=room.path, check=True)
+    same(run_to_end(words, cwd=room.path)[0], 0)
     outcomes = []
     for number in range(1, 100):
         was_refused, serves_on = forgotten(room, number)

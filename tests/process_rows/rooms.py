@@ -1,8 +1,10 @@
 """Folders in which processes of the program run, and what these print."""
+import itertools
 import os
 import resource
 import socket
 import subprocess
+import tempfile
 import threading
 import time
 
@@ -20,6 +22,28 @@ ENTRY = "entry 2 dir 0755 0 2"
 ATTR_1 = "attr 1 dir 0755 0 2"
 
 
+# Held while a process starts: until it does, it has a copy of each file that is open here.
+STARTING = threading.Lock()
+
+
+def start(words, **streams):
+    """Starts a process."""
+    with STARTING:
+        return subprocess.Popen(words, **streams)
+
+
+def run_to_end(words, **streams):
+    """Runs a process to its end, and returns its status and what standard output got, where that is a pipe."""
+    child = start(words, **streams)
+    try:
+        printed, _ = child.communicate(timeout=WAIT)
+    except subprocess.TimeoutExpired:
+        child.kill()
+        child.wait()
+        raise
+    return child.returncode, printed
+
+
 class Running:
     """A process of the program, and the lines that it printed so far."""
 
@@ -28,7 +52,7 @@ class Running:
     ):
         limit = megabytes and (lambda: resource.setrlimit(resource.RLIMIT_AS, (megabytes << 20, megabytes << 20)))
         self.words = words
-        self.child = subprocess.Popen(
+        self.child = start(
             [program, *words], stdin=stdin, stdout=stdout, stderr=subprocess.PIPE, cwd=room, preexec_fn=limit, env=env
         )
         self.pid = self.child.pid
@@ -45,21 +69,27 @@ class Running:
 
     def printed(self, what):
         """Waits until a line was printed, or a count of lines."""
-        is_there = (lambda: len(self.lines) >= what) if isinstance(what, int) else (lambda: what in self.lines)
+        self.awaits((lambda lines: len(lines) >= what) if isinstance(what, int) else (lambda lines: what in lines), what)
+
+    def awaits(self, is_there, what="more"):
+        """Waits until the lines are such as are awaited."""
         with self.changed:
-            if not self.changed.wait_for(is_there, WAIT):
+            if not self.changed.wait_for(lambda: is_there(self.lines), WAIT):
                 raise AssertionError(f"{what!r} was not printed, but {self.lines}")
 
-    def ends(self, lines, status=0, error=None):
-        """Waits for the end, and compares what was printed, and the status."""
+    def ends(self, lines, status=0, error=None, may_repeat=False):
+        """Waits for the end, and compares what was printed, and the status. Lines that may repeat themselves stand once
+        in `lines`."""
         got = self.child.wait(WAIT)
         self.reader.join(WAIT)
-        same(self.lines, lines)
+        same([line for line, _ in itertools.groupby(self.lines)] if may_repeat else self.lines, lines)
         same(got, status)
-        if error is not None:
-            said = self.child.stderr.read().decode("latin-1")
-            if error not in said:
-                raise AssertionError(f"{said!r} has no {error!r}")
+        if error is not None and error not in (said := self.said()):
+            raise AssertionError(f"{said!r} has no {error!r}")
+
+    def said(self):
+        """Returns what standard error got, where that was not read before."""
+        return self.child.stderr.read().decode("latin-1")
 
     def ending(self):
         """Waits for the end, and returns the last line that was printed, and the status."""
@@ -71,16 +101,21 @@ class Running:
         """Returns the processor time that it used, in seconds, with that of its threads that ended."""
         return time.clock_gettime(~self.pid << 3 | 2)
 
+    def is_running(self):
+        return self.child.poll() is None
+
     def kill(self):
+        """Kills it, and waits until it is gone. What it printed is read by then."""
         self.child.kill()
+        self.child.wait(WAIT)
+        self.reader.join(WAIT)
 
 
 class Room:
     """A folder, and what runs in it."""
 
-    def __init__(self, path, program):
-        self.path = path
-        self.program = program
+    def __init__(self, path, program, is_proved):
+        self.path, self.program, self.is_proved = path, program, is_proved
         self.broker_at = f"{path}/broker.sock"
         self.takeover_at = f"{path}/takeover.sock"
         self.running = []
@@ -137,6 +172,10 @@ class Room:
         self.ends.append(it)
         return it
 
+    def inner(self):
+        """Returns another such folder within this one."""
+        return Room(tempfile.mkdtemp(dir=self.path), self.program, self.is_proved)
+
     def printed(self):
         """Returns what each process that ran here has printed."""
         return [f"{it.words}: {it.lines}" for it in self.running]
@@ -144,6 +183,5 @@ class Room:
     def clear(self):
         for it in self.running:
             it.kill()
-            it.child.wait()
         for it in self.ends:
             it.close()

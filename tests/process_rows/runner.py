@@ -28,11 +28,11 @@ def is_unproved(program):
         return b"AddressSanitizer" in file.read()
 
 
-def attempt(shows, program):
+def attempt(shows, program, is_proved):
     """Runs a row in a folder of its own. Returns how many seconds it took, and what went wrong, if something did."""
     began = time.monotonic()
     with tempfile.TemporaryDirectory(dir="/tmp") as path:
-        room = Room(path, program)
+        room = Room(path, program, is_proved)
         wrong = None
         try:
             shows(room)
@@ -53,12 +53,13 @@ def run_rows(program, words, tells_times):
     """Runs the rows whose name has one of the words, or each row where there is no word. Returns the status."""
     passed = failed = 0
     rows = [it for it in ROWS if not words or any(word in it.__name__ for word in words)]
-    if is_unproved(program):
+    is_proved = not is_unproved(program)
+    if not is_proved:
         left_out = [it for it in rows if it in ROWS_OF_PROVED]
         rows = [it for it in rows if it not in left_out]
         print(f"tests/processes: left out, for a program without a proof: {[it.__name__ for it in left_out]}")
     with concurrent.futures.ThreadPoolExecutor(AT_A_TIME) as pool:
-        for it, (took, wrong) in zip(rows, pool.map(lambda it: attempt(it, program), rows)):
+        for it, (took, wrong) in zip(rows, pool.map(lambda it: attempt(it, program, is_proved), rows)):
             passed, failed = passed + (not wrong), failed + bool(wrong)
             time_of_it = f"{took:.1f} s, {it.__name__}: " if tells_times else ""
             print(f"{time_of_it}{it.__doc__.splitlines()[0]} {'FAILED: ' + wrong if wrong else 'ok'}", flush=True)

@@ -8,7 +8,7 @@ from process_rows.checks import TOP, WAIT, row, same
 from process_rows.daemons import LONG_NAMES, long_checkout, parts_of
 from process_rows.frames import OFFER, u32, u64
 from process_rows.kernel import Client, Kernel, await_answers
-from process_rows.rooms import ATTR_1, ENTRY, OTHER_MANIFEST
+from process_rows.rooms import ATTR_1, ENTRY, OTHER_MANIFEST, run_to_end
 
 
 def row_of_processes(room, workers):
@@ -176,9 +176,9 @@ def another_manifest_takes_nothing_over(room):
 def the_example_of_an_upgrade(room):
     """examples/upgrade.sh prints what a broker, a daemon and the next one say."""
     words = [f"{TOP}/examples/upgrade.sh", room.program]
-    ran = subprocess.run(words, stdout=subprocess.PIPE, cwd=room.path, timeout=WAIT)
-    same(ran.stdout.decode().splitlines(), [
+    status, printed = run_to_end(words, stdout=subprocess.PIPE, cwd=room.path)
+    same(printed.decode().splitlines(), [
         "broker: seat 1", f"broker: answer 1 {ENTRY}", "broker: seat 2", "broker: answer 2 attr 2 dir 0755 0 2",
         "broker: held 2 1", "broker: ended", "old: serving 1", "old: handed over", "new: serving 2", "new: ended",
     ])
-    same(ran.returncode, 0)
+    same(status, 0)
