@@ -3,6 +3,7 @@
 //!
 //!   calls arena CAPACITY                rounds of calls on a full arena
 //!   calls requests LINES DEPTH|random     requests to what a daemon serves
+//!   calls messages LINES                  messages read, answered and written
 //!   calls checkout LINES                  calls on a manifest's tree
 //!   calls map ENTRIES [random]            calls on the numbers that a daemon gave
 //!   calls image ENTRIES 0                 an image read, restored, made again and written
@@ -17,6 +18,7 @@ mod image;
 mod journal;
 mod loaded;
 mod map;
+mod messages;
 mod request;
 mod requests;
 mod wire;
@@ -26,6 +28,7 @@ fn main() {
     let told = match words[0].as_str() {
         "arena" => arena::measure(&words[1..]),
         "requests" => requests::measure(&words[1..]),
+        "messages" => messages::measure(&words[1..]),
         "checkout" => checkout::measure(&words[1..]),
         "map" => map::measure(&words[1..]),
         "image" => image::measure(&words[1..]),

@@ -2,22 +2,22 @@
 use crate::hashing::Map;
 use crate::loaded::{Attr, Kind, Loaded};
 
-const ROOT: u64 = 1;
-const EACH: u64 = 64;
+pub const ROOT: u64 = 1;
+pub const EACH: u64 = 64;
 const ASKED: u64 = 1000;
-const ASKED_RANDOMLY: u64 = 20_000;
+pub const ASKED_RANDOMLY: u64 = 20_000;
 const LOADED_LIMIT: usize = 64;
-const DEFAULT_LIMIT: usize = 1024;
+pub const DEFAULT_LIMIT: usize = 1024;
 
 const ENOENT: i32 = 2;
 const EEXIST: i32 = 17;
 const ENOTDIR: i32 = 20;
 
-type Name = Box<[u8]>;
+pub type Name = Box<[u8]>;
 
-struct Item {
-    node: u64,
-    k: u64,
+pub struct Item {
+    pub node: u64,
+    pub k: u64,
 }
 
 enum Request {
@@ -30,7 +30,7 @@ enum Request {
     BatchForget(Vec<Item>),
 }
 
-enum Answer {
+pub enum Answer {
     Entry { number: u64, attr: Attr },
     Attrs { attr: Attr },
     Opened { number: u64, attr: Attr },
@@ -62,18 +62,18 @@ struct Entry {
     slot: Option<u32>,
 }
 
-struct Served {
+pub struct Served {
     files: Vec<File>,
     links: Map<u32, Map<Name, u32>>,
     entries: Map<u64, Entry>,
     names: Map<u64, Map<Name, u64>>,
     loaded: Loaded,
-    next: u64,
+    pub next: u64,
 }
 
 impl Served {
     /// Begins to serve the manifest of `lines` lines that `measure` makes.
-    fn new(lines: u64, limit: usize) -> Served {
+    pub fn new(lines: u64, limit: usize) -> Served {
         let mut served = Served {
             files: vec![File { kind: Kind::Dir, perm: 0o755, size: 0, is_made: false }],
             links: Map::default(),
@@ -132,7 +132,7 @@ impl Served {
     }
 
     /// Returns the attributes of a number: of a file of the manifest those that are loaded, or else the manifest's.
-    fn attr(&mut self, number: u64) -> Option<Attr> {
+    pub fn attr(&mut self, number: u64) -> Option<Attr> {
         let entry = self.entries.get(&number)?;
         if let Some(slot) = entry.slot {
             return Some(self.loaded.touch(slot));
@@ -151,7 +151,7 @@ impl Served {
         Some(attr)
     }
 
-    fn look_up(&mut self, dir: u64, name: &[u8]) -> Result<Answer, i32> {
+    pub fn look_up(&mut self, dir: u64, name: &[u8]) -> Result<Answer, i32> {
         let parent = self.dir(dir)?;
         let file = self.link(parent, name).ok_or(ENOENT)?;
         let number = self.give(dir, name, file);
@@ -159,7 +159,7 @@ impl Served {
         Ok(Answer::Entry { number, attr })
     }
 
-    fn make(&mut self, dir: u64, name: &[u8], kind: Kind, perm: u16) -> Result<(u64, Attr), i32> {
+    pub fn make(&mut self, dir: u64, name: &[u8], kind: Kind, perm: u16) -> Result<(u64, Attr), i32> {
         let parent = self.dir(dir)?;
         if self.link(parent, name).is_some() {
             return Err(EEXIST);
@@ -169,7 +169,7 @@ impl Served {
         Ok((number, self.files[file as usize].attr()))
     }
 
-    fn unlink(&mut self, dir: u64, name: &[u8]) -> Result<Answer, i32> {
+    pub fn unlink(&mut self, dir: u64, name: &[u8]) -> Result<Answer, i32> {
         let parent = self.dir(dir)?;
         let links = self.links.get_mut(&parent).ok_or(ENOENT)?;
         links.remove(name).ok_or(ENOENT)?;
@@ -181,7 +181,7 @@ impl Served {
     }
 
     /// Takes a number back. One with count 0 and no kids leaves, and then each directory that has become one.
-    fn forget(&mut self, item: &Item) {
+    pub fn forget(&mut self, item: &Item) {
         let Some(entry) = self.entries.get_mut(&item.node) else {
             return;
         };
@@ -242,7 +242,7 @@ impl Served {
     }
 }
 
-fn name_of(i: u64) -> Name {
+pub fn name_of(i: u64) -> Name {
     let text = if i % EACH == 0 { format!("directory{}", i / EACH) } else { format!("file{i}.txt") };
     text.into_bytes().into()
 }
@@ -398,7 +398,8 @@ fn ask_batches(served: &mut Served) -> u64 {
     batches
 }
 
-fn ask_random(served: &mut Served, lines: u64) -> u64 {
+/// Looks each name up once.
+pub fn look_all_up(served: &mut Served, lines: u64) {
     let mut parent = ROOT;
     for i in 0..lines {
         let dir = if i % EACH == 0 { ROOT } else { parent };
@@ -407,6 +408,10 @@ fn ask_random(served: &mut Served, lines: u64) -> u64 {
             parent = number;
         }
     }
+}
+
+fn ask_random(served: &mut Served, lines: u64) -> u64 {
+    look_all_up(served, lines);
     let (mut word, mut shown) = (1u64, 0);
     for _ in 0..ASKED_RANDOMLY {
         word = word.wrapping_mul(6_364_136_223_846_793_005).wrapping_add(1_442_695_040_888_963_407);

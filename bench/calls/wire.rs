@@ -7,7 +7,7 @@ const MOST_ITEMS: usize = 256;
 
 #[derive(Debug)]
 #[allow(dead_code)]
-enum Fault {
+pub enum Fault {
     Short,
     BadLength { tells: u32 },
     BadBody,
@@ -20,16 +20,16 @@ struct Ask {
     what: Request,
 }
 
-fn u32_at(bytes: &[u8], at: usize) -> u32 {
+pub fn u32_at(bytes: &[u8], at: usize) -> u32 {
     u32::from_le_bytes(bytes[at..at + 4].try_into().unwrap())
 }
 
-fn u64_at(bytes: &[u8], at: usize) -> u64 {
+pub fn u64_at(bytes: &[u8], at: usize) -> u64 {
     u64::from_le_bytes(bytes[at..at + 8].try_into().unwrap())
 }
 
-/// Reads a name that ends with the body.
-fn name_in(body: &[u8]) -> Result<Name, Fault> {
+/// Reads the bytes of a name that ends with the body.
+pub fn name_bytes(body: &[u8]) -> Result<&[u8], Fault> {
     let Some((0, name)) = body.split_last() else {
         return Err(Fault::BadBody);
     };
@@ -37,7 +37,12 @@ fn name_in(body: &[u8]) -> Result<Name, Fault> {
     if is_bad || name.iter().any(|&byte| byte == 0 || byte == b'/') {
         return Err(Fault::BadName);
     }
-    Ok(Name::of(name))
+    Ok(name)
+}
+
+/// Reads a name that ends with the body.
+fn name_in(body: &[u8]) -> Result<Name, Fault> {
+    name_bytes(body).map(Name::of)
 }
 
 fn items_in(body: &[u8]) -> Result<Vec<Item>, Fault> {
@@ -52,7 +57,7 @@ fn items_in(body: &[u8]) -> Result<Vec<Item>, Fault> {
 }
 
 /// Returns the opcode, the unique, the node and the body of a message.
-fn parts_of(bytes: &[u8]) -> Result<(u32, u64, u64, &[u8]), Fault> {
+pub fn parts_of(bytes: &[u8]) -> Result<(u32, u64, u64, &[u8]), Fault> {
     if bytes.len() < HEADER {
         return Err(Fault::Short);
     }
@@ -63,12 +68,12 @@ fn parts_of(bytes: &[u8]) -> Result<(u32, u64, u64, &[u8]), Fault> {
     Ok((u32_at(bytes, 4), u64_at(bytes, 8), u64_at(bytes, 16), &bytes[HEADER..]))
 }
 
-/// Splits what is made: eight bytes for permissions and a mask, and the name behind `skipped` bytes.
-fn perm_and_name(body: &[u8], skipped: usize) -> Result<(u16, Name), Fault> {
+/// Splits what is made: the mode at `at`, and the name behind `skipped` bytes.
+fn perm_and_name(body: &[u8], at: usize, skipped: usize) -> Result<(u16, Name), Fault> {
     if body.len() < skipped {
         return Err(Fault::BadBody);
     }
-    Ok((u32_at(body, skipped - 8) as u16 & 0o7777, name_in(&body[skipped..])?))
+    Ok((u32_at(body, at) as u16 & 0o7777, name_in(&body[skipped..])?))
 }
 
 fn read_request(bytes: &[u8]) -> Result<Ask, Fault> {
@@ -79,13 +84,13 @@ fn read_request(bytes: &[u8]) -> Result<Ask, Fault> {
         3 if body.len() == 16 => Request::Getattr { node },
         42 => Request::BatchForget(items_in(body)?),
         9 => {
-            let (perm, name) = perm_and_name(body, 8)?;
+            let (perm, name) = perm_and_name(body, 0, 8)?;
             Request::Mkdir { dir: node, name, perm }
         }
         10 => Request::Unlink { dir: node, name: name_in(body)? },
         11 => Request::Rmdir { dir: node, name: name_in(body)? },
         35 => {
-            let (perm, name) = perm_and_name(body, 16)?;
+            let (perm, name) = perm_and_name(body, 4, 16)?;
             Request::Create { dir: node, name, perm }
         }
         2 | 3 => return Err(Fault::BadBody),

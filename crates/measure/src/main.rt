@@ -8,6 +8,7 @@ mod clock;
 mod image;
 mod lines;
 mod map;
+mod messages;
 mod names;
 mod random;
 mod requests;
@@ -29,7 +30,7 @@ use told::Told;
 use words::refuse;
 
 /// The small runs: each is the words with which the program could be started.
-static RUNS: [&str; 55] = [
+static RUNS: [&str; 57] = [
     "arena 1",
     "arena 1024",
     "arena 65536",
@@ -55,6 +56,8 @@ static RUNS: [&str; 55] = [
     "requests 40000 700",
     "requests 1000 random",
     "requests 64000 random",
+    "messages 1000",
+    "messages 64000",
     "wire lookup 10",
     "wire getattr 10",
     "wire forget 10",
@@ -100,6 +103,7 @@ fn told_of<R: Threads + Wait + Clock + Sync>(
         "checkout" => tree::measure(rt, words),
         "image" => image::measure(rt, words),
         "map" => map::measure(rt.alloc(), words),
+        "messages" => messages::measure(rt.alloc(), words),
         "requests" => requests::measure(rt.alloc(), words),
         "wire" => wire::measure(rt.alloc(), words),
         "frames" => stream::measure(rt.alloc(), words),

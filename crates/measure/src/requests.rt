@@ -22,8 +22,8 @@ const LOADED_LIMIT: usize = 64;
 
 /// What a daemon serves, with the manifest that is its backing.
 #[derive(Drop)]
-struct Hosted {
-    served: Served,
+pub(crate) struct Hosted {
+    pub(crate) served: Served,
     manifest: Manifest,
 }
 
@@ -50,7 +50,7 @@ impl Hosted {
     }
 
     /// Answers a request.
-    fn apply(&mut self, alloc: Global, request: &Request) -> Option<Answer> {
+    pub(crate) fn apply(&mut self, alloc: Global, request: &Request) -> Option<Answer> {
         let mut backing = ManifestBacking::of(&self.manifest);
         self.served.apply(alloc, &mut backing, request)
     }
@@ -62,7 +62,7 @@ fn manifest_of(alloc: Global, lines: u64) -> Result<Manifest, NoMemory> {
 }
 
 /// Begins to serve a manifest of `lines` lines, with at most `limit` attributes loaded.
-fn begin(alloc: Global, lines: u64, limit: usize) -> Result<Hosted, NoMemory> {
+pub(crate) fn begin(alloc: Global, lines: u64, limit: usize) -> Result<Hosted, NoMemory> {
     Hosted::of(alloc, manifest_of(alloc, lines)?, limit)
 }
 
@@ -77,7 +77,7 @@ fn name_text(alloc: Global, i: u64) -> Result<String, AllocError> {
 }
 
 /// Returns the name in line `i` of the manifest.
-fn name_of(alloc: Global, i: u64) -> Result<Name, NoMemory> {
+pub(crate) fn name_of(alloc: Global, i: u64) -> Result<Name, NoMemory> {
     named(alloc, name_text(alloc, i)?)
 }
 
@@ -397,7 +397,7 @@ fn ask_begun(alloc: Global, lines: u64, depth: u64) -> Result<Told, NoMemory> {
 }
 
 /// Looks each name of the manifest up once.
-fn look_all_up(alloc: Global, served: &mut Hosted, lines: u64) -> Result<(), NoMemory> {
+pub(crate) fn look_all_up(alloc: Global, served: &mut Hosted, lines: u64) -> Result<(), NoMemory> {
     let mut parent = Number::ROOT;
     for i in 0..lines {
         let name = name_of(alloc, i)?;

@@ -7,6 +7,7 @@ const USAGE: &str = "usage: measure [SUBJECT WORD..]
   image ENTRIES UNLINKED [times]
   map ENTRIES [holes | given | random]
   requests LINES DEPTH | random
+  messages LINES
   wire FORM ROUNDS
   frames FORM ROUNDS [behind FRAMES | pieces BYTES]
   journal RECORDS WORKERS ROUNDS

@@ -1,0 +1,263 @@
+//! Messages of the FUSE protocol, read, answered and written: `measure messages LINES`, at the limit that the program has
+//! by itself. Each line of the manifest has a number, but for the last file of a directory. Files are random.
+ghost use Rattle.fuse_wire.specs.Request.{IsSendable};
+
+use crate::names::{EACH, named};
+use crate::random::{ASKED, DEFAULT_LIMIT, Random};
+use crate::requests::{Hosted, begin, look_all_up, name_of};
+use crate::told::Told;
+use crate::words::number_at;
+use eden_base::{Name, NoMemory, Number, Perm};
+use fuse_wire::{
+    Ask, Item, MAX_REPLY_LEN, Reply, Request, read_request, write_reply, write_request,
+};
+use std::alloc::Global;
+
+/// A message, as the kernel writes it.
+type Text = Vec<u8>;
+
+/// What a daemon serves, and the buffer of its replies.
+#[derive(Drop)]
+struct Server {
+    hosted: Hosted,
+    reply: [u8; MAX_REPLY_LEN],
+}
+
+impl Server {
+    /// Reads a message, answers it and writes the reply. Returns the length of that, and 0 where there is none.
+    fn serve(&mut self, alloc: Global, text: &[u8]) -> usize {
+        let Ok(ask) = read_request(alloc, text) else {
+            return 0;
+        };
+        let Some(answer) = self.hosted.apply(alloc, &ask.what) else {
+            return 0;
+        };
+        let unique = ask.unique;
+        write_reply(&Reply { unique, answer }, &mut self.reply)
+    }
+}
+
+/// Writes a request as the kernel does.
+fn text_of(alloc: Global, what: Request) -> Result<Text, NoMemory>
+    requires { IsSendable what }
+{
+    write_request(alloc, &Ask { unique: 7, what })
+}
+
+/// Returns the number of the directory in which the line of a number stands.
+fn dir_of(node: Number) -> Number {
+    let line = node.0.wrapping_sub(2);
+    Number((line - line % EACH).wrapping_add(2))
+}
+
+/// Returns the message that looks up the file of a number.
+fn lookup_of(alloc: Global, node: Number) -> Result<Text, NoMemory> {
+    let name = name_of(alloc, node.0.wrapping_sub(2))?;
+    let dir = dir_of(node);
+    text_of(alloc, Request::Lookup { dir, name })
+}
+
+/// Returns the message that asks for the attributes of a number.
+fn getattr_of(alloc: Global, node: Number) -> Result<Text, NoMemory> {
+    text_of(alloc, Request::Getattr { node })
+}
+
+/// Returns the message that takes a number back once.
+fn forget_of(alloc: Global, node: Number) -> Result<Text, NoMemory> {
+    text_of(alloc, Request::Forget(Item { node, k: 1 }))
+}
+
+/// Returns a number of a file that has one: neither that of a directory, nor of a directory's last file.
+fn held(random: &mut Random, lines: u64) -> Number {
+    let node = random.number(lines);
+    match node.0.wrapping_sub(2) % EACH {
+        0 => Number(node.0.wrapping_add(1)),
+        63 => Number(node.0.wrapping_sub(1)),
+        _ => node,
+    }
+}
+
+/// Returns the number that the last file of a random directory had.
+fn fresh(random: &mut Random, lines: u64) -> Number {
+    let directories = lines / EACH;
+    let line = random
+        .number(directories)
+        .0
+        .wrapping_sub(2)
+        .wrapping_mul(EACH);
+    Number(line.wrapping_add(EACH).wrapping_add(1))
+}
+
+// ---- the messages, each kind in a function of its own
+
+#[inline(never)]
+fn look_up_held(alloc: Global, server: &mut Server, text: &[u8]) -> usize {
+    server.serve(alloc, text)
+}
+
+#[inline(never)]
+fn get_attr(alloc: Global, server: &mut Server, text: &[u8]) -> bool {
+    server.serve(alloc, text) > 0
+}
+
+#[inline(never)]
+fn mixed(alloc: Global, server: &mut Server, text: &[u8]) -> Option<usize> {
+    Some(server.serve(alloc, text))
+}
+
+#[inline(never)]
+fn look_up_fresh(alloc: Global, server: &mut Server, text: &[u8]) -> bool {
+    server.serve(alloc, text) > 16
+}
+
+#[inline(never)]
+fn forget_last(alloc: Global, server: &mut Server, text: &[u8]) -> bool {
+    server.serve(alloc, text) == 0
+}
+
+#[inline(never)]
+fn make_and_drop(alloc: Global, server: &mut Server, texts: &[Text; 3]) -> u64 {
+    let [create, unlink, forget] = texts;
+    let opened = server.serve(alloc, create.as_slice()) > 16;
+    let done = server.serve(alloc, unlink.as_slice()) == 16;
+    let silent = server.serve(alloc, forget.as_slice()) == 0;
+    u64::from(opened && done && silent)
+}
+
+// ---- the runs
+
+/// Forgets the last file of each directory, so that it has no number.
+fn forget_each_last(alloc: Global, server: &mut Server, lines: u64) -> Result<(), NoMemory> {
+    for directory in 0..lines / EACH {
+        let line = directory.wrapping_mul(EACH).wrapping_add(EACH);
+        let text = forget_of(alloc, Number(line.wrapping_add(1)))?;
+        server.serve(alloc, text.as_slice());
+        drop(text);
+    }
+    Ok(())
+}
+
+/// Looks files up that have numbers. Returns the length of all replies.
+fn look_up(alloc: Global, server: &mut Server, lines: u64) -> Result<u64, NoMemory> {
+    let (mut random, mut length) = (Random::new(), 0u64);
+    for _ in 0..ASKED {
+        let text = lookup_of(alloc, held(&mut random, lines))?;
+        length = length.wrapping_add(look_up_held(alloc, server, text.as_slice()) as u64);
+        drop(text);
+    }
+    Ok(length)
+}
+
+/// Asks for the attributes of files. Counts those that have some.
+fn show(alloc: Global, server: &mut Server, lines: u64) -> Result<u64, NoMemory> {
+    let (mut random, mut shown) = (Random::new(), 0u64);
+    for _ in 0..ASKED {
+        let text = getattr_of(alloc, held(&mut random, lines))?;
+        shown = shown.wrapping_add(u64::from(get_attr(alloc, server, text.as_slice())));
+        drop(text);
+    }
+    Ok(shown)
+}
+
+/// Returns a message of two kinds in turn.
+fn mixed_of(alloc: Global, turn: u64, node: Number) -> Result<Text, NoMemory> {
+    if turn % 2 == 0 {
+        lookup_of(alloc, node)
+    } else {
+        getattr_of(alloc, node)
+    }
+}
+
+/// Looks files up and asks for attributes in turn. Returns the length of all replies.
+fn mix(alloc: Global, server: &mut Server, lines: u64) -> Result<u64, NoMemory> {
+    let (mut random, mut length) = (Random::new(), 0u64);
+    for turn in 0..ASKED {
+        let text = mixed_of(alloc, turn, held(&mut random, lines))?;
+        let replied = mixed(alloc, server, text.as_slice()).unwrap_or(0);
+        length = length.wrapping_add(replied as u64);
+        drop(text);
+    }
+    Ok(length)
+}
+
+/// Looks a file up that has no number, and forgets the one that it gets. Tells whether both were answered so.
+fn find_fresh(alloc: Global, server: &mut Server, node: Number) -> Result<bool, NoMemory> {
+    let given = server.hosted.served.map().next();
+    let lookup = lookup_of(alloc, node)?;
+    let forget = forget_of(alloc, Number(given))?;
+    let found = look_up_fresh(alloc, server, lookup.as_slice());
+    let gone = forget_last(alloc, server, forget.as_slice());
+    drop(lookup);
+    drop(forget);
+    Ok(found && gone)
+}
+
+/// Looks files up that have no number, and counts them.
+fn find(alloc: Global, server: &mut Server, lines: u64) -> Result<u64, NoMemory> {
+    let (mut random, mut found) = (Random::new(), 0u64);
+    for _ in 0..ASKED {
+        if find_fresh(alloc, server, fresh(&mut random, lines))? {
+            found = found.wrapping_add(1);
+        }
+    }
+    Ok(found)
+}
+
+/// Returns a name that no line has.
+fn made_name(alloc: Global, i: u64) -> Result<Name, NoMemory> {
+    named(alloc, format!(in alloc; "made{i}.txt")?)
+}
+
+/// Returns the messages that make a file in a directory, take its name away and forget its number.
+fn made_of(alloc: Global, dir: Number, i: u64, given: Number) -> Result<[Text; 3], NoMemory> {
+    let perm = Perm::DIRECTORY;
+    let name = made_name(alloc, i)?;
+    let create = text_of(alloc, Request::Create { dir, name, perm })?;
+    let name = made_name(alloc, i)?;
+    let unlink = text_of(alloc, Request::Unlink { dir, name })?;
+    let forget = forget_of(alloc, given)?;
+    Ok([create, unlink, forget])
+}
+
+/// Makes files in random directories, each of which leaves at once. Counts them.
+fn make(alloc: Global, server: &mut Server, lines: u64) -> Result<u64, NoMemory> {
+    let (mut random, mut made) = (Random::new(), 0u64);
+    for i in 0..ASKED {
+        let dir = dir_of(random.number(lines));
+        let given = Number(server.hosted.served.map().next());
+        let texts = made_of(alloc, dir, i, given)?;
+        made = made.wrapping_add(make_and_drop(alloc, server, &texts));
+        drop(texts);
+    }
+    Ok(made)
+}
+
+/// Sends all messages to a server.
+fn send_all(alloc: Global, server: &mut Server, lines: u64) -> Result<Told, NoMemory> {
+    look_all_up(alloc, &mut server.hosted, lines)?;
+    forget_each_last(alloc, server, lines)?;
+    let looked_up = look_up(alloc, server, lines)?;
+    let shown = show(alloc, server, lines)?;
+    let mixed = mix(alloc, server, lines)?;
+    let found = find(alloc, server, lines)?;
+    let made = make(alloc, server, lines)?;
+    Ok(Told::of(
+        &["looked-up", "shown", "mixed", "found", "made"],
+        &[looked_up, shown, mixed, found, made],
+    ))
+}
+
+/// Sends all messages, as words say.
+pub(crate) fn measure(alloc: Global, words: &[&str]) -> Result<Option<Told>, NoMemory> {
+    let Some(lines) = number_at(words, 0) else {
+        return Ok(None);
+    };
+    let lines = u64::from(lines);
+    let mut server = Server {
+        hosted: begin(alloc, lines, DEFAULT_LIMIT)?,
+        reply: [0; MAX_REPLY_LEN],
+    };
+    let told = send_all(alloc, &mut server, lines);
+    drop(server);
+    told.map(Some)
+}
