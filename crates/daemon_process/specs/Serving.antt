@@ -67,7 +67,7 @@ Spell = ℕ × ℕ
 abbrev pub IsSameSpell : Spell → Spell → Type 0
 IsSameSpell a b = a ≡ b
 
--- it begins to serve: a round is of another spell than the one before
+-- whether a round begins a new spell: its spell differs from the one in which the daemon served before
 abbrev pub begins : Spell → Spell → Bool
 begins was is = not ((was.0 == is.0) && (was.1 == is.1))
 

@@ -104,7 +104,7 @@ fn is_sound(alloc: Global, served: &mut Served, manifest: &Manifest, version: u1
     }
 }
 
-/// Returns whether nothing is raised of bytes, or what is sound.
+/// Returns whether nothing can be restored from `bytes`, or what is restored is sound.
 fn is_refused_or_sound(alloc: Global, manifest: &Manifest, version: u16, bytes: &[u8]) -> bool {
     match raised(alloc, manifest, bytes) {
         Ok(served) => {

@@ -56,8 +56,8 @@ fn is_too_long(alloc: Global, bytes: &[u8]) -> bool {
     }
 }
 
-/// Returns whether a text of `len` bytes is written again in version 1, or refused as too long if `len` is above
-/// 65,000.
+/// Returns whether the image in a text of `len` bytes is written in version 1 as the same bytes, or is refused as too
+/// long if `len` is above 65,000.
 fn is_first_written(alloc: Global, len: u32) -> bool {
     let text = sized(alloc, 1, len);
     if len > 65_000 {

@@ -1,4 +1,4 @@
-//! A tree whose files move: what stands where, and what tells it from its manifest's.
+//! A tree whose files move: where each file stands then, and how the tree differs from that of its manifest.
 use super::deeds::{Deed, MadeRow, Named, changes_again, differs, each_goes_so};
 use crate::again::{read_again, tree_again};
 use crate::small::SMALL;

@@ -192,8 +192,7 @@ fn finishes_from_nothing(alloc: Global) -> bool {
     }
 }
 
-/// Passes also if one allocation is refused. What a `do` made before the refusal stands, and the kernel is answered in
-/// the end.
+/// Passes also if one allocation is refused. What the `do` did until then is kept, and the kernel still gets an answer.
 #[test]
 fn finishes_a_do_after_memory_was_refused(rt: HostRuntime) {
     assert!(rt; finishes_from_nothing(rt.alloc()));
