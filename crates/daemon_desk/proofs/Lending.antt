@@ -10,7 +10,7 @@ use Rattle.fuse_wire.specs.declared.reply.Reply.{Reply}
 use Rattle.daemon.specs.Daemon.{DaemonState, lendable, lendable_with, lent_server}
 use Rattle.daemon.specs.declared.lease.Lease.{Lease}
 use Rattle.daemon.specs.Server.{ServerState, IsIdle}
-use Rattle.daemon_desk.specs.Desk.{is_generation, lendable_at, taking_at}
+use Rattle.daemon_desk.specs.Desk.{DeskState, is_generation, is_lent_at, lendable_at, taking_at}
 use Rattle.daemon_desk.specs.Inside.{IsOrderly, IsServedAt, knows}
 
 pub all_lendable : (server : Option ServerState) → IfSome server IsIdle → lendable server ≡ server
@@ -58,3 +58,13 @@ lends_at phase is_lent daemon (Some g) lease same orderly seat serves is =
 -- nothing is lent at another generation
 pub not_lent_at : (is_lent : Bool) (phase : Phase) (generation : ℕ) → seat_of phase ≢ Some generation → (is_lent && is_generation (taking_at phase) generation) ≡ false
 not_lent_at is_lent phase generation other = grind (arith, rules)
+
+-- a lease of this generation is out
+taking_of : (is_lent : Bool) (taking : Option ℕ) (generation : ℕ) → (is_lent && is_generation taking generation) ≡ true → taking ≡ Some generation
+taking_of true (Some g) generation is = grind (arith, rules)
+taking_of true None generation is = cc
+taking_of false taking generation is = cc
+
+pub taking_by_loan : (desk : DeskState) (phase : Phase) (generation : ℕ) → desk.daemon.node.phase ≡ phase → true ≡ is_lent_at desk generation → taking_at phase ≡ Some generation
+taking_by_loan desk phase generation same lent =
+    subst (λ (p : Phase). taking_at p ≡ Some generation) same (taking_of desk.is_lent (taking_at desk.daemon.node.phase) generation (sym lent))

@@ -224,7 +224,7 @@ impl DaemonDesk {
 
     /// Takes `lease` back after a round that is settled, and serves it on. If nothing is lent, or is lent at another
     /// generation, `lease` is dropped.
-    #[tactic(auto, using(crate::proofs::Lending::not_lent_at, crate::proofs::Keeping::returned_keeps))]
+    #[tactic(auto, using(crate::proofs::Lending::not_lent_at))]
     pub fn take_back(&mut self, lease: Lease)
         ensures returned { self.new ≡ returned self.old (lent_server lease) }
         ensures generation { seat_of self.old.daemon.node.phase ≢ Some lease.generation → self.new ≡ self.old }
