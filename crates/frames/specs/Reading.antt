@@ -136,7 +136,7 @@ body_in bytes = take (body_len bytes) (drop 5 bytes)
 abbrev pub behind : List ℕ → List ℕ
 behind bytes = drop (5 + body_len bytes) bytes
 
--- what is at the front, by what a body was read as: this frame with this rest after it, or this fault
+-- what is at the front of a stream, once its first body was read: the frame and the rest after it, or the fault
 abbrev pub said_frame : Result Frame FrameFault → List ℕ → Said
 said_frame (Ok frame) rest = First frame rest
 said_frame (Err fault) rest = Faulty fault

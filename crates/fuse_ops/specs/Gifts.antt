@@ -59,7 +59,7 @@ PlaceLaw =
     (served : ServedState) (parent : ℕ) (name : List ℕ) (dir file : FileId) → IsPlaced served parent name dir file →
     NumberAtPlace served.tree served.map (entry_at served.map.entries parent name) file
 
--- the count of a number fell by k; entries that are no longer of use left, and all else is unchanged
+-- the count of a number fell by k; entries that are no longer of use are struck, and all else is unchanged
 pub record Forgets (tree : Tree) (old new : MapState) (n k : ℕ) : Type 0 where
   pub sound : IsSound (served_over tree new)
   pub lowered : count_of new.entries n ≡ count_of old.entries n - k

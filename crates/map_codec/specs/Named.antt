@@ -51,7 +51,7 @@ TellsDirectory entries place Unwanted = (has_parent entries place ≡ true) × I
 TellsDirectory entries place (At i) = (has_parent entries place ≡ true) × IsDirectoryOf entries place (Some i)
 TellsDirectory entries place Missing = has_parent entries place ≡ false
 
--- for each entry, the index of its directory's entry; None if the directory needs none
+-- for each entry, the index of its directory's entry; None if the entry stands in the root or is unlinked
 pub record AreDirectories (entries : List Kept) (places : List (Option ℕ)) : Type 0 where
   pub len : length places ≡ length entries
   pub each : (i : ℕ) (kept : Kept) (at : Option ℕ) → slice_get entries i ≡ Some kept → slice_get places i ≡ Some at →

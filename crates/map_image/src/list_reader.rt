@@ -27,7 +27,8 @@ fn add_entry(entries: &mut Vec<Kept>, parents: &mut Vec<u64>, entry: Kept) -> Re
     }
 }
 
-/// Reads up to `left` entries, as far as they are whole. Returns how many of these are left then, and the rest.
+/// Reads up to `left` entries, and stops before one that is not whole. Returns how many are still to be read, and the
+/// bytes that were not read.
 pub(crate) fn more_entries<'a>(
     alloc: Global,
     form: VersionForm,
@@ -60,7 +61,8 @@ pub(crate) fn more_entries<'a>(
     Ok((0, rest))
 }
 
-/// Reads up to `left` made files, as far as they are whole. Returns how many of these are left then, and the rest.
+/// Reads up to `left` made files, and stops before one that is not whole. Returns how many are still to be read, and the
+/// bytes that were not read.
 pub(crate) fn more_made<'a>(
     left: u32,
     files: &mut Vec<Made>,
@@ -87,7 +89,8 @@ pub(crate) fn more_made<'a>(
     Ok((0, rest))
 }
 
-/// Reads up to `left` changed names, as far as they are whole. Returns how many of these are left then, and the rest.
+/// Reads up to `left` changed names, and stops before one that is not whole. Returns how many are still to be read, and the
+/// bytes that were not read.
 pub(crate) fn more_links<'a>(
     alloc: Global,
     left: u32,

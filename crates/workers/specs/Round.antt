@@ -10,8 +10,8 @@ use Rattle.workers.specs.declared.channel.Taken.{Taken}
 use Rattle.workers.specs.declared.channel.Posted.{Posted}
 use Rattle.workers.specs.declared.worker.Ending.TheVariants.{Broken}
 
--- each channel before a round became the one after it, by its worker's receipts; each worker ended well, OutOfRoom
--- exactly if its spare room is used, and else Done
+-- A round turned each channel of the first list into the one at the same index of the second, as its worker's receipts
+-- say. Each worker ended well: OutOfRoom if its spare room is used, else Done.
 abbrev pub AreServed :
     {C : Type 0} → (C → Taken → C → Type 0) → (C → Reply → Posted → C → Type 0) → Bool → (C → Told) → ℕ
     → List C → List C → List ReceiptsState → Type 0

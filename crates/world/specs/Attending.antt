@@ -81,12 +81,12 @@ of_reply measure reply = measure reply.unique
 abbrev pub of_taken : (ℕ → ℕ) → ℕ × Form → ℕ
 of_taken measure asked = measure asked.0
 
--- if the request is an ask, the broker waits for its reply, in the form of this ask
+-- if the request is an ask, the broker has it as taken and without a reply, with the form that its answer must have
 abbrev pub IsWaitedFor : TrafficState → Ask → Type 0
 IsWaitedFor traffic task = is_ask task.what ≡ true → form_asked traffic task.unique ≡ Some (form_of task.what)
 
 -- The taken asks that the broker has without a reply are the daemon's asks in hand and its unposted replies, as one bag
--- of uniques. For each ask in hand the broker waits in the ask's form, and it would take each unposted reply.
+-- of uniques. The broker has each ask in hand with its answer's form, and would take each unposted reply.
 pub record IsAwaited (traffic : TrafficState) (server : ServerState) : Type 0 where
   pub uniques : (measure : ℕ → ℕ) → sum_by (of_taken measure) traffic.taken
       ≡ sum_by (of_ask measure) server.hand + sum_by (of_reply measure) server.unposted
