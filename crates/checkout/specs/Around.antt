@@ -1,5 +1,5 @@
--- The first of some changed links whose target is its directory or above it, among links by directory and name. And
--- how files are coloured by whether they stand below themselves.
+-- Which changed link is the first whose target is the link's own directory, or stands above this directory. Links are a
+-- map from a directory and a name to a file. And how files are coloured by whether they stand below themselves.
 use Rattle.std.specs.Prelude.{◌≡◌, ◌<◌, ◌==◌, ℕ, Bool, true, false, List, [], ◌∷◌, map, slice_get, Option, Some, None, IsSome, is_some, if◌then◌else◌}
 use Rattle.std.specs.Coded.{Coded, coded_ℕ, coded_bool}
 use Rattle.std.specs.FinMap as map
@@ -15,19 +15,20 @@ use Rattle.manifest.specs.Manifest.{Manifest}
 use Rattle.checkout.specs.Overlay.{links_over, still}
 use Rattle.manifest.specs.Tree.{link_cmp, links_from}
 
--- the file at the end of some names, from a directory down
+-- the file to which the names lead, one after another, from a directory down; None if a name gives no file
 abbrev pub end_of : FinMap link_cmp FileId → FileId → List (List ℕ) → Option FileId
 end_of links dir [] = Some dir
 end_of links dir (name ∷ names) =
     option_and_then (λ (child : FileId). end_of links child names) (get links (dir.0, name))
 
--- the target of a link is its directory, or above it
+-- the target of a changed link is the link's own directory, or stands above this directory
 abbrev pub IsAbove : FinMap link_cmp FileId → LinkChange → Type 0
 IsAbove links change =
     (file : FileId) × (names : List (List ℕ)) × (change.target ≡ Some file)
     × (end_of links file names ≡ Some change.dir)
 
--- the first of some links that is above itself, by its place; nothing where none is
+-- the option is the index of the first change whose target is its own directory or above it, or None if no change is
+-- such
 abbrev pub IsFirstAbove : FinMap link_cmp FileId → List LinkChange → Option ℕ → Type 0
 IsFirstAbove links changes (Some place) =
     (change : LinkChange) × (slice_get changes place ≡ Some change) × IsAbove links change
@@ -36,80 +37,83 @@ IsFirstAbove links changes (Some place) =
 IsFirstAbove links changes None =
     (place : ℕ) (change : LinkChange) → slice_get changes place ≡ Some change → IsAbove links change → ⊥
 
--- a manifest's links, with those that were added and without those that are gone
+-- a manifest's links without those whose file is gone, together with the added links
 abbrev pub links_now : Manifest → FinMap link_cmp FileId → UnlinkedFiles → FinMap link_cmp FileId
 links_now m added gone = links_over added (is_gone gone) (links_from 2 m.lines)
 
--- no file stands twice
+-- no file stands at two places: two links that give the same file have the same directory and the same name
 pub record AreApart (links : FinMap link_cmp FileId) : Type 0 where
   pub apart : (dir other_dir : FileId) (name other_name : List ℕ) (file : FileId) →
       get links (dir.0, name) ≡ Some file → get links (other_dir.0, other_name) ≡ Some file →
       (dir ≡ other_dir) × (name ≡ other_name)
 
--- added links stand where the manifest has no link, or one that is gone
+-- each added link stands at a place where the manifest has no link, or a link whose file is gone
 abbrev pub AreBeside : FinMap link_cmp FileId → (ℕ → Bool) → FinMap link_cmp FileId → Type 0
 AreBeside added gone base =
     (dir : ℕ) (name : List ℕ) → IsSome (get added (dir, name)) → still gone (get base (dir, name)) ≡ None
 
--- a change's target is what stands at its place
+-- a change's target is the file that the links give at the change's place, or None if they give none there
 abbrev pub GivesTarget : FinMap link_cmp FileId → LinkChange → Type 0
 GivesTarget links change = get links (place_of change) ≡ change.target
 
--- the file stands in the directory
+-- some link in the directory gives the file
 abbrev pub StandsIn : FinMap link_cmp FileId → FileId → FileId → Type 0
 StandsIn links file dir = (name : List ℕ) × (get links (dir.0, name) ≡ Some file)
 
--- the directory in which the file stands; nothing where it stands in none
+-- the option is a directory in which the file stands, or None if the file stands in no directory
 abbrev pub IsDirAbove : FinMap link_cmp FileId → FileId → Option FileId → Type 0
 IsDirAbove links file None = (dir : FileId) → StandsIn links file dir → ⊥
 IsDirAbove links file (Some dir) = StandsIn links file dir
 
--- some names lead from a file to another, or it is the other
+-- some names lead from the first file down to the second, or both are the same file
 abbrev pub Leads : FinMap link_cmp FileId → FileId → FileId → Type 0
 Leads links from file = (names : List (List ℕ)) × (end_of links from names ≡ Some file)
 
--- the file stands below another, or below itself: then it is on a circle
+-- the file stands below `top`. A file that stands below itself is on a circle of links
 pub record IsUnder (links : FinMap link_cmp FileId) (top file : FileId) : Type 0 where
   pub dir : FileId
   pub to_dir : Leads links top dir
   pub stands : StandsIn links file dir
 
--- it is one of the files
+-- whether the list contains the file
 abbrev pub among : FileId → List FileId → Bool
 among file files = list_any (λ (f : FileId). f.0 == file.0) files
 
--- the files from one of them on; none where it isn't among them
+-- the rest of the list from a file on, with this file; empty if the list doesn't contain the file
 abbrev pub from_file : FileId → List FileId → List FileId
 from_file file [] = []
 from_file file (f ∷ files) = if f.0 == file.0 then f ∷ files else from_file file files
 
--- the first of a way up, or what is above its end
+-- the first file of a way up; for an empty way, what is above its end
 abbrev pub first_or : List FileId → Option FileId → Option FileId
 first_or [] top = top
 first_or (file ∷ way) top = Some file
 
--- a way up: each of its files stands in the next, and the last in what is above the end, if anything is
+-- the list is a way up: each of its files stands in the next. The last stands in `top`, or in no directory if `top` is
+-- None
 abbrev pub IsWay : FinMap link_cmp FileId → List FileId → Option FileId → Type 0
 IsWay links [] top = Unit {0}
 IsWay links (file ∷ way) top = IsDirAbove links file (first_or way top) × IsWay links way top
 
--- how the colours of files are stored, by which a proof tells them apart
+-- the code of a map of colours, by which a proof tells two such maps apart
 abbrev pub colours_code : Coded (map.FinMap nat_cmp Bool)
 colours_code = map.code coded_ℕ coded_bool
 
--- files with the colour of being on a circle, or of not being on one; with a file, what is above it has one
+-- the colours are right: a file with true is on a circle, and a file with false is on none. If a file has a colour, the
+-- directory in which it stands has a colour too
 pub record AreRight (links : FinMap link_cmp FileId) (colours : FinMap nat_cmp Bool) : Type 0 where
   pub on : (file : FileId) → get colours file.0 ≡ Some true → IsUnder links file file
   pub off : (file : FileId) → get colours file.0 ≡ Some false → IsUnder links file file → ⊥
   pub closed : (file dir : FileId) → is_some (get colours file.0) ≡ true → StandsIn links file dir →
       is_some (get colours dir.0) ≡ true
 
--- colours with some files given one
+-- the new colours are the old ones, except that each of the files has this colour
 abbrev pub AreSet : List FileId → Bool → FinMap nat_cmp Bool → FinMap nat_cmp Bool → Type 0
 AreSet files colour old new =
     (file : FileId) → get new file.0 ≡ (if among file files then Some colour else get old file.0)
 
--- a way up of files without a colour, which have that of no circle now
+-- the files of a way up have no colour in `old`. In `new` they have the colour of files on no circle, and other files
+-- keep theirs
 pub record IsClimb (links : FinMap link_cmp FileId) (old new : FinMap nat_cmp Bool) (way : List FileId)
     (top : Option FileId) : Type 0 where
   pub is_way : IsWay links way top
@@ -120,7 +124,7 @@ pub record IsClimb (links : FinMap link_cmp FileId) (old new : FinMap nat_cmp Bo
 abbrev pub ids : List FileId → List ℕ
 ids files = map (λ (f : FileId). f.0) files
 
--- what is above the end of a way up has a colour, if anything is there
+-- the file above the end of a way up has a colour, or there is no such file
 abbrev pub IsEnd : FinMap nat_cmp Bool → Option FileId → Type 0
 IsEnd colours None = Unit {0}
 IsEnd colours (Some top) = is_some (get colours top.0) ≡ true

@@ -1,4 +1,4 @@
--- The tree of a manifest with changes made, and why it is not made. (This project's own.)
+-- The tree of a manifest after changes, and the faults with which it is refused. (This project's own.)
 use Rattle.std.specs.Prelude.{◌≡◌, ℕ, List, [], ◌∷◌, Option, Some, None}
 use Rattle.std.specs.FinMap.{FinMap, insert, remove}
 use Rattle.std.specs.Ordering.{nat_cmp}
@@ -14,22 +14,22 @@ use Rattle.manifest.specs.Manifest.{File, Manifest}
 use Rattle.manifest.specs.Tree.{Tree, files_from, link_cmp, links_from}
 use Rattle.checkout.specs.ChangedTree.{made_file}
 
--- files, and those that were made beside them
+-- the files together with the made files
 abbrev pub files_with : FinMap nat_cmp File → List Made → FinMap nat_cmp File
 files_with files [] = files
 files_with files (made ∷ rest) = insert (files_with files rest) made.file.0 (made_file made.kind made.perm)
 
--- links, of which one place gives this file now, or none
+-- the links, except that this place gives the target; without a target no link stands there
 abbrev pub put : FinMap link_cmp FileId → ℕ × List ℕ → Option FileId → FinMap link_cmp FileId
 put links place None = remove links place
 put links place (Some file) = insert links place file
 
--- links, with what changed of them
+-- the links after the changes. Of two changes at one place the earlier in the list counts
 abbrev pub links_with : FinMap link_cmp FileId → List LinkChange → FinMap link_cmp FileId
 links_with links [] = links
 links_with links (change ∷ rest) = put (links_with links rest) (place_of change) change.target
 
--- the tree of a manifest with all changes made
+-- the tree of a manifest after all changes
 abbrev pub changed : Manifest → Changes → Tree
 changed m c = record {
   manifest = m;
@@ -38,7 +38,8 @@ changed m c = record {
   next_file = c.next_file.0;
 }
 
--- the first bad change; or memory was refused, and no change was bad by itself
+-- the fault is right: `BadChange` has the position of the first bad change, and with `NoMemory` no change is bad by
+-- itself
 abbrev pub IsChangeRefusal : Manifest → Changes → ChangeFault → Type 0
 IsChangeRefusal m c (BadChange place) = IsBadChange m c (Some place)
 IsChangeRefusal m c NoMemory = bad_itself m c ≡ None

@@ -1,5 +1,5 @@
--- What requests find of a tree that changes, beyond its files and names, and what they make of it. An unlinked file
--- stays. (EdenFS's documents on inodes and the overlay; `nlink` is that of stat(2).)
+-- What requests read of a tree, beyond its files and names, and the trees that they make of it. A file that is unlinked
+-- stays in the tree. (EdenFS's documents on inodes and the overlay; `nlink` is that of stat(2).)
 use Rattle.std.specs.Prelude.{ℕ, ◌+◌, Bool, ◌&&◌, ◌==◌, not, nat_lt, List, length, Option, None, if◌then◌else◌}
 use Rattle.std.specs.Option.{option_map}
 use Rattle.std.specs.List.{list_any}
@@ -11,44 +11,44 @@ use Rattle.eden_base.specs.declared.number.FileId.{FileId}
 use Rattle.manifest.specs.Manifest.{File}
 use Rattle.manifest.specs.Tree.{Tree, file_of, kind_of, is_dir, nlink_of_kind}
 
--- some link gives the file
+-- whether some link gives the file
 abbrev pub is_linked : Tree → FileId → Bool
 is_linked tree file = list_any (λ (link : (ℕ × List ℕ) × FileId). link.1.0 == file.0) (entries tree.links)
 
--- the file is not the root, and no link gives it
+-- whether a file is unlinked: it is not the root, and no link gives it
 abbrev pub is_unlinked : Tree → FileId → Bool
 is_unlinked tree file = not (file.0 == 1) && not (is_linked tree file)
 
--- some link stands in the directory
+-- whether some link stands in the directory
 abbrev pub has_links : Tree → FileId → Bool
 has_links tree dir = list_any (λ (link : (ℕ × List ℕ) × FileId). link.0.0 == dir.0) (entries tree.links)
 
--- a directory of the tree in which no link stands
+-- whether the file is a directory of the tree in which no link stands
 abbrev pub is_empty_dir : Tree → FileId → Bool
 is_empty_dir tree dir = is_dir (kind_of tree dir) && not (has_links tree dir)
 
--- how many names lead to a file of this kind: an unlinked one has none
+-- the count of links of a file of this kind: 0 if the file is unlinked, else the constant of the kind
 abbrev pub nlink_of : Tree → FileId → Kind → ℕ
 nlink_of tree file kind = if is_unlinked tree file then 0 else nlink_of_kind kind
 
--- what a daemon tells the kernel of a file of the tree
+-- the attributes that a daemon tells the kernel of a file, or None if the tree does not have the file
 abbrev pub attr_of : Tree → FileId → Option Attr
 attr_of tree file =
     option_map
     (λ (f : File). record { kind = f.kind; perm = f.perm; size = f.size; nlink = nlink_of tree file f.kind })
     (file_of tree file)
 
--- the permissions of a file that was made after the manifest
+-- the permissions of a file that was made since the manifest; None for any other file
 abbrev pub perm_made : Tree → FileId → Option Perm
 perm_made tree file =
     if nat_lt file.0 (length tree.manifest.lines + 2) then None
     else option_map (λ (f : File). f.perm) (file_of tree file)
 
--- a directory in which a link stands
+-- whether the file is a directory of the tree in which some link stands
 abbrev pub is_full_dir : Tree → FileId → Bool
 is_full_dir tree file = is_dir (kind_of tree file) && has_links tree file
 
--- the file that would be made next
+-- the id of the file that would be made next
 abbrev pub next_file : Tree → FileId
 next_file tree = record { 0 = tree.next_file }
 
@@ -56,7 +56,7 @@ next_file tree = record { 0 = tree.next_file }
 abbrev pub made_file : Kind → Perm → File
 made_file kind perm = record { kind = kind; perm = perm; size = 0 }
 
--- the tree with its next file made, under a name in a directory
+-- the tree after its next file was made, under a name in a directory
 abbrev pub created : Tree → FileId → List ℕ → Kind → Perm → Tree
 created tree dir name kind perm = record {
   manifest = tree.manifest;
@@ -65,7 +65,7 @@ created tree dir name kind perm = record {
   next_file = tree.next_file + 1;
 }
 
--- the tree without the link under a name in a directory; the file stays
+-- the tree without the link under a name in a directory; the link's file stays
 abbrev pub removed : Tree → FileId → List ℕ → Tree
 removed tree dir name = record {
   manifest = tree.manifest;

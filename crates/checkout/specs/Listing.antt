@@ -15,21 +15,21 @@ use Rattle.manifest.specs.Tree.{link_cmp}
 abbrev pub listed_file : ℕ × MadeFile → Made
 listed_file e = record { file = record { 0 = e.0 }; kind = e.1.kind; perm = e.1.perm }
 
--- a line's place gives nothing, unless a link was added there
+-- the change by which a line's place gives nothing. None if a link was added at this place, or if there is no line
 abbrev pub gone_change : FinMap link_cmp FileId → Option Line → Option LinkChange
 gone_change added None = None
 gone_change added (Some line) =
     if is_some (get added (line.dir.0, line.name)) then None
     else Some (record { dir = line.dir; name = line.name; target = None })
 
--- the same for each file that is gone
+-- the changes that `gone_change` makes of the lines of these files, in the order of the files
 abbrev pub gone_changes : FinMap link_cmp FileId → List Line → List ℕ → List LinkChange
 gone_changes added lines files = filter_map (λ file. gone_change added (slice_get lines (file - 2))) files
 
--- the files have lines
+-- each of the files has a line in the manifest
 abbrev pub HaveLines : List Line → List ℕ → Type 0
 HaveLines lines files = AllByRecursion (λ file. (2 ≤ file) × (file < length lines + 2)) files
 
--- a link gives another file than the manifest has at its place, or none where the manifest has one
+-- whether a changed link's target is another than the manifest has at this place; either may be None
 abbrev pub differs : Manifest → LinkChange → Bool
 differs m change = not (gives_same change.target (base_target m change))

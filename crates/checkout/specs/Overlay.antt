@@ -9,7 +9,7 @@ use Rattle.manifest.specs.Manifest.{File, Line, Manifest, IsManifest}
 use Rattle.manifest.specs.Tree.{Tree, IsTree, link_cmp, files_from, links_from}
 use Rattle.checkout.specs.ChangedTree.{made_file}
 
--- a file of the manifest, below the root
+-- whether the file is one of the manifest's, below the root
 abbrev pub is_line : Manifest → FileId → Bool
 is_line m file = nat_le 2 file.0 && nat_lt file.0 (length m.lines + 2)
 
@@ -17,25 +17,25 @@ is_line m file = nat_le 2 file.0 && nat_lt file.0 (length m.lines + 2)
 abbrev pub file_made : MadeFile → File
 file_made m = made_file m.kind m.perm
 
--- made files, and those of a manifest
+-- the made files together with those of a manifest
 abbrev pub files_over : FinMap nat_cmp MadeFile → FinMap nat_cmp File → FinMap nat_cmp File
 files_over made base = from_entries (map (λ (e : ℕ × MadeFile). (e.0, file_made e.1)) (entries made) ++ entries base)
 
--- a link of the manifest stays where its file's is not gone
+-- whether a link of the manifest stays: its file is not gone. Also true if there is no file
 abbrev pub stays : (ℕ → Bool) → Option FileId → Bool
 stays gone None = true
 stays gone (Some file) = not (gone file.0)
 
--- what a link of the manifest gives still
+-- the file that a link of the manifest still gives; None if this file is gone, or if there is no link
 abbrev pub still : (ℕ → Bool) → Option FileId → Option FileId
 still gone None = None
 still gone (Some file) = if gone file.0 then None else Some file
 
--- links that were added, and those of a manifest that are not gone
+-- the added links together with those links of a manifest whose file is not gone
 abbrev pub links_over : FinMap link_cmp FileId → (ℕ → Bool) → FinMap link_cmp FileId → FinMap link_cmp FileId
 links_over added gone base = from_entries (entries added ++ entries (retain_keys base (λ k. stays gone (get base k))))
 
--- the tree that differs so from a manifest's
+-- the tree that differs from a manifest's by these made files, added links and files that are gone
 abbrev pub tree_over : Manifest → FinMap nat_cmp MadeFile → FinMap link_cmp FileId → (ℕ → Bool) → ℕ → Tree
 tree_over m made added gone next = record {
   manifest = m;
@@ -44,24 +44,24 @@ tree_over m made added gone next = record {
   next_file = next;
 }
 
--- how many lines of a directory are gone, where the first line is of this file
+-- how many of the lines are in the directory and have a file that is gone. The file of the first line has the given id
 abbrev pub lost_in : (ℕ → Bool) → ℕ → ℕ → List Line → ℕ
 lost_in gone dir id [] = 0
 lost_in gone dir id (l ∷ ls) = (if (l.dir.0 == dir) && gone id then 1 else 0) + lost_in gone dir (id + 1) ls
 
--- what holds of such differences, whether or not they leave a tree
+-- the differences fit the manifest, whether or not they make a tree
 pub record AreParts (m : Manifest) (made : FinMap nat_cmp MadeFile) (added : FinMap link_cmp FileId)
     (gone : ℕ → Bool) (lost : ℕ → ℕ) : Type 0 where
   pub is_manifest : IsManifest m
   pub made_are_later : (file : ℕ) → IsSome (get made file) → length m.lines + 2 ≤ file
-  -- a link that was added stands where the manifest has no link, or one that is gone. It may give the same file: one that
-  -- moved away and came back
+  -- an added link stands where the manifest has no link, or a link whose file is gone. It may give this same file, if
+  -- the file moved away and came back
   pub added_are_apart : (dir : ℕ) (name : List ℕ) → IsSome (get added (dir, name)) →
       still gone (get (links_from 2 m.lines) (dir, name)) ≡ None
   pub gone_are_lines : (file : FileId) → gone file.0 ≡ true → is_line m file ≡ true
   pub lost_are_counted : (dir : ℕ) → lost dir ≡ lost_in gone dir 2 m.lines
 
--- what holds of the differences of a tree
+-- the differences fit the manifest, and make a tree
 pub record IsOverlay (m : Manifest) (made : FinMap nat_cmp MadeFile) (added : FinMap link_cmp FileId)
     (gone : ℕ → Bool) (lost : ℕ → ℕ) (next : ℕ) : Type 0 where
   pub parts : AreParts m made added gone lost

@@ -14,47 +14,48 @@ use Rattle.checkout.specs.Overlay.{is_line}
 use Rattle.manifest.specs.Tally.{Tally}
 use Rattle.manifest.specs.Tree.{link_cmp}
 
--- the place of the first of which a test holds
+-- the index of the first change of which a test holds, or None. `place` is the index of the list's first change
 abbrev pub first_of : (LinkChange → Bool) → ℕ → List LinkChange → Option ℕ
 first_of test place [] = None
 first_of test place (change ∷ rest) = if test change then Some place else first_of test (place + 1) rest
 
--- whether several changes gave a file, where one did, after one more
+-- the mark of a file after one more change. A mark is None before a change gave the file, and then says whether several
+-- did
 abbrev pub mark_after : ℕ → Option Bool → Option FileId → Option Bool
 mark_after file mark None = mark
 mark_after file mark (Some target) = if target.0 == file then Some (is_some mark) else mark
 
--- the same after some more
+-- the mark of a file after all changes of a list
 abbrev pub marked : ℕ → Option Bool → List LinkChange → Option Bool
 marked file mark [] = mark
 marked file mark (change ∷ rest) = marked file (mark_after file mark change.target) rest
 
--- several gave it
+-- whether a mark says that several changes gave the file
 abbrev pub is_marked : Option Bool → Bool
 is_marked None = false
 is_marked (Some several) = several
 
--- a link of the manifest gives the file of a change still, or several changes give it
+-- whether a link of the manifest still gives the target of a change, or several changes give this target
 abbrev pub is_given_twice : Manifest → (ℕ → Bool) → (ℕ → Option Bool) → LinkChange → Bool
 is_given_twice m gone marks change =
     file_does (λ file. (is_line m file && not (gone file.0)) || is_marked (marks file.0)) change.target
 
--- some link is added in a directory
+-- whether some added link stands in a directory
 abbrev pub has_added : FinMap link_cmp FileId → FileId → Bool
 has_added added dir = list_any (λ link. link.0.0 == dir.0) (entries added)
 
--- links stand in a directory, and none gives it
+-- whether a directory is cut off: it is not the root, no link gives it, and some link stands in it
 abbrev pub is_cut : Manifest → FinMap link_cmp FileId → (ℕ → Bool) → (ℕ → ℕ) → FileId → Bool
 is_cut m added gone lost dir =
     not (dir.0 == 1) && not (gives added dir || (is_line m dir && not (gone dir.0)))
     && (has_added added dir || nat_lt (lost dir.0) (kids_in dir.0 m.lines))
 
--- the directory of a change is cut off so, or the file that the manifest has in its place
+-- whether the directory of a changed link is cut off, or the file that the manifest has at the link's place
 abbrev pub cuts : Manifest → FinMap link_cmp FileId → (ℕ → Bool) → (ℕ → ℕ) → LinkChange → Bool
 cuts m added gone lost change =
     is_cut m added gone lost change.dir || file_does (is_cut m added gone lost) (base_target m change)
 
--- changes of which neither of two rounds found one bad, laid over a manifest
+-- the changes are laid over the manifest as `added`, `gone` and `lost`, and the first two rounds find no bad change
 pub record AreLaid (m : Manifest) (c : Changes) (added : FinMap link_cmp FileId) (gone : UnlinkedFiles) (lost : Tally) :
     Type 0 where
   pub is_manifest : IsManifest m
