@@ -9,13 +9,14 @@ use std::alloc::Global;
 use std::collections::HashMap;
 use std::marker::Model;
 
-/// The added links. Each gives a file that was made, or one of the manifest that left its line's name: it stands
-/// elsewhere, or came back. Both kinds are in one map, so that what makes its two ends agree is said once.
+/// The added links. Each gives a made file, or a file of the manifest that moved away from its line's name. Such a file
+/// stands under another name, or came back to its own. Both kinds are in one map, so that only one place keeps `links`
+/// and `dirs` in agreement.
 #[derive(Drop)]
 pub struct Added {
     links: Links,
-    /// The directory in which the link of a file stands. Ids are the tree's own to give, so a hash with a fixed seed
-    /// serves.
+    /// The directory in which the added link of a file stands, by the file's id. Only the tree gives ids, so a hash
+    /// with a fixed seed suffices.
     dirs: HashMap<u64, FileId>,
 }
 
@@ -48,14 +49,14 @@ impl Added {
         }
     }
 
-    /// Returns the links by directory and name.
+    /// Returns the added links, by directory and name.
     pub fn links(&self) -> &Links
         ensures { result.now ≡ self.now }
     {
         &self.links
     }
 
-    /// Returns the directory in which a link gives the file.
+    /// Returns the directory in which an added link gives the file, or none if no added link gives it.
     pub fn dir_of(&self, file: FileId) -> Option<FileId>
         ensures { MatchOption result (gives self.now file ≡ false) (λ dir.
             (name : List ℕ) × (get self.now (dir.0, name) ≡ Some file)) }
@@ -63,7 +64,8 @@ impl Added {
         self.dirs.get(&file.0).copied()
     }
 
-    /// Lets a new name in a directory give a file that no link gives.
+    /// Adds a link by which `name` in `dir` gives `file`. This name must be free, and no added link may give `file`. If
+    /// memory is refused, nothing changes.
     pub fn insert(
         &mut self,
         alloc: Global,
@@ -84,7 +86,8 @@ impl Added {
         Ok(())
     }
 
-    /// Takes a name out of a directory, and returns the file that it gave. Takes no memory.
+    /// Removes the added link under `name` in `dir`, and returns its file, or none if there is no such link. Takes no
+    /// memory.
     pub fn remove(&mut self, dir: FileId, name: &[u8]) -> Option<FileId>
         ensures value { result ≡ get self.old (dir.0, name.now) }
         ensures links { self.new ≡ remove self.old (dir.0, name.now) }
@@ -94,8 +97,8 @@ impl Added {
         Some(file)
     }
 
-    /// Lets a name in a directory give a file in place of what it gave, if anything. The name under which the file was
-    /// added before, if it was, goes.
+    /// Lets `to_name` in `to_dir` give `file`, in place of the file that this name gave, if any. Removes the link under
+    /// `name` in `dir`, if one was added there. If memory is refused, nothing changes.
     pub fn rename(
         &mut self,
         alloc: Global,

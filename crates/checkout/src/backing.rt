@@ -9,40 +9,40 @@ use manifest::{Content, Manifest};
 use std::marker::Model;
 use thiserror::Error;
 
-/// The store gave no answer. It may give one when it is asked again.
+/// The fault of a store that gave no answer. The store may give one when it is asked again.
 #[derive(Clone, Copy, Debug, PartialEq, Eq, Error)]
 #[error("the backing of the checkout failed")]
 pub struct BackingFault;
 
-/// A store of a commit's files. What it holds never changes; it may fail to tell it.
+/// A store of a commit's files. What the store holds never changes, but a call that asks for a file may fail.
 pub trait Backing {
-    /// The content of each file that it holds.
+    /// The content of each file that the store holds; none for any other file.
     ghost content: { Self → FileId → Option Content };
 
-    /// How often it failed.
+    /// How often the store failed.
     ghost failed: { Self → ℕ };
 
-    /// Whether it answers when it is asked next, if that is known beforehand.
+    /// Whether the store answers when it is asked next; none if this isn't known beforehand.
     ghost will_answer: { Self → Option Bool };
 
-    /// Returns the attributes of a file that the store holds. The count of its names is the tree's to tell: an unlinked
-    /// file has none.
+    /// Returns the kind, permissions and size of a file that the store holds. The count of the file's links isn't among
+    /// them: the tree tells it, and it is 0 for an unlinked file.
     fn attr(&mut self, file: FileId) -> Result<Content, BackingFault>
         requires held { IsSome (content self.old file) }
         ensures attr { IfOk result (λ attr. content self.old file ≡ Some attr) }
         ensures same_content { (other : FileId) → content self.new other ≡ content self.old other }
-        // an answer doesn't count, and a fault does
+        // an answer leaves the count of failures as it is, and a fault raises it
         ensures answered { OnOk result (failed self.new ≡ failed self.old) }
         ensures failed { OnErr result (failed self.old < failed self.new) }
-        // what is known beforehand comes true
+        // if `will_answer` knows whether the store answers, the result agrees
         ensures as_known { IfSome (will_answer self.old) (λ will. is_ok result ≡ will) };
 
-    /// Returns how often it failed.
+    /// Returns how often the store failed.
     fn failures(&self) -> u64
         ensures failures { result ≡ failed self.now };
 }
 
-/// The store that a manifest is itself. It takes no memory and never fails.
+/// A store that reads a manifest. It takes no memory and never fails.
 #[derive(Drop)]
 pub struct ManifestBacking<'a> {
     manifest: &'a Manifest,
@@ -60,7 +60,7 @@ impl<'a> Model for ManifestBacking<'a> {
 }
 
 impl<'a> ManifestBacking<'a> {
-    /// Returns the backing that tells what this manifest says.
+    /// Returns the store that reads `manifest`.
     pub fn of(manifest: &'a Manifest) -> ManifestBacking<'a>
         ensures manifest { result ≡ manifest.now }
     {

@@ -1,4 +1,5 @@
-//! What tells a tree from the tree of its manifest, as data: it travels in an image. The modules below check it.
+//! The changes that tell a tree from the tree of its manifest, as data that an image contains. The modules below check
+//! such changes and lay them over a manifest.
 ghost use Rattle.std.specs.Prelude.{◌≡◌};
 
 mod around;
@@ -22,7 +23,7 @@ pub struct Made {
     pub perm: Perm,
 }
 
-/// Files that were made, in order.
+/// A list of made files, in the order of the vector that it was made of.
 #[derive(Drop)]
 pub struct MadeList {
     files: Vec<Made>,
@@ -38,7 +39,7 @@ impl Model for MadeList {
 }
 
 impl MadeList {
-    /// Returns the list of these files. Takes no memory.
+    /// Makes the list of `files`. Takes no memory.
     pub fn of(files: Vec<Made>) -> MadeList
         ensures files { result ≡ files.items }
     {
@@ -52,7 +53,7 @@ impl MadeList {
         self.files.as_slice()
     }
 
-    /// Gives the files back. Takes no memory.
+    /// Returns the files as a vector, in their order. Takes no memory.
     pub fn into_vec(self) -> Vec<Made>
         ensures files { result.items ≡ self }
     {
@@ -60,7 +61,8 @@ impl MadeList {
     }
 }
 
-/// Names whose file differs from the manifest's, in order.
+/// A list of changed links, in the order of the vector that it was made of. A changed link is a name that gives another
+/// file than in the manifest, or none.
 #[derive(Drop)]
 pub struct LinkList {
     links: Vec<LinkChange>,
@@ -76,21 +78,21 @@ impl Model for LinkList {
 }
 
 impl LinkList {
-    /// Returns the list of these names. Takes no memory.
+    /// Makes the list of `links`. Takes no memory.
     pub fn of(links: Vec<LinkChange>) -> LinkList
         ensures links { result ≡ links.items }
     {
         LinkList { links }
     }
 
-    /// Returns the names in their order.
+    /// Returns the changed links in their order.
     pub fn as_slice(&self) -> &[LinkChange]
         ensures links { result.now ≡ self.now }
     {
         self.links.as_slice()
     }
 
-    /// Gives the names back. Takes no memory.
+    /// Returns the changed links as a vector, in their order. Takes no memory.
     pub fn into_vec(self) -> Vec<LinkChange>
         ensures links { result.items ≡ self }
     {
@@ -98,8 +100,9 @@ impl LinkList {
     }
 }
 
-/// What tells a tree from its manifest's: the files that were made by rising id, the names that give another file or
-/// none by rising directory and bytes, and the file that would be made next.
+/// What tells a tree from the tree of its manifest. `made` has the made files, by rising id. `links` has the names that
+/// give another file or none, by rising directory and then by the bytes of the name. `next_file` is the file that would
+/// be made next.
 #[derive(Drop)]
 pub struct Changes {
     pub made: MadeList,

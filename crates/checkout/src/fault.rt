@@ -17,7 +17,8 @@ pub enum CreateFault {
 /// Why changes make no tree of a manifest.
 #[derive(Clone, Copy, Debug, PartialEq, Eq, Error)]
 pub enum ChangeFault {
-    /// The position of the first bad change: 0 for the next file, then the made files and the changed links from 1.
+    /// The position of the first bad change. The next file has position 0. From 1 on come the made files, and after
+    /// them the changed links.
     #[error("change {0} is bad")]
     BadChange(usize),
     #[error("out of memory")]

@@ -9,7 +9,7 @@ use std::alloc::Global;
 use std::collections::BTreeMap;
 use std::marker::Model;
 
-/// A file that was made. It stays when its link goes.
+/// A file that was made. It stays when its link is removed.
 #[derive(Clone, Copy)]
 pub struct MadeFile {
     pub kind: Kind,
@@ -48,14 +48,15 @@ impl MadeFiles {
         }
     }
 
-    /// Returns a file that was made.
+    /// Returns the made file with this id, or none.
     pub fn get(&self, file: FileId) -> Option<MadeFile>
         ensures { result ≡ get self.now file.0 }
     {
         self.files.get(&file.0).copied()
     }
 
-    /// Adds a file, or puts one in the place of the file with its id.
+    /// Adds a file, in place of the file with the same id, if there is one. Memory is refused only for a new id, and
+    /// then nothing changes.
     pub fn insert(&mut self, file: FileId, made: MadeFile) -> Result<(), NoMemory>
         ensures ok { OnOk result (self.new ≡ insert self.old file.0 made) }
         ensures err { OnErr result (self.new ≡ self.old) }

@@ -1,4 +1,4 @@
-//! The order of names that differ from the manifest's.
+//! The order of changed links: names that give another file than in the manifest, or none.
 ghost use Rattle.std.specs.Prelude.{◌≡◌};
 ghost use Rattle.std.specs.Ordering.{is_lt};
 ghost use Rattle.std.specs.List.Sorted.{IsPermutation, IsSortedBy};

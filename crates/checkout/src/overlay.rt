@@ -1,4 +1,5 @@
-//! The names of a tree that is laid over a manifest's, by its parts. They may not make a tree yet.
+//! What the parts of a tree say of its names: the manifest, the added links, and what is gone of the manifest's. The
+//! parts may not make a tree yet.
 ghost use Rattle.std.specs.Prelude.{◌≡◌, ◌==◌, ◌&&◌, ◌||◌, ℕ, filter, nat_lt, not};
 ghost use Rattle.std.specs.FinMap.{entries, get};
 ghost use Rattle.std.specs.List.{list_any};
@@ -19,21 +20,21 @@ use crate::unlinked_files::UnlinkedFiles;
 use eden_base::FileId;
 use manifest::{LinkChange, Manifest, Tally, line_of};
 
-/// Returns whether the file is one of the manifest, below the root.
+/// Returns whether the file is one of the manifest's, below the root.
 pub fn is_line(manifest: &Manifest, file: FileId) -> bool
     ensures { result ≡ is_line manifest.now file }
 {
     2 <= file.0 && file.0 < manifest.lines().len() as u64 + 2
 }
 
-/// Returns whether a link of the manifest gives the file still.
+/// Returns whether a link of the manifest still gives the file.
 pub fn is_left(manifest: &Manifest, gone: &UnlinkedFiles, file: FileId) -> bool
     ensures { result ≡ (is_line manifest.now file && not (is_gone gone.now file.0)) }
 {
     is_line(manifest, file) && !gone.has(file)
 }
 
-/// Returns whether some name leads to the file. None leads to the root.
+/// Returns whether some name leads to the file. No name leads to the root.
 pub fn is_linked(manifest: &Manifest, added: &Added, gone: &UnlinkedFiles, file: FileId) -> bool
     ensures { result ≡ (gives added.now file || (is_line manifest.now file && not (is_gone gone.now file.0))) }
 {
@@ -48,7 +49,7 @@ pub fn has_links(manifest: &Manifest, added: &Added, lost: &Tally, dir: FileId) 
     added.links().has_links(dir) || lost.count(dir.0) < manifest.kids(dir)
 }
 
-/// Returns the directory in which a link gives the file.
+/// Returns the directory in which a link gives the file, or none if no link gives it.
 pub fn dir_above(
     manifest: &Manifest,
     added: &Added,
@@ -68,7 +69,8 @@ pub fn dir_above(
     Some(line.dir)
 }
 
-/// Lets the manifest's link under a name go, if there is one that is not gone. Takes no memory.
+/// Records in `gone` and `lost` that the manifest's link under `name` in `dir` is gone. Does nothing if there is no
+/// such link, or if it is gone already. Takes no memory.
 pub fn lose(
     manifest: &Manifest,
     gone: &mut UnlinkedFiles,
@@ -91,14 +93,14 @@ pub fn lose(
     lost.raise(dir.0);
 }
 
-/// Returns whether a name gives another file than the manifest says, or none where it says one.
+/// Returns whether the target of `link` is another than the manifest has at this place; either may be none.
 fn differs(manifest: &Manifest, link: &LinkChange) -> bool
     ensures { result ≡ differs manifest.now link.now }
 {
     !gives_same(link.target, manifest.child(link.dir, link.name.bytes()))
 }
 
-/// Leaves out each name that gives what the manifest says: its file moved away and came back.
+/// Removes from `links` each one whose target is what the manifest has at its place: the file moved away and came back.
 pub fn leave_out_same(manifest: &Manifest, links: &mut Vec<LinkChange>)
     ensures { links.new.items ≡ filter (differs manifest.now) links.old.items }
 {

@@ -26,10 +26,10 @@ use manifest::{Content, Manifest, Tally, nlink_of_kind};
 use std::alloc::Global;
 use std::marker::Model;
 
-/// The tree that the requests of a mount read and change. It starts as its manifest says, and holds only what differs
-/// from it, or did before a file came back to its name: the made files, the added links, the manifest's files that lost
-/// their link, and how many links each directory lost. The room for losses is taken at once, so that every name can be
-/// removed without memory.
+/// The tree that the requests of a mount read and change. It starts as its manifest says. It holds only what differs
+/// from the manifest, or did before a file came back to its name: the made files, the added links, the manifest's files
+/// that lost their link, and how many links each directory lost. The room for losses is taken at once, so that every
+/// name can be removed without memory.
 #[derive(Drop)]
 pub struct Tree {
     alloc: Global,
@@ -61,7 +61,7 @@ impl Model for Tree {
 }
 
 impl Tree {
-    /// Makes the tree that the manifest says, before any request.
+    /// Makes the tree of the manifest, as it is before any request.
     pub fn of(alloc: Global, manifest: &Manifest) -> Result<Tree, NoMemory>
         ensures tree { IfOk result (λ tree. tree ≡ tree_of manifest.now) }
         ensures is_tree { IfOk result IsTree }
@@ -81,8 +81,8 @@ impl Tree {
         })
     }
 
-    /// Makes the tree of a manifest with these changes, or returns the first bad one. The cost grows with the changes
-    /// and the directories above them, and with the room for losses.
+    /// Makes the tree of a manifest after these changes, or returns the position of the first bad change. The cost
+    /// grows with the changes and the directories above them, and with the room for losses.
     pub fn with_changes(
         alloc: Global,
         manifest: &Manifest,
@@ -110,7 +110,7 @@ impl Tree {
         })
     }
 
-    /// Returns the name of the manifest's commit.
+    /// Returns the commit that names the manifest.
     pub fn commit(&self) -> [u8; 20]
         ensures commit { result ≡ self.now.manifest.commit }
         ensures is_tree { IsTree self.now }
@@ -118,7 +118,7 @@ impl Tree {
         self.manifest.commit()
     }
 
-    /// Returns the file that would be made next.
+    /// Returns the id of the file that would be made next.
     pub fn next_file(&self) -> FileId
         ensures next_file { result ≡ next_file self.now }
         ensures is_tree { IsTree self.now }
@@ -126,7 +126,7 @@ impl Tree {
         FileId(self.next_file)
     }
 
-    /// Returns a file's kind, permissions and size.
+    /// Returns a file's kind, permissions and size, or none if the tree doesn't have the file.
     fn content(&self, file: FileId) -> Option<Content>
         ensures { result ≡ file_of self.now file }
     {
@@ -140,7 +140,7 @@ impl Tree {
         }
     }
 
-    /// Returns the kind of a file of the tree; nothing where the tree doesn't have it.
+    /// Returns the kind of a file, or none if the tree doesn't have the file.
     pub fn kind(&self, file: FileId) -> Option<Kind>
         ensures kind { result ≡ kind_of self.now file }
     {
@@ -148,7 +148,7 @@ impl Tree {
         Some(content.kind)
     }
 
-    /// Returns the permissions of a file that was made; nothing for a file of the manifest.
+    /// Returns the permissions of a file that was made since the manifest, or none for any other file.
     pub fn perm_made(&self, file: FileId) -> Option<Perm>
         ensures perm { result ≡ perm_made self.now file }
     {
@@ -156,14 +156,14 @@ impl Tree {
         Some(made.perm)
     }
 
-    /// Returns whether some name leads to the file. None leads to the root.
+    /// Returns whether some name leads to the file. No name leads to the root.
     pub fn is_linked(&self, file: FileId) -> bool
         ensures linked { result ≡ is_linked self.now file }
     {
         overlay::is_linked(&self.manifest, &self.added, &self.gone, file)
     }
 
-    /// Returns the attributes that a daemon tells the kernel of a file.
+    /// Returns the attributes that a daemon tells the kernel of a file, or none if the tree doesn't have the file.
     pub fn attr(&self, file: FileId) -> Option<Attr>
         ensures attr { result ≡ attr_of self.now file }
     {
@@ -176,7 +176,7 @@ impl Tree {
         })
     }
 
-    /// Returns how many names lead to a file of a kind: none to one that is not linked.
+    /// Returns the count of links of a file of this kind: 0 if the file is unlinked, else the constant of the kind.
     fn nlink(&self, file: FileId, kind: Kind) -> u32
         ensures { result ≡ nlink_of self.now file kind }
     {
@@ -186,8 +186,8 @@ impl Tree {
         nlink_of_kind(kind)
     }
 
-    /// Returns whether the file is a directory of the tree without a name in it. What is no directory isn't an empty
-    /// one.
+    /// Returns whether `dir` is a directory of the tree in which no name stands. For what is no directory, returns
+    /// `false`.
     pub fn is_empty_dir(&self, dir: FileId) -> bool
         ensures empty { result ≡ is_empty_dir self.now dir }
     {
@@ -205,7 +205,7 @@ impl Tree {
         overlay::has_links(&self.manifest, &self.added, &self.lost, dir)
     }
 
-    /// Returns the file under a name in a directory.
+    /// Returns the file under a name in a directory, or none if the directory doesn't have the name.
     pub fn child(&self, dir: FileId, name: &Name) -> Option<FileId>
         ensures child { result ≡ child_of self.now dir name.now }
     {
@@ -219,7 +219,7 @@ impl Tree {
         Some(file)
     }
 
-    /// Returns the directory in which a name gives the file.
+    /// Returns the directory in which a name gives the file, or none if no name gives it.
     fn dir_above(&self, file: FileId) -> Option<FileId>
         ensures dir { IsDirAbove self.now.links file result }
         ensures is_tree { IsTree self.now }
@@ -227,9 +227,9 @@ impl Tree {
         overlay::dir_above(&self.manifest, &self.added, &self.gone, file)
     }
 
-    /// Returns whether the file is the other or stands above it: whether some names lead from the one to the other. Goes
-    /// up from the other to the root, so that the cost grows with its depth alone. No way up is longer than there are
-    /// files.
+    /// Returns whether `file` is `other` or stands above it: whether some names lead from `file` down to `other`. Goes
+    /// up from `other`, at most to the root, so that the cost grows with the depth of `other` alone. No way up has more
+    /// steps than there are files.
     pub fn is_at_or_above(&self, file: FileId, other: FileId) -> bool
         ensures above { result ≡ true ↔ IsAtOrAbove self.now file other }
     {
@@ -246,8 +246,8 @@ impl Tree {
         unreachable!()
     }
 
-    /// Returns how the tree differs from its manifest's: the made files, the names that give another file or none, and
-    /// the next file. The cost grows with the names that ever changed, and not with the manifest.
+    /// Returns what tells the tree from the tree of its manifest: the made files, the names that give another file or
+    /// none, and the next file. The cost grows with the names that ever changed, and not with the manifest.
     pub fn changes(&self) -> Result<Changes, NoMemory>
         ensures changes { IfOk result (AreChanges self.now) }
         ensures no_others { IfOk result (λ changes. (others : ChangesState) → AreChanges self.now others
@@ -271,7 +271,8 @@ impl Tree {
         })
     }
 
-    /// Makes a file without content, under a new name in a directory. Returns its id.
+    /// Makes a file without content, under a new name in a directory. Returns the file's id. If no id is left or memory
+    /// is refused, nothing changes.
     pub fn create(
         &mut self,
         dir: FileId,
@@ -304,7 +305,8 @@ impl Tree {
         Ok(file)
     }
 
-    /// Takes a name out of a directory, and returns the file that it gave, which stays. Takes no memory.
+    /// Removes a name from a directory, and returns the file that the name gave. The file stays in the tree. Takes no
+    /// memory.
     pub fn remove(&mut self, dir: FileId, name: &Name) -> FileId
         requires there { IsSome (child_of self.old dir name.now) }
         requires not_full { IfSome (child_of self.old dir name.now) (λ file. is_full_dir self.old file ≡ false) }
@@ -321,8 +323,8 @@ impl Tree {
         file
     }
 
-    /// Moves the file under a name in a directory to another name, in this or another directory. What stood there loses
-    /// its link and stays; it is returned.
+    /// Moves the file under `name` in `dir` to `to_name` in `to_dir`. Returns the file that stood there, if any: it
+    /// loses its link, and stays in the tree. If memory is refused, nothing changes.
     pub fn rename(
         &mut self,
         dir: FileId,

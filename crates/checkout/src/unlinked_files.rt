@@ -9,8 +9,8 @@ use manifest::{Line, LinkChange, Links, Tally};
 use std::alloc::Global;
 use std::marker::Model;
 
-/// The manifest's files that lost their link: as marks by id, and as a list. Room for all files is taken before the
-/// first.
+/// The manifest's files that lost their link, both as marks by id and as a list. The room for all files is taken when
+/// the set is made.
 #[derive(Drop)]
 pub struct UnlinkedFiles {
     marks: Tally,
@@ -51,8 +51,8 @@ impl UnlinkedFiles {
         self.marks.count(file.0) > 0
     }
 
-    /// Appends a change without a target for each of these files, at its place in the manifest. A place at which a link
-    /// was added is left out.
+    /// Appends to `links` a change without a target for each file of the set, at the file's place in the manifest. A
+    /// place at which `added` has a link is left out.
     pub fn list(
         &self,
         alloc: Global,
@@ -78,7 +78,7 @@ impl UnlinkedFiles {
         Ok(())
     }
 
-    /// Adds a file. Takes no memory.
+    /// Adds a file to the set. Takes no memory.
     pub fn add(&mut self, file: FileId)
         requires room { file.0 < self.old.room }
         requires new { is_gone self.old file.0 ≡ false }

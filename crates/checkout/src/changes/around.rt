@@ -1,4 +1,4 @@
-//! The links whose target is their directory or above it.
+//! The first changed link whose target is the link's own directory, or stands above this directory.
 ghost use Rattle.std.specs.Prelude.{◌≡◌, ◌↔◌, true, is_some, IfOk, OnOk};
 ghost use Rattle.std.specs.FinMap.{get};
 ghost use Rattle.std.specs.List.{AllByRecursion};
@@ -14,8 +14,9 @@ use eden_base::{FileId, NoMemory};
 use manifest::{LinkChange, Manifest};
 use std::alloc::Global;
 
-/// Colours the files on the way up from a file. It stops at one that has a colour, so that no file is looked at twice.
-/// If that is a file of the same walk, the files from it on are a circle.
+/// Gives a colour to `file` and to each file above it. The walk up stops at a file that has a colour, so that no file
+/// is visited twice. If this walk itself coloured that file, the files of the walk from it on are a circle, and are
+/// marked as one.
 fn climb(
     alloc: Global,
     manifest: &Manifest,
@@ -43,7 +44,8 @@ fn climb(
     colours.mark_circle(from_file(at, &way))
 }
 
-/// Returns whether the target of a link is its directory or above it.
+/// Returns whether the target of `change` is the link's own directory, or stands above this directory. This is so if
+/// the target is on a circle of links.
 fn is_above(
     alloc: Global,
     manifest: &Manifest,
@@ -67,7 +69,7 @@ fn is_above(
     Ok(colours.get(file).unwrap())
 }
 
-/// Returns the index of the first link whose target is its directory or above it.
+/// Returns the index of the first changed link whose target is the link's own directory or above it, or none.
 pub fn first_above(
     alloc: Global,
     manifest: &Manifest,

@@ -1,4 +1,5 @@
-//! The first changed link that makes a circle, or else the first that cuts off a directory.
+//! The first changed link that makes a circle; or else the first whose directory is cut off, or at whose place the
+//! manifest has a file that is cut off.
 ghost use Rattle.std.specs.Prelude.{◌≡◌, ◌+◌, IfOk};
 ghost use Rattle.std.specs.Option.{option_map};
 ghost use Rattle.checkout.specs.BadChanges.{first_link, IsBadAround};
@@ -13,8 +14,9 @@ use eden_base::NoMemory;
 use manifest::{Manifest, Tally};
 use std::alloc::Global;
 
-/// Returns the index of the first link that makes a circle, or else of the first that cuts off a directory. The first
-/// two rounds found no bad change.
+/// Returns the index of the first changed link that makes a circle: its target is its own directory or above it. If
+/// there is none, returns the index of the first whose directory is cut off, or at whose place the manifest has a file
+/// that is cut off. The first two rounds must have found no bad change.
 pub fn first_bad_around(
     alloc: Global,
     manifest: &Manifest,

@@ -1,4 +1,4 @@
-//! The first round over changes: those that are bad whatever other links say.
+//! The first round of checks: changes that are bad by themselves, whatever other links say.
 ghost use Rattle.std.specs.Prelude.{◌≡◌, ◌==◌, ◌+◌, None, length};
 ghost use Rattle.std.specs.List.{find};
 ghost use Rattle.std.specs.List.Sorted.{IsStrictlySortedBy};
@@ -15,21 +15,22 @@ use eden_base::{END_OF_FILES, FileId, Kind};
 use manifest::{LinkChange, Manifest};
 use std::cmp::Ordering;
 
-/// Returns the last file of a manifest.
+/// Returns the id of the last file of a manifest.
 fn last_file(manifest: &Manifest) -> u64
     ensures { result ≡ last_file manifest.now }
 {
     manifest.lines().len() as u64 + 1
 }
 
-/// Returns whether the next file is one of the manifest's, or above the last that may be.
+/// Returns whether the next file is bad: its id isn't above that of the manifest's last file, or is above
+/// `END_OF_FILES`.
 fn is_bad_next(manifest: &Manifest, next: FileId) -> bool
     ensures { result ≡ is_bad_next manifest.now next }
 {
     next.0 <= last_file(manifest) || END_OF_FILES < next.0
 }
 
-/// Returns whether a made file's id is above that of the one before it.
+/// Returns whether the id of `made` is above that of the made file before it, if there is one.
 fn rises(before: Option<Made>, made: Made) -> bool
     ensures { result ≡ rises before made }
 {
@@ -39,14 +40,15 @@ fn rises(before: Option<Made>, made: Made) -> bool
     }
 }
 
-/// Returns whether a made file doesn't rise, is one of the manifest's, or isn't below the next file.
+/// Returns whether a made file is bad: its id doesn't rise, isn't above the manifest's last file, or isn't below
+/// `next`.
 fn is_bad_made(manifest: &Manifest, next: FileId, before: Option<Made>, made: Made) -> bool
     ensures { result ≡ is_bad_made manifest.now next before made }
 {
     !rises(before, made) || made.file.0 <= last_file(manifest) || next.0 <= made.file.0
 }
 
-/// Returns the index of the first made file that is bad behind the one before it.
+/// Returns the position of the first bad made file, or none. The first made file has position 1.
 fn first_bad_made(manifest: &Manifest, next: FileId, files: &[Made]) -> Option<usize>
     ensures { result ≡ first_bad (is_bad_made manifest.now next) 1 None files.now }
 {
@@ -61,7 +63,7 @@ fn first_bad_made(manifest: &Manifest, next: FileId, files: &[Made]) -> Option<u
     None
 }
 
-/// Returns whether a place is behind that of the link before it.
+/// Returns whether the place of `change` comes after that of the change before it, if there is one.
 fn is_behind(before: Option<&LinkChange>, change: &LinkChange) -> bool
     ensures { result ≡ is_behind (option_copied before.entry) change.now }
 {
@@ -71,7 +73,7 @@ fn is_behind(before: Option<&LinkChange>, change: &LinkChange) -> bool
     }
 }
 
-/// Returns the kind that a file was made with. It is found by halving.
+/// Returns the kind of a made file, or none if `files` doesn't contain the file. Searches by halving.
 fn kind_made(files: &[Made], file: FileId) -> Option<Kind>
     requires rising { IsStrictlySortedBy nat_cmp (file_ids files.now) }
     ensures { result ≡ option_map (λ (x : Made). x.kind) (find (λ (x : Made). x.file.0 == file.0) files.now) }
@@ -82,7 +84,7 @@ fn kind_made(files: &[Made], file: FileId) -> Option<Kind>
     }
 }
 
-/// Returns the kind of the root, of a file of the manifest, or of one that was made.
+/// Returns the kind of the root, of a file of the manifest, or of a made file; none for any other id.
 fn kind_with(manifest: &Manifest, files: &[Made], file: FileId) -> Option<Kind>
     requires rising { IsStrictlySortedBy nat_cmp (file_ids files.now) }
     ensures { result ≡ kind_with manifest.now files.now file }
@@ -104,7 +106,7 @@ fn is_dir(kind: Option<Kind>) -> bool
     }
 }
 
-/// Returns whether a link may have this target: a known file that isn't the root, or none.
+/// Returns whether a link may have this target: a file of the manifest or of `files` that isn't the root, or none.
 fn is_target(manifest: &Manifest, files: &[Made], target: Option<FileId>) -> bool
     requires rising { IsStrictlySortedBy nat_cmp (file_ids files.now) }
     ensures { result ≡ is_target manifest.now files.now target }
@@ -115,14 +117,14 @@ fn is_target(manifest: &Manifest, files: &[Made], target: Option<FileId>) -> boo
     }
 }
 
-/// Returns the file that the manifest has where a link was changed.
+/// Returns the file that the manifest has at the place of `change`, or none.
 fn manifest_target(manifest: &Manifest, change: &LinkChange) -> Option<FileId>
     ensures { result ≡ manifest_target manifest.now change.now }
 {
     manifest.child(change.dir, change.name.bytes())
 }
 
-/// Returns whether both give the same file, or neither gives one.
+/// Returns whether both targets are the same file, or both are none.
 pub fn gives_same(target: Option<FileId>, other: Option<FileId>) -> bool
     ensures { result ≡ gives_same target other }
 {
@@ -133,8 +135,8 @@ pub fn gives_same(target: Option<FileId>, other: Option<FileId>) -> bool
     }
 }
 
-/// Returns whether a changed link is bad: it isn't behind the one before it, stands in no directory, has no such
-/// target, or gives the same as the manifest.
+/// Returns whether a changed link is bad: its place doesn't come after that of the change before it, or its `dir` is no
+/// directory. It is also bad if its target isn't allowed, or is what the manifest has at this place.
 fn is_bad_link(
     manifest: &Manifest,
     files: &[Made],
@@ -150,7 +152,7 @@ fn is_bad_link(
         || gives_same(change.target, manifest_target(manifest, change))
 }
 
-/// Returns the index of the first link that is bad behind the one before it.
+/// Returns the position of the first bad changed link, or none. The positions of links follow those of the made files.
 fn first_bad_link(manifest: &Manifest, files: &[Made], links: &[LinkChange]) -> Option<usize>
     requires rising { IsStrictlySortedBy nat_cmp (file_ids files.now) }
     ensures { result ≡ first_bad (is_bad_link manifest.now files.now) (length files.now + 1) None links.now }
@@ -166,7 +168,8 @@ fn first_bad_link(manifest: &Manifest, files: &[Made], links: &[LinkChange]) -> 
     None
 }
 
-/// Returns the position of the first change that is bad by itself: 0 for the next file. Takes no memory.
+/// Returns the position of the first change that is bad by itself, or none. The next file has position 0. Takes no
+/// memory.
 pub fn bad_itself(manifest: &Manifest, changes: &Changes) -> Option<usize>
     ensures { result ≡ bad_itself manifest.now changes.now }
 {

@@ -1,4 +1,4 @@
-//! The first changed link whose file another link gives.
+//! The first changed link whose target another link gives too.
 ghost use Rattle.std.specs.Prelude.{◌≡◌, ℕ, None, IfOk};
 ghost use Rattle.std.specs.BTreeMap.{get as mark_of, IsOrdered};
 ghost use Rattle.std.specs.Ordering.{nat_cmp};
@@ -12,7 +12,7 @@ use manifest::{LinkChange, Manifest};
 use std::alloc::Global;
 use std::collections::BTreeMap;
 
-/// Returns the files that changes give, each with whether several do.
+/// Returns the ids of the files that changed links give, each with whether several of these links give the file.
 fn marks(alloc: Global, links: &[LinkChange]) -> Result<BTreeMap<u64, bool>, NoMemory>
     ensures ordered { IfOk result (λ marks. IsOrdered nat_cmp marks) }
     ensures marks { IfOk result (λ marks. (file : ℕ) → mark_of nat_cmp marks file ≡ marked file None links.now) }
@@ -38,7 +38,8 @@ fn is_marked(marks: &BTreeMap<u64, bool>, file: u64) -> bool
     }
 }
 
-/// Returns whether another link gives the file of a changed one: one of the manifest's, or that of another change.
+/// Returns whether another link gives the target of `change`: one that the manifest still has, or that of another
+/// change.
 fn is_given_twice(
     manifest: &Manifest,
     gone: &UnlinkedFiles,
@@ -54,7 +55,7 @@ fn is_given_twice(
     }
 }
 
-/// Returns the index of the first link whose file another gives.
+/// Returns the index of the first changed link whose target another link gives too, or none.
 pub fn first_given_twice(
     alloc: Global,
     manifest: &Manifest,
@@ -68,7 +69,7 @@ pub fn first_given_twice(
     Ok(first_marked(manifest, gone, &marks, links))
 }
 
-/// Returns the index as `first_given_twice` does, with the files that changes give already marked.
+/// Returns the same index as `first_given_twice`. `marks` must be what the function `marks` returns for `links`.
 fn first_marked(
     manifest: &Manifest,
     gone: &UnlinkedFiles,

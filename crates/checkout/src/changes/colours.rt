@@ -8,7 +8,7 @@ use std::alloc::Global;
 use std::collections::BTreeMap;
 use std::marker::Model;
 
-/// The colour of each file that was visited: on a circle or not.
+/// The colour of each visited file: whether the file is on a circle of links.
 #[derive(Drop)]
 pub struct Colours {
     files: BTreeMap<u64, bool>,
@@ -48,7 +48,7 @@ impl Colours {
         self.files.get(&file.0).copied()
     }
 
-    /// Gives a file a colour.
+    /// Sets the colour of a file: whether the file is on a circle.
     pub fn set(&mut self, file: FileId, on_circle: bool) -> Result<(), NoMemory>
         ensures { OnOk result (self.new ≡ insert self.old file.0 on_circle) }
     {
@@ -56,7 +56,7 @@ impl Colours {
         Ok(())
     }
 
-    /// Gives files the colour of those on a circle.
+    /// Sets the colour of each of the files to that of a file on a circle.
     pub fn mark_circle(&mut self, files: &[FileId]) -> Result<(), NoMemory>
         ensures { OnOk result (AreSet files.now true self.old self.new) }
     {
@@ -67,7 +67,7 @@ impl Colours {
     }
 }
 
-/// Returns the files from one of them on; none where it isn't among them.
+/// Returns the rest of `files` from `file` on, or an empty slice if `files` doesn't contain `file`.
 pub fn from_file(file: FileId, files: &[FileId]) -> &[FileId]
     ensures { result.now ≡ from_file file files.now }
 {

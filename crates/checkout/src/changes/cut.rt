@@ -1,4 +1,5 @@
-//! The first changed link that cuts off a directory: links stand in it, and none gives it any more.
+//! The first changed link whose directory is cut off, or at whose place the manifest has a file that is cut off. A
+//! directory is cut off if links stand in it and no link gives it.
 ghost use Rattle.std.specs.Prelude.{◌≡◌};
 ghost use Rattle.checkout.specs.UnlinkedFiles.{is_gone};
 ghost use Rattle.checkout.specs.Rounds.{cuts, first_of, is_cut};
@@ -10,7 +11,7 @@ use crate::unlinked_files::UnlinkedFiles;
 use eden_base::FileId;
 use manifest::{LinkChange, Manifest, Tally};
 
-/// Returns whether links stand in a directory, and none gives it.
+/// Returns whether a directory is cut off: it isn't the root, no link gives it, and some link stands in it.
 fn is_cut(
     manifest: &Manifest,
     added: &Added,
@@ -23,7 +24,7 @@ fn is_cut(
     dir.0 != 1 && !is_linked(manifest, added, gone, dir) && has_links(manifest, added, lost, dir)
 }
 
-/// Returns whether a changed link cuts off its own directory, or the file that the manifest has at its place.
+/// Returns whether the directory of a changed link is cut off, or the file that the manifest has at the link's place.
 fn cuts(
     manifest: &Manifest,
     added: &Added,
@@ -42,7 +43,8 @@ fn cuts(
     }
 }
 
-/// Returns the index of the first link that cuts off a directory.
+/// Returns the index of the first changed link for which `cuts` returns `true`, or none: the link's directory is cut
+/// off, or the file that the manifest has at the link's place.
 pub fn first_cut(
     manifest: &Manifest,
     added: &Added,

@@ -1,4 +1,4 @@
-//! What changes lay over a manifest, and the first of them that can't be laid.
+//! The parts of a tree that changes lay over a manifest, and the first change that can't be laid.
 ghost use Rattle.std.specs.Prelude.{◌≡◌, ◌+◌, ◌<◌, None, IfErr, IfOk, OnOk, length};
 ghost use Rattle.std.specs.FinMap.{empty};
 ghost use Rattle.std.specs.List.{AllByRecursion};
@@ -21,7 +21,7 @@ use eden_base::NoMemory;
 use manifest::{LinkChange, Manifest, Tally};
 use std::alloc::Global;
 
-/// All in which the tree of a manifest with changes differs from the manifest's, but the next file.
+/// All parts in which the tree after changes differs from the manifest's tree, except the next file.
 #[derive(Drop)]
 pub struct Laid {
     pub made: MadeFiles,
@@ -31,7 +31,7 @@ pub struct Laid {
 }
 
 impl Laid {
-    /// Lays changes over a manifest, or tells the first bad one. None of them is bad by itself.
+    /// Lays changes over a manifest, or returns the position of the first bad change. No change may be bad by itself.
     pub fn of(alloc: Global, manifest: &Manifest, changes: &Changes) -> Result<Laid, ChangeFault>
         requires is_manifest { IsManifest manifest.now }
         requires itself { bad_itself manifest.now changes.now ≡ None }
@@ -53,7 +53,9 @@ impl Laid {
         Ok(laid)
     }
 
-    /// Looks for a link that makes a circle or cuts off a directory.
+    /// Checks in the third and the fourth round that no change is bad, else returns the position of the first bad one.
+    /// It is a link that makes a circle, or else one whose directory is cut off, or at whose place the manifest has a
+    /// file that is cut off.
     fn look_around(
         &self,
         alloc: Global,
@@ -79,7 +81,9 @@ impl Laid {
     }
 }
 
-/// Takes the manifest's links at the places of changed ones, and looks for a link whose file another gives.
+/// Returns the manifest's files at the places of changed links, which lose their link, and how many links each
+/// directory loses. Fails with the position of the first changed link whose target another link gives too, if there is
+/// one.
 fn taken(
     alloc: Global,
     manifest: &Manifest,
@@ -98,7 +102,8 @@ fn taken(
     Ok((gone, lost))
 }
 
-/// Looks for a link whose file another gives, once the manifest's links at changed places are taken.
+/// Checks that no other link gives the target of a changed link, else returns the position of the first change of which
+/// one does. `gone` has the manifest's files at the places of changed links.
 fn look_for_others(
     alloc: Global,
     manifest: &Manifest,
@@ -118,7 +123,7 @@ fn look_for_others(
     }
 }
 
-/// Makes what comes with changes: the files that were made, and the links that are added.
+/// Returns what the changes add to the manifest: the made files, and the added links.
 fn brought(alloc: Global, changes: &Changes) -> Result<(MadeFiles, Added), NoMemory>
     requires fit { CanAdd empty changes.now.links }
     ensures made { IfOk result (λ p. p.0 ≡ with_made empty changes.now.made) }
@@ -129,8 +134,8 @@ fn brought(alloc: Global, changes: &Changes) -> Result<(MadeFiles, Added), NoMem
     Ok((made, added))
 }
 
-/// Returns the position of a bad link, which counts on after the made files. It takes the links for the proof alone:
-/// their length bounds the sum.
+/// Returns the fault of the bad link at index `i`. Its position comes after those of the made files. `links` is for the
+/// proof alone: its length bounds the sum.
 fn bad_link(files: &[Made], links: &[LinkChange], i: usize) -> ChangeFault
     requires within { i < length links.now }
     ensures { result ≡ BadChange (length files.now + 1 + i) }

@@ -1,4 +1,4 @@
-//! How changes are laid over a manifest: what goes with them, and what comes.
+//! How changes are laid over a manifest: which links they take away, and which files and links they add.
 ghost use Rattle.std.specs.Prelude.{◌≡◌, ◌∷◌, ◌++◌, [], IfOk};
 ghost use Rattle.std.specs.FinMap.{empty};
 ghost use Rattle.std.specs.List.{AllByRecursion};
@@ -34,7 +34,8 @@ pub fn taken(
     Ok((gone, lost))
 }
 
-/// Lets the manifest's link at the place of a changed one go, if there is one. Takes no memory.
+/// Records in `gone` and `lost` that the manifest's link at the place of `change` is gone, if there is one. Takes no
+/// memory.
 fn take(manifest: &Manifest, change: &LinkChange, gone: &mut UnlinkedFiles, lost: &mut Tally)
     requires left { IsLeft manifest.now gone.old change.now }
     requires so_far { AreTaken manifest.now gone.old lost.old }
@@ -48,7 +49,7 @@ fn take(manifest: &Manifest, change: &LinkChange, gone: &mut UnlinkedFiles, lost
     }
 }
 
-/// Returns the links that changes give.
+/// Returns the added links: one for each change that has a target.
 pub fn added(alloc: Global, links: &[LinkChange]) -> Result<Added, NoMemory>
     requires fit { CanAdd empty links.now }
     ensures { IfOk result (λ added. added ≡ with_added empty links.now) }
@@ -62,7 +63,7 @@ pub fn added(alloc: Global, links: &[LinkChange]) -> Result<Added, NoMemory>
     Ok(added)
 }
 
-/// Returns files that were made, by their ids.
+/// Returns the made files of `list`, by their ids.
 pub fn made(alloc: Global, list: &[Made]) -> Result<MadeFiles, NoMemory>
     ensures { IfOk result (λ files. files ≡ with_made empty list.now) }
 {
