@@ -1,4 +1,4 @@
--- The links that were added to a manifest's, from both ends.
+-- The links that were added since the manifest, by name and by file.
 use Rattle.std.specs.Prelude.{◌≡◌, ℕ, ◌==◌, Bool, List, Option, Some}
 use Rattle.std.specs.FinMap.{FinMap, entries, get}
 use Rattle.std.specs.List.{list_any}

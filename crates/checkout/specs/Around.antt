@@ -27,8 +27,8 @@ IsAbove links change =
     (file : FileId) × (names : List (List ℕ)) × (change.target ≡ Some file)
     × (end_of links file names ≡ Some change.dir)
 
--- the option is the index of the first change whose target is its own directory or above it, or None if no change is
--- such
+-- the option is the index of the first change whose target is its own directory or above it; None if there is no such
+-- change
 abbrev pub IsFirstAbove : FinMap link_cmp FileId → List LinkChange → Option ℕ → Type 0
 IsFirstAbove links changes (Some place) =
     (change : LinkChange) × (slice_get changes place ≡ Some change) × IsAbove links change

@@ -160,7 +160,7 @@ abbrev pub is_cut_off : List Link → FileId → Bool
 is_cut_off links dir = not (dir.0 == 1) && not (is_given links dir) && has_names links dir
 
 -- the fourth round of checks: the position of the first changed link whose directory is cut off, or at whose place the
--- manifest has a directory that is cut off; or None
+-- manifest has a file that is cut off; None if there is no such link
 abbrev pub bad_by_cut : Manifest → Changes → Option ℕ
 bad_by_cut m c =
     let cut = is_cut_off (changed_links m c) in

@@ -1,4 +1,4 @@
--- What the indexes of a tree list of its changes, each in its own order.
+-- The lists of changes that the indexes of a tree make, each in the order of its index.
 use Rattle.std.specs.Prelude.{ℕ, ◌+◌, ◌-◌, ◌<◌, ◌≤◌, Bool, not, List, length, Option, Some, None, is_some, if◌then◌else◌}
 use Rattle.std.specs.List.{AllByRecursion, filter_map, slice_get}
 use Rattle.std.specs.FinMap.{FinMap, get}

@@ -1,4 +1,4 @@
--- How the rounds look for a bad change.
+-- How the second and the fourth round of checks look for a bad changed link.
 use Rattle.std.specs.Prelude.{◌≡◌, ℕ, ◌+◌, ◌==◌, ◌&&◌, ◌||◌, Bool, false, not, nat_lt, List, [], ◌∷◌, Option, Some, None, is_some, if◌then◌else◌}
 use Rattle.std.specs.FinMap.{FinMap, empty, entries}
 use Rattle.std.specs.List.{list_any}
