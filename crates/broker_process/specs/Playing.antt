@@ -14,22 +14,22 @@ use Rattle.script_lines.specs.declared.broker_line.BrokerLine.{BrokerLine}
 use Rattle.broker_process.specs.declared.fault.BrokerFault.{BrokerFault}
 use Rattle.broker_process.specs.declared.fault.BrokerFault.TheVariants.{CannotWrite}
 
--- Daemons change the desk between these steps, so each of them is of the desk as it found it.
+-- Daemons change the desk between these steps, so each definition below speaks of the desk as its own step found it.
 
--- a line of the script came to this
+-- `begun` is what the line of the script came to, over some state of the desk
 abbrev pub Began : BrokerLine → Begun → Type 0
 Began line begun = (before : DeskState) × (after : DeskState) × Begins before line begun after
 
--- what is awaited came
+-- `came` is what came, over some state of the desk, of what is awaited
 abbrev pub HasCome : Awaited → Came → Type 0
 HasCome awaited came = (desk : DeskState) × (come desk.broker awaited ≡ Some came)
 
--- what a line prints once it is told what it came to: what it waits for, as soon as that came
+-- what is appended once a line was begun: the lines of what it awaited, or nothing if it awaits nothing
 abbrev pub PrintsCome : Begun → Option (List ℕ) → Option (List ℕ) → Type 0
 PrintsCome (Waits awaited) old new = (came : Came) × HasCome awaited came × Appends old new (came_lines came)
 PrintsCome begun old new = Appends old new []
 
--- a line was done, and its result was printed
+-- one line of the script was done, and its result was printed
 pub record PlaysLine (line : BrokerLine) (old new : Option (List ℕ)) : Type 0 where
   pub begun : Begun
   pub began : Began line begun
@@ -38,18 +38,18 @@ pub record PlaysLine (line : BrokerLine) (old new : Option (List ℕ)) : Type 0 
   pub begins : PrintsBegun broker begun old mid
   pub comes : PrintsCome begun mid new
 
--- each of the lines was, one behind the other
+-- each of the lines was done and its result printed, one after the other
 abbrev pub PlaysLines : List BrokerLine → Option (List ℕ) → Option (List ℕ) → Type 0
 PlaysLines [] old new = Appends old new []
 PlaysLines (line ∷ more) old new = (mid : Option (List ℕ)) × PlaysLine line old mid × PlaysLines more mid new
 
--- the whole script was, and then the mount was over
+-- the whole script was played, the mount was over then, and `ended` was printed
 abbrev pub PlaysScript : List BrokerLine → Option (List ℕ) → Option (List ℕ) → Type 0
 PlaysScript script old new =
     (mid : Option (List ℕ)) × PlaysLines script old mid × Appends mid new (codes "ended\n")
 
--- A broker that ends well played its script, and one that ends by a fault printed nothing. Where a line could not be
--- printed, the lines before it were, and it may have been printed in part.
+-- A broker that ends well played its script, and one that ends by a fault printed nothing. If a line could not be
+-- printed, nothing is said of what was printed: the lines before it, and perhaps a part of it.
 abbrev pub RunsBroker : List BrokerLine → Result (Unit {0}) BrokerFault → Option (List ℕ) → Option (List ℕ) → Type 0
 RunsBroker script (Ok done) old new = PlaysScript script old new
 RunsBroker script (Err (CannotWrite error)) old new = ⊤

@@ -8,26 +8,26 @@ use Rattle.daemon_process.specs.declared.exit.Exit.TheVariants.{Ended, Faulty, H
 use Rattle.daemon_process.specs.declared.fault.DaemonFault.{DaemonFault}
 use Rattle.daemon_process.specs.declared.fault.DaemonFault.TheVariants.{CannotWrite}
 
--- nothing was printed but the lines of these generations
+-- only the lines that tell of serving at these generations were appended
 abbrev pub PrintsServing : Option (List ℕ) → Option (List ℕ) → Type 0
 PrintsServing old new = (generations : List ℕ) × Appends old new (concat (map serving_line generations))
 
--- so it was until this exit, unless a line could not be printed
+-- only such lines were appended until the daemon's exit, unless the exit is a fault of printing
 abbrev pub PrintsUntil : Option (List ℕ) → Option (List ℕ) → Exit → Type 0
 PrintsUntil old new exit = PrintsServing old new ⊎ ((error : _) × (exit ≡ Faulty (CannotWrite error)))
 
--- the line by which a daemon ends; a fault is for its caller to print
+-- the line that a daemon's exit appends, and what its caller is told; a fault is for the caller to print
 abbrev pub PrintsExit : Exit → Result (Unit {0}) DaemonFault → Option (List ℕ) → Option (List ℕ) → Type 0
 PrintsExit HandedOver told old new = (told ≡ Ok tt) × Appends old new (codes "handed over\n")
 PrintsExit Ended told old new = (told ≡ Ok tt) × Appends old new (codes "ended\n")
 PrintsExit (Faulty fault) told old new = (told ≡ Err fault) × Appends old new []
 
--- a daemon ended by one of its two last lines
+-- one of the two last lines of a daemon was appended
 abbrev pub PrintsLast : Option (List ℕ) → Option (List ℕ) → Type 0
 PrintsLast old new = Appends old new (codes "handed over\n") ⊎ Appends old new (codes "ended\n")
 
--- A daemon that ends well printed that behind the lines of its generations, and one that ends by a fault no more than
--- those. Where a line could not be printed, it may have been printed in part.
+-- A daemon that ends well printed its last line after the lines of its generations, and one that ends by a fault
+-- printed only the lines of its generations. If a line could not be printed, a part of it may have been.
 abbrev pub RunsDaemon : Result (Unit {0}) DaemonFault → Option (List ℕ) → Option (List ℕ) → Type 0
 RunsDaemon (Ok done) old new = (mid : Option (List ℕ)) × PrintsServing old mid × PrintsLast mid new
 RunsDaemon (Err (CannotWrite error)) old new = ⊤

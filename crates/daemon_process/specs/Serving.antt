@@ -16,39 +16,39 @@ use Rattle.daemon_process.specs.declared.shared.Next.TheVariants as next
 
 -- ---- what comes next
 
--- the daemon serves in this phase
+-- a daemon serves in this phase, at some generation
 abbrev pub IsServing : Phase → Type 0
 IsServing phase = (generation : ℕ) × (phase ≡ phases.Serving generation)
 
--- the lease of the round that comes next, if one does
+-- the lease of the round that comes next, if a round comes next
 abbrev pub served_next : Next → Option Lease
 served_next (next.Serve lease stop stops) = Some lease
 served_next other = None
 
--- how often rounds were asked to stop before it
+-- how often rounds were asked to stop before the round that comes next, if a round comes next
 abbrev pub stops_next : Next → Option ℕ
 stops_next (next.Serve lease stop stops) = Some stops
 stops_next other = None
 
--- how often rounds were asked to stop, once more if one may run; after the greatest count comes 0
+-- how often rounds were asked to stop, after one more request if a round may run; the greatest count is followed by 0
 abbrev pub stops_behind : Bool → ℕ → ℕ
 stops_behind true stops = if stops == 18446744073709551615 then 0 else stops + 1
 stops_behind false stops = stops
 
--- a round over what may be lent comes next, or a wait if nothing may be; or a pause, if memory for the round's stop was
--- refused
+-- A round over what may be lent comes next, or a wait if nothing may be lent. A pause comes next if memory for the
+-- round's stop was refused.
 abbrev pub IsRound : Option ServerState → Next → Type 0
 IsRound server next.Pause = Unit {0}
 IsRound (Some server) (next.Serve lease stop stops) = lent_server lease ≡ server
 IsRound None next.Wait = Unit {0}
 IsRound server other = ⊥
 
--- no round comes next while the daemon drains
+-- a wait comes next while the daemon drains, else a round if something may be lent
 abbrev pub ComesWhile : Bool → Option ServerState → Next → Type 0
 ComesWhile true server what = what ≡ next.Wait
 ComesWhile false server what = IsRound server what
 
--- the daemon ends if its exit is noted; else a round comes next, if something may be lent
+-- the exit comes next if it is noted; else a wait or a round, as the daemon drains or not
 abbrev pub ComesNext : Option Exit → DeskState → Next → Type 0
 ComesNext (Some exit) desk what = what ≡ next.Exit exit
 ComesNext None desk what = ComesWhile (is_draining desk.daemon.node.phase) (lendable desk) what
@@ -59,35 +59,36 @@ ComesNext None desk what = ComesWhile (is_draining desk.daemon.node.phase) (lend
 abbrev pub serving_line : ℕ → List ℕ
 serving_line generation = codes "serving " ++ decimal generation ++ 10 ∷ []
 
--- a time in which a daemon serves without a break: its generation, and how often rounds were asked to stop before
+-- a spell: a time in which a daemon serves without a break, as its generation and how often rounds were asked to stop
+-- before
 abbrev pub Spell : Type 0
 Spell = ℕ × ℕ
 
--- both are one spell
+-- two spells are the same
 abbrev pub IsSameSpell : Spell → Spell → Type 0
 IsSameSpell a b = a ≡ b
 
--- whether a round begins a new spell: its spell differs from the one in which the daemon served before
+-- whether a round begins a new spell: its spell `is` differs from the spell `was`, in which the daemon served before
 abbrev pub begins : Spell → Spell → Bool
 begins was is = not ((was.0 == is.0) && (was.1 == is.1))
 
--- the line of a round; none if the daemon served in the same spell before
+-- the line that a round prints: none if the round's spell isn't new
 abbrev pub printed_of : Bool → ℕ → List ℕ
 printed_of true generation = serving_line generation
 printed_of false generation = []
 
--- no channels could be made for the round, and nothing was printed
+-- no channels could be made for the round, the channels stay of the spell before, and nothing was printed
 pub record IsUnmanned (was now : Spell) (old new : Option (List ℕ)) : Type 0 where
   pub same : IsSameSpell now was
   pub nothing : Appends old new []
 
--- the channels are of the round's spell, and the round's line was printed
+-- the channels are of the round's spell, and the round's line was printed if the spell is new
 pub record IsManned (was round now : Spell) (old new : Option (List ℕ)) : Type 0 where
   pub at : IsSameSpell now round
   pub line : Appends old new (printed_of (begins was round) round.0)
 
--- What a round prints, by the spell before it, its own spell, and the spell after it. If its line cannot be written, the
--- daemon ends.
+-- What a round prints, by the spell before the round, the round's own spell, and the spell of the channels after it.
+-- The daemon ends if the line cannot be written.
 abbrev pub PrintsRound : (was round now : Spell) → (old new : Option (List ℕ)) → Option Exit → Type 0
 PrintsRound was round now old new exit =
     IsUnmanned was now old new

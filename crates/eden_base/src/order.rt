@@ -5,8 +5,8 @@ ghost use Rattle.std.specs.Cmp.Lexicographic.{slice_cmp};
 
 use std::cmp::Ordering;
 
-/// Compares bytes as slices of them are compared, one after the other. It looks at eight at a time: read with the highest
-/// byte first, they are ordered as their numbers.
+/// Compares two slices as slices of bytes compare: by the first byte that differs, else by length. It reads eight bytes
+/// at a time as a big-endian number, since such numbers are ordered as their bytes are.
 pub(crate) fn compare_bytes(left: &[u8], right: &[u8]) -> Ordering
     ensures order { result ≡ slice_cmp nat_cmp left.now right.now }
 {

@@ -25,11 +25,11 @@ name_at (Daemon words) NoBroker = Some words.broker.now
 name_at (Daemon words) NoDaemon = Some words.takeover.now
 name_at (Daemon words) fault = name_by words.manifest.now fault
 
--- a failure names the socket, file or stream whose error caused it, by the errand's words
+-- the failure names the socket, file or stream whose error caused it, as the errand's words give it
 abbrev pub Names : Errand → Failure → Type 0
 Names errand failure = name_of failure ≡ name_at errand failure.fault
 
--- a script was read at the broker's path, and was played whole
+-- a script was read from what is known of the text at the broker's path, and the whole script was played
 pub record PlaysRead (known : Option (List ℕ)) (before after : Option (List ℕ)) : Type 0 where
   pub text : List ℕ
   pub read : IfSome known (λ all. text ≡ all)
@@ -37,18 +37,18 @@ pub record PlaysRead (known : Option (List ℕ)) (before after : Option (List �
   pub says : Says text script
   pub plays : PlaysScript script before after
 
--- an errand ran well, over what is known of standard input and of the files
+-- an errand ran well, given what is known of standard input and of the files
 abbrev pub RunsWell :
     Option (List ℕ) → (List ℕ → Option (List ℕ)) → Errand → Option (List ℕ) → Option (List ℕ) → Type 0
 RunsWell input file (Broker words) before after = PlaysRead (script_at input file words.script.now) before after
 RunsWell input file (Daemon words) before after = RunsDaemon (Ok tt) before after
 
--- what was printed before an errand failed, where each line could be
+-- what an errand that failed printed before, if each line could be printed: a broker nothing, a daemon the lines of its generations
 abbrev pub PrintsFirst : Errand → Option (List ℕ) → Option (List ℕ) → Type 0
 PrintsFirst (Broker words) before after = Appends before after []
 PrintsFirst (Daemon words) before after = PrintsServing before after
 
--- an errand ran well, or it failed, which names the cause
+-- an errand ran well, or it failed and its failure names the cause
 abbrev pub RunsTo :
     Option (List ℕ) → (List ℕ → Option (List ℕ)) → Errand → Result (Unit {0}) Failure →
     Option (List ℕ) → Option (List ℕ) → Type 0
@@ -56,11 +56,11 @@ RunsTo input file errand (Ok done) before after = RunsWell input file errand bef
 RunsTo input file errand (Err failure) before after =
     Names errand failure × ((failure.fault ≡ CannotWrite) ⊎ PrintsFirst errand before after)
 
--- what is known of errands over sockets, by what is known of standard input and of the files
+-- what is known of errands over sockets, given what is known of standard input and of the files
 abbrev pub over_sockets : Option (List ℕ) → (List ℕ → Option (List ℕ)) → ErrandsKnown
 over_sockets input file = record { ends = RunsTo input file; idle = ⊤ }
 
--- the process ended after this errand over sockets, or there was no memory to gather what it prints
+-- the process ended after it ran this errand over sockets, or there was no memory to gather what it prints
 abbrev pub RunsOver :
     Option (List ℕ) → (List ℕ → Option (List ℕ)) → Errand →
     Option (List ℕ) → Option (List ℕ) → Option (List ℕ) → Option (List ℕ) →

@@ -1,11 +1,12 @@
--- What the fields of a table keep.
+-- What is always true of the fields of a table.
 use Rattle.std.specs.Prelude.{◌≡◌, ◌+◌, ◌<◌, ◌≤◌, true, vec_len, vec_capacity}
 use Rattle.entry_table.specs.declared.table.Table.TheInside as table
 use Rattle.entry_table.specs.Links.{is_ready}
 use Rattle.entry_table.specs.Slots.{AreSlots, IsIndexed, kept_from, spare_of}
 
--- numbers rise and stay below the next, the index has each linked entry, what is reserved is ready and
--- has room, and so has a way past all entries
+-- The fields fit together: slots stand by rising number below the next one, and the index has each linked entry. If a
+-- number is reserved, the index and the slots have room for it. The way has room for all slots, and for the reserved
+-- one.
 pub record IsTable (t : table.Inside) : Type 0 where
   pub slots : AreSlots 2 t.next t.slots.items
   pub indexed : IsIndexed (kept_from t.slots.items) t.index

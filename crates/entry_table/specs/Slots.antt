@@ -1,4 +1,4 @@
--- How the entries stand in the slots of their table, and what its index has of them.
+-- How the entries stand in the slots of their table, and what the table's index has of the entries.
 use Rattle.std.specs.Prelude.{◌≡◌, ℕ, ◌+◌, ◌<◌, ◌≤◌, ◌⊎◌, Bool, true, List, [], ◌∷◌, map, length, Option, Some, None, if◌then◌else◌}
 use Rattle.std.specs.List.{HoldsAt}
 use Rattle.std.specs.Map.{lookup}
@@ -16,109 +16,109 @@ use Rattle.entry_table.specs.declared.kept.Entry.{Entry}
 use Rattle.entry_table.specs.declared.index.Index.{Index}
 use Rattle.entry_table.specs.declared.index.Link.{Link}
 
--- an entry without its number, of which no file is remembered and nothing is noted
+-- what a slot holds of an entry at first: all but its number, with no file remembered and no note
 abbrev pub held_of : Kept → Entry
 held_of kept = record { place = kept.place; count = kept.count; file = None; note = None }
 
--- the slot of an entry
+-- the slot of an entry at first
 abbrev pub slot_of : Kept → ℕ × Option Entry
 slot_of kept = (kept.number.0, Some (held_of kept))
 
--- the slots of such entries
+-- the slots of entries at first
 abbrev pub slots_of : List Kept → List (ℕ × Option Entry)
 slots_of entries = map slot_of entries
 
--- the entries in slots; a slot whose entry has left is empty
+-- the entries that stand in slots; a slot is empty once its entry was removed
 abbrev pub kept_from : List (ℕ × Option Entry) → List Kept
 kept_from [] = []
 kept_from ((n, Some entry) ∷ slots) = kept_of n entry ∷ kept_from slots
 kept_from ((n, None) ∷ slots) = kept_from slots
 
--- the number of the first entry
+-- the number of the first entry, if there is one
 abbrev pub first_number : List Kept → Option Number
 first_number [] = None
 first_number (kept ∷ entries) = Some kept.number
 
--- the slot of a number
+-- what stands in the slot of number `n`, if there is such a slot: an entry, or none
 abbrev pub slot_at : List (ℕ × Option Entry) → ℕ → Option (Option Entry)
 slot_at slots n = lookup (is_at (nat_cmp n)) slots
 
--- what stands in it
+-- the entry in the slot of number `n`, if there is one
 abbrev pub held_in : List (ℕ × Option Entry) → ℕ → Option Entry
 held_in slots n = option_and_then (λ (entry : Option Entry). entry) (slot_at slots n)
 
--- the slot at this index is the number's
+-- the slot at this index is that of number `n`
 abbrev pub IsIndexOf : List (ℕ × Option Entry) → ℕ → ℕ → Type 0
 IsIndexOf slots n index = (index < length slots) × HoldsAt (λ (slot : ℕ × Option Entry). slot.0 ≡ n) slots index
 
--- what a number has, if anything, before what others have
+-- the list `xs`, with `n` and its value put in front if there is a value
 abbrev pub first_beside : {X : Type 0} → ℕ → Option X → List (ℕ × X) → List (ℕ × X)
 first_beside n (Some x) xs = (n, x) ∷ xs
 first_beside n None xs = xs
 
--- what the entries have, each with its number
+-- the values that `part` gives for the entries in slots, each with its number
 abbrev pub all_beside : {X : Type 0} → (Entry → Option X) → List (ℕ × Option Entry) → List (ℕ × X)
 all_beside part [] = []
 all_beside part ((n, Some entry) ∷ slots) = first_beside n (part entry) (all_beside part slots)
 all_beside part ((n, None) ∷ slots) = all_beside part slots
 
--- the file of an entry, and its note
+-- the file that is remembered of an entry, if there is one
 abbrev pub file_beside : Entry → Option FileId
 file_beside entry = entry.file
 
 abbrev pub note_beside : Entry → Option ℕ
 note_beside entry = entry.note
 
--- the files that are remembered, and the notes
+-- the files that are remembered of the entries in slots, each with its number
 abbrev pub files_from : List (ℕ × Option Entry) → List (ℕ × FileId)
 files_from slots = all_beside file_beside slots
 
 abbrev pub notes_from : List (ℕ × Option Entry) → List (ℕ × ℕ)
 notes_from slots = all_beside note_beside slots
 
--- how many numbers are reserved
+-- how many numbers are reserved: 1 or 0
 abbrev pub spare_of : Bool → ℕ
 spare_of ready = if ready then 1 else 0
 
--- numbers rise from a lowest one and stay below the next
+-- the numbers of the slots rise, are at least `low`, and are below `next`
 abbrev pub AreSlots : ℕ → ℕ → List (ℕ × Option Entry) → Type 0
 AreSlots low next [] = low ≤ next
 AreSlots low next (slot ∷ slots) = (low ≤ slot.0) × AreSlots (slot.0 + 1) next slots
 
--- the slots of a table, whichever its next number is
+-- the numbers of the slots rise from 2, whichever number is next
 abbrev pub IsSlots : List (ℕ × Option Entry) → Type 0
 IsSlots slots = (next : ℕ) × AreSlots 2 next slots
 
--- an entry stands under this name in the directory, and has this number
+-- the entry of number `n` stands under this name in the directory `dir`
 abbrev pub Stands : List Kept → ℕ → List ℕ → ℕ → Type 0
 Stands entries dir name n =
     (kept : Kept) × (entry_of entries n ≡ Some kept) × (kept.place ≡ Linked (record { 0 = dir }) name)
 
--- a key is that of an entry's place
+-- the key is that of the place at which the entry of number `n` stands
 abbrev pub IsKeyOf : List Kept → ℕ → ℕ → Type 0
 IsKeyOf entries key n = (dir : ℕ) × (name : List ℕ) × Stands entries dir name n × (key_of dir name ≡ key)
 
--- the index has the number for its place: as the latest, at its key, or under its name
+-- the index has number `n` for a place: as the link that was added last, at the place's key, or under its name
 abbrev pub IsFiled : Index → ℕ → List ℕ → ℕ → Type 0
 IsFiled index dir name n =
     (is_latest index.latest n ≡ true)
     ⊎ ((at_key index.maps.numbers (key_of dir name) ≡ Some n) ⊎ (written index.maps.others dir name ≡ Some n))
 
--- the link that was added last is that of an entry
+-- the link is that of an entry: the entry has its number and stands in its directory, at a place with its key
 abbrev pub IsLinkOf : List Kept → Link → Type 0
 IsLinkOf entries link =
     (name : List ℕ) × Stands entries link.parent name link.number × (link.key ≡ key_of link.parent name)
 
--- one if the entry stands in the directory, else none
+-- 1 if the entry stands in the directory `dir`, else 0
 abbrev pub kid_in : ℕ → Kept → ℕ
 kid_in dir kept = if is_kid_of dir kept then 1 else 0
 
--- how many entries stand in a directory
+-- how many entries stand in the directory `dir`
 abbrev pub kids_of : ℕ → List Kept → ℕ
 kids_of dir [] = 0
 kids_of dir (kept ∷ entries) = kids_of dir entries + kid_in dir kept
 
--- what the index has of the entries: it has each linked one, and nothing else; and it counts those in each directory
+-- the index has each linked entry and nothing else, counts those in each directory, and no two stand at one place
 pub record IsIndexed (entries : List Kept) (index : Index) : Type 0 where
   pub apart : (dir : ℕ) (name : List ℕ) (n m : ℕ) → Stands entries dir name n → Stands entries dir name m → n ≡ m
   pub found : (dir : ℕ) (name : List ℕ) (n : ℕ) → Stands entries dir name n → IsFiled index dir name n

@@ -11,7 +11,7 @@ use crate::table::{Slot, held_at};
 use eden_base::{Name, NoMemory, Number, Place};
 use std::alloc::Global;
 
-/// The place of an entry by its key, and its number.
+/// The link of an entry: the number of its directory, the key of its place, and its number.
 #[derive(Drop)]
 pub(crate) struct Link {
     parent: u64,
@@ -19,9 +19,9 @@ pub(crate) struct Link {
     number: u64,
 }
 
-/// The index of the linked entries. It has no names: a number that it has at the key of a place is that of the place if
-/// the entry says so. The link that was added last stands beside the maps until `settle` makes it one of them, so that
-/// a link is added without memory.
+/// The index of the linked entries. It stores no names: a number that it has at the key of a place is that of the place
+/// only if the number's entry stands there. The link that was added last stays beside the maps until `settle` moves it
+/// into them, so that `add` takes no memory.
 #[derive(Drop)]
 pub(crate) struct Index {
     maps: Maps,
@@ -39,7 +39,7 @@ impl Index {
         }
     }
 
-    /// Returns the index of these entries.
+    /// Makes the index of `entries`.
     pub fn of_entries(alloc: Global, entries: &[Kept]) -> Result<Index, NoMemory>
         requires { (next : ℕ) × AreEntries entries.now next }
         ensures { IfOk result (IsIndexed entries.now) }
@@ -55,7 +55,7 @@ impl Index {
         Ok(Index { maps, latest: None })
     }
 
-    /// Returns the number of a name in a directory, where the slots have the entries.
+    /// Returns the number that stands under `name` in the directory `parent`. The entries stand in `slots`.
     pub fn get(&self, slots: &[Slot], parent: u64, name: &Name) -> Option<u64>
         requires slots { IsSlots slots.now }
         requires indexed { IsIndexed (kept_from slots.now) self.now }
@@ -72,7 +72,7 @@ impl Index {
         self.maps.other(parent, name)
     }
 
-    /// Tells whether a name stands in the directory.
+    /// Returns whether a name stands in the directory `parent`.
     pub fn has_names(&self, parent: u64) -> bool
         ensures { result ≡ nat_lt 0 (names_in self.now parent) }
     {
@@ -82,7 +82,7 @@ impl Index {
         self.maps.has_names(parent)
     }
 
-    /// Moves the link that was added last into the maps, so that there is room for another.
+    /// Moves the link that was added last into the maps, so that `add` can add another. The entries stand in `slots`.
     pub fn settle(&mut self, alloc: Global, slots: &[Slot]) -> Result<(), NoMemory>
         requires slots { IsSlots slots.now }
         requires fits { length slots.now < 2 ^ 64 }
@@ -118,7 +118,7 @@ impl Index {
         });
     }
 
-    /// Removes the link of a number, whose name is this in the directory.
+    /// Removes the link of `number`, which stands under `name` in the directory `parent`.
     pub fn remove(&mut self, parent: u64, name: &Name, number: u64)
         ensures { Unlinks self.old self.new parent name.now number }
     {
@@ -127,7 +127,8 @@ impl Index {
             .drop_link(parent, name, key_of(parent, name), number);
     }
 
-    /// Counts the name of a number in its directory no more.
+    /// Takes the name of `number` off the count of its directory `parent`, or drops the link that was added last if it
+    /// is of `number`.
     fn uncount(&mut self, parent: u64, number: u64)
         ensures numbers { self.new.maps.numbers ≡ self.old.maps.numbers }
         ensures others { self.new.maps.others ≡ self.old.maps.others }
@@ -145,7 +146,7 @@ impl Index {
     }
 }
 
-/// Tells whether the link beside the maps is the number's.
+/// Returns whether the link that was added last is of `number`.
 fn is_latest(latest: &Option<Link>, number: u64) -> bool
     ensures { result ≡ is_latest latest.now number }
 {
@@ -155,7 +156,7 @@ fn is_latest(latest: &Option<Link>, number: u64) -> bool
     }
 }
 
-/// Tells whether the link beside the maps is in the directory.
+/// Returns whether the link that was added last is in the directory `parent`.
 fn is_latest_in(latest: &Option<Link>, parent: u64) -> bool
     ensures { result ≡ is_latest_in latest.now parent }
 {
@@ -165,7 +166,7 @@ fn is_latest_in(latest: &Option<Link>, parent: u64) -> bool
     }
 }
 
-/// Returns the number of the link beside the maps, if it has this key.
+/// Returns the number of the link that was added last, if the link has this key.
 fn latest_at(latest: &Option<Link>, key: u64) -> Option<u64>
     ensures { result ≡ latest_at latest.now key }
 {
@@ -175,7 +176,7 @@ fn latest_at(latest: &Option<Link>, key: u64) -> Option<u64>
     }
 }
 
-/// Returns a number if its entry stands under the name in the directory.
+/// Returns `number`, if there is one and its entry stands under `name` in the directory `parent`.
 fn standing(slots: &[Slot], number: Option<u64>, parent: u64, name: &Name) -> Option<u64>
     requires { IsSlots slots.now }
     ensures number { IfSome result (λ n. number ≡ Some n) }

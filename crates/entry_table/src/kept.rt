@@ -6,28 +6,28 @@ ghost use Rattle.entry_table.specs.Table.{kept_of};
 use eden_base::{FileId, Name, NoMemory, Number, Place};
 use std::alloc::Global;
 
-/// A number that was given and is kept: the kernel holds it, or a number below it.
+/// An entry with its number, as an image keeps it. The kernel holds the number, or a number below it in the tree.
 #[derive(Drop)]
 pub struct Kept {
     pub number: Number,
     pub place: Place,
-    /// How often the kernel holds it, as far as the daemon knows.
+    /// How often the kernel holds the number, as far as the daemon knows.
     pub count: u64,
 }
 
-/// What the table has of a number.
+/// What the table stores of a number.
 #[derive(Drop)]
 pub struct Entry {
     pub place: Place,
     pub count: u64,
     /// The file that the number names, once it was found.
     pub file: Option<FileId>,
-    /// What the table's user notes of it. The table doesn't look at it.
+    /// What the table's user notes of the number. The table doesn't read the note.
     pub note: Option<u32>,
 }
 
 impl Entry {
-    /// Tells whether the entry stands under a name.
+    /// Returns whether the entry stands under a name.
     pub fn is_linked(&self) -> bool
         ensures linked { result ≡ is_under_name self.now.place }
     {
@@ -37,7 +37,7 @@ impl Entry {
         }
     }
 
-    /// Returns what an image keeps of the entry, in memory of its own.
+    /// Returns what an image keeps of the entry of `number`, as an owned copy.
     pub(crate) fn kept(&self, alloc: Global, number: Number) -> Result<Kept, NoMemory>
         ensures entry { IfOk result (λ kept. kept ≡ kept_of number.0 self.now) }
         ensures named { IfOk result IsNamedEntry }
@@ -51,7 +51,7 @@ impl Entry {
     }
 }
 
-/// Returns the same place, in memory of its own.
+/// Returns an owned copy of `place`.
 fn copy_of(alloc: Global, place: &Place) -> Result<Place, NoMemory>
     ensures copy { IfOk result (λ copy. copy ≡ place.now) }
     ensures named { IfOk result HasName }

@@ -12,8 +12,9 @@ pub(crate) struct Directory {
     numbers: BTreeMap<Name, u64>,
 }
 
-/// The links of entries by the keys of their places. A key has one number. A link whose key is another's stands in
-/// `others`, under its name. Keys are ordered, not hashed once more, so that no choice of names makes a search long.
+/// The links of entries, by the keys of their places. Each key has at most one number. A link whose key is taken stands
+/// in `others`, under its name. The keys are ordered, not hashed once more, so that no choice of names makes a search
+/// long.
 #[derive(Drop)]
 pub(crate) struct Maps {
     numbers: BTreeMap<u64, u64>,
@@ -43,14 +44,14 @@ impl Maps {
         self.numbers.get(&key).copied()
     }
 
-    /// Returns the number of a name whose key is another's.
+    /// Returns the number that `others` has for `name` in the directory `parent`: its key was taken.
     pub fn other(&self, parent: u64, name: &Name) -> Option<u64>
         ensures { result ≡ written self.now.others parent name.now }
     {
         self.others.get(&parent)?.numbers.get(name).copied()
     }
 
-    /// Tells whether a name is counted in the directory.
+    /// Returns whether a name is counted in the directory `parent`.
     pub fn has_names(&self, parent: u64) -> bool
         ensures { result ≡ nat_lt 0 (counted self.now.counts parent) }
     {
@@ -60,7 +61,7 @@ impl Maps {
         }
     }
 
-    /// Files a link of this key, and counts its name.
+    /// Adds the link of `number` at `key`, or under its name if the key is taken, and counts the name.
     pub fn file(
         &mut self,
         alloc: Global,
@@ -87,7 +88,7 @@ impl Maps {
         Ok(())
     }
 
-    /// Drops the link of a number, from its key or from under its name.
+    /// Removes the link of `number`, from its key or from under its name. The counts stay.
     pub fn drop_link(&mut self, parent: u64, name: &Name, key: u64, number: u64)
         ensures drops { Drops self.old self.new parent name.now key number }
         ensures counts { self.new.counts ≡ self.old.counts }
@@ -96,7 +97,7 @@ impl Maps {
         remove(&mut self.others, parent, name);
     }
 
-    /// Counts a name of a directory no more.
+    /// Takes one name off the count of the directory `parent`.
     pub fn uncount(&mut self, parent: u64)
         ensures numbers { self.new.numbers ≡ self.old.numbers }
         ensures others { self.new.others ≡ self.old.others }
@@ -107,7 +108,7 @@ impl Maps {
     }
 }
 
-/// Makes the key of a place. It is a polynomial in a large odd number, so that places of few names have keys apart.
+/// Returns the key of a place: a polynomial in a large odd number, so that two places rarely share a key.
 pub(crate) fn key_of(parent: u64, name: &Name) -> u64
     ensures { result ≡ key_of parent name.now }
 {
@@ -120,7 +121,7 @@ pub(crate) fn key_of(parent: u64, name: &Name) -> u64
     key
 }
 
-/// Lets a key have a number, or a name where the key has one.
+/// Puts `number` at `key`, or under `name` in the directory `parent` if the key is taken.
 fn place(
     numbers: &mut BTreeMap<u64, u64>,
     others: &mut HashMap<u64, Directory>,
@@ -145,7 +146,7 @@ fn place(
     Ok(())
 }
 
-/// Takes a number from its key, if the key has it.
+/// Removes `number` from `key`, if it is there.
 fn take_key(numbers: &mut BTreeMap<u64, u64>, key: u64, number: u64)
     ensures { (k : ℕ) → at_key numbers.new k
         ≡ (if k == key && is_at_key numbers.old key number then None else at_key numbers.old k) }
@@ -159,7 +160,7 @@ fn take_key(numbers: &mut BTreeMap<u64, u64>, key: u64, number: u64)
     numbers.remove(&key);
 }
 
-/// Counts a name of a directory no more. A directory leaves with its last name.
+/// Takes one name off the count of the directory `parent`, and removes the count of a directory with its last name.
 fn lower(counts: &mut HashMap<u64, u64>, parent: u64)
     ensures { (dir : ℕ) → counted counts.new dir ≡ counted counts.old dir - one_in dir parent }
 {
@@ -173,7 +174,7 @@ fn lower(counts: &mut HashMap<u64, u64>, parent: u64)
     counts.remove(&parent);
 }
 
-/// Lets a name in a directory have a number.
+/// Puts `number` under `name` in the directory `parent`.
 fn insert(
     directories: &mut HashMap<u64, Directory>,
     alloc: Global,
@@ -192,7 +193,7 @@ fn insert(
     Ok(())
 }
 
-/// Removes a name from its directory, and the directory with its last name.
+/// Removes `name` from the directory `parent`, and removes the directory with its last name.
 fn remove(directories: &mut HashMap<u64, Directory>, parent: u64, name: &Name)
     ensures { (dir : ℕ) (q : List ℕ) → written directories.new dir q
         ≡ (if is_link dir q parent name.now then None else written directories.old dir q) }

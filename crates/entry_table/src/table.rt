@@ -21,11 +21,11 @@ use eden_base::{FileId, GREATEST_COUNT, Name, NoMemory, Number, Place};
 use std::alloc::{AllocError, Global};
 use std::marker::Model;
 
-/// A number and its entry. Where the entry has left, the slot stays empty until room is needed.
+/// A number and its entry. Once the entry was removed, the slot stays, empty, until room is needed.
 pub(crate) type Slot = (u64, Option<Entry>);
 
-/// The entries by number and by place. Their slots stand by rising number, so that a new one is the last. There is room
-/// for the next number's where that is reserved, and the way has room for a walk past all of them.
+/// The entries, by number and by place. The slots stand by rising number, so that a new number's slot is the last. If
+/// `is_reserved`, there is room for the slot of the next number. `way` has room for a walk past all entries.
 #[derive(Drop)]
 pub struct Table {
     slots: Vec<Slot>,
@@ -68,7 +68,7 @@ impl Table {
         }
     }
 
-    /// Makes a table of these entries, without files and notes.
+    /// Makes a table of `entries`, with no file remembered and no note.
     pub fn of_entries(alloc: Global, entries: Vec<Kept>, next: u64) -> Result<Table, NoMemory>
         requires entries { AreEntries entries.items next }
         ensures table { IfOk result (λ table. table
@@ -107,7 +107,7 @@ impl Table {
         held_at(self.slots.as_slice(), number)
     }
 
-    /// Returns the least number above another.
+    /// Returns the least number of an entry above `number`.
     pub fn after(&self, number: Number) -> Option<Number>
         ensures after { result ≡ number_after self.now.entries number.0 }
     {
@@ -115,7 +115,7 @@ impl Table {
         first_in(&slots[up_to(slots, number)..])
     }
 
-    /// Returns the entries, by rising number, in memory of their own.
+    /// Returns an owned copy of the entries, by rising number.
     pub fn to_entries(&self, alloc: Global) -> Result<Vec<Kept>, NoMemory>
         ensures entries { IfOk result (λ kept. kept.items ≡ self.now.entries) }
         ensures named { IfOk result (λ kept. AllByRecursion IsNamedEntry kept.items) }
@@ -123,7 +123,7 @@ impl Table {
         entries_of(alloc, self.slots.as_slice())
     }
 
-    /// Returns the number that stands under a name in a directory.
+    /// Returns the number that stands under `name` in the directory `parent`.
     pub fn find(&self, parent: Number, name: &Name) -> Option<Number>
         ensures number { result ≡ option_map number_of_kept (entry_at self.now.entries parent.0 name.now) }
     {
@@ -133,14 +133,14 @@ impl Table {
         }
     }
 
-    /// Tells whether an entry stands in the directory.
+    /// Returns whether an entry stands in the directory `parent`.
     pub fn has_kids(&self, parent: Number) -> bool
         ensures kids { result ≡ list_any (is_kid_of parent.0) self.now.entries }
     {
         self.index.has_names(parent.0)
     }
 
-    /// Makes room for one number.
+    /// Reserves the next number: makes room for its entry.
     pub fn reserve(&mut self, alloc: Global) -> Result<(), NoMemory>
         ensures ok { OnOk result (self.new ≡ record self.old { spare = 1 }) }
         ensures err { OnErr result (self.new ≡ self.old) }
@@ -156,7 +156,7 @@ impl Table {
         Ok(())
     }
 
-    /// Gives the number that is reserved to a name in a directory.
+    /// Gives the reserved number to `name` in the directory `parent`, and returns the number.
     pub fn add(&mut self, parent: Number, name: Name) -> Number
         requires reserved { self.old.spare ≡ 1 }
         requires is_new { entry_at self.old.entries parent.0 name ≡ None }
@@ -182,7 +182,7 @@ impl Table {
         number
     }
 
-    /// Counts a number once more, and returns whether it did. It doesn't at the greatest count.
+    /// Counts `number` once more, and returns whether it did. A count at its greatest value stays.
     pub fn raise(&mut self, number: Number) -> bool
         requires held { IsSome (entry_of self.old.entries number.0) }
         ensures may { result ≡ nat_lt (count_of self.old.entries number.0) greatest_count }
@@ -205,7 +205,8 @@ impl Table {
         true
     }
 
-    /// Counts a number fewer times, and returns how often the kernel holds it then. A bad item changes nothing.
+    /// Counts `number` fewer times, by `k`, and returns the count that is left. A bad item changes nothing, and returns
+    /// none.
     pub fn lower(&mut self, number: Number, k: u64) -> Option<u64>
         ensures bad { IfNone result (is_bad_item self.old.entries number.0 k ≡ true) }
         ensures good { OnSome result (is_bad_item self.old.entries number.0 k ≡ false) }
@@ -230,7 +231,7 @@ impl Table {
         Some(entry.count)
     }
 
-    /// Remembers the file that a number names.
+    /// Remembers that `number` names `file`.
     pub fn remember(&mut self, number: Number, file: FileId)
         requires held { IsSome (entry_of self.old.entries number.0) }
         ensures remembered { self.new ≡ record self.old {
@@ -247,7 +248,7 @@ impl Table {
         entry.file = Some(file);
     }
 
-    /// Notes something of a number, in place of what was noted, or nothing.
+    /// Replaces the note of `number` by `note`, or removes it.
     pub fn note(&mut self, number: Number, note: Option<u32>)
         requires held { IsSome (entry_of self.old.entries number.0) }
         ensures noted { self.new ≡ record self.old { notes = noted self.old.notes number.0 note } }
@@ -262,7 +263,8 @@ impl Table {
         entry.note = note;
     }
 
-    /// Takes the name of a number away, and returns the directory in which it stood.
+    /// Puts the mark of `file` in place of the directory and name of `number`, and returns the directory in which the
+    /// number stood.
     pub fn unlink(&mut self, number: Number, file: FileId) -> Number
         requires linked { IsLinked self.old.entries number.0 }
         ensures unlinked { self.new ≡ record self.old {
@@ -291,7 +293,7 @@ impl Table {
         *parent
     }
 
-    /// Removes an entry, and returns where it stood.
+    /// Removes the entry of `number`, and returns the place where it stood.
     pub fn remove(&mut self, number: Number) -> Place
         requires held { IsSome (entry_of self.old.entries number.0) }
         ensures place { option_map place_of_kept (entry_of self.old.entries number.0) ≡ Some result }
@@ -310,7 +312,7 @@ impl Table {
         entry.place
     }
 
-    /// Finds the file that a number names in a tree, by the names above it.
+    /// Returns the file that `number` names in `tree`, found by the names above it.
     pub fn locate(&mut self, tree: &Tree, number: Number) -> Option<FileId>
         ensures found { MatchOption result
             ((file : FileId) → IsFileOf tree.now self.old.entries number.0 file → ⊥)
@@ -321,7 +323,7 @@ impl Table {
     }
 }
 
-/// Puts entries into slots, in their order.
+/// Puts `entries` into slots, in the same order.
 fn slots_of(alloc: Global, entries: Vec<Kept>) -> Result<Vec<Slot>, AllocError>
     ensures slots { IfOk result (λ slots. slots.items ≡ slots_of entries.items) }
     ensures len { IfOk result (λ slots. vec_len slots ≡ length entries.items) }
@@ -329,7 +331,7 @@ fn slots_of(alloc: Global, entries: Vec<Kept>) -> Result<Vec<Slot>, AllocError>
     entries.into_iter().map(slot_of).collect(alloc)
 }
 
-/// Makes the slot of an entry, without a file and a note.
+/// Makes the slot of an entry, with no file remembered and no note.
 fn slot_of(kept: Kept) -> Slot
     ensures { result ≡ slot_of kept }
 {
@@ -342,7 +344,7 @@ fn slot_of(kept: Kept) -> Slot
     (kept.number.0, Some(entry))
 }
 
-/// Returns the entries that stand in the slots, in memory of their own.
+/// Returns an owned copy of the entries that stand in `slots`.
 fn entries_of(alloc: Global, slots: &[Slot]) -> Result<Vec<Kept>, NoMemory>
     ensures entries { IfOk result (λ kept. kept.items ≡ kept_from slots.now) }
     ensures named { IfOk result (λ kept. AllByRecursion IsNamedEntry kept.items) }
@@ -358,8 +360,8 @@ fn entries_of(alloc: Global, slots: &[Slot]) -> Result<Vec<Kept>, NoMemory>
     Ok(entries)
 }
 
-/// Makes room for one more slot. Where there is none, it drops the empty slots, and takes memory for at least a quarter
-/// more than are left. So little memory is spare, and on average a new number costs a look at five slots.
+/// Makes room for one more slot. If there is none, it drops the empty slots, and reserves at least a quarter more than
+/// are left. Thus little memory is spare, and a new number costs a look at five slots on average.
 fn make_room(slots: &mut Vec<Slot>) -> Result<(), AllocError>
     ensures entries { kept_from slots.new.items ≡ kept_from slots.old.items }
     ensures files { files_from slots.new.items ≡ files_from slots.old.items }
@@ -377,8 +379,8 @@ fn make_room(slots: &mut Vec<Slot>) -> Result<(), AllocError>
     slots.try_reserve_exact(slots.len() / 4 + 1)
 }
 
-/// Returns the range of indexes in which the slots up to a number end. Numbers rise, so the slot of a number is at most
-/// as far from the first slot as its number is from the first number, and likewise from the last. Where no number is
+/// Returns a range of indexes that contains the end of the slots up to `number`. Numbers rise, so a number's slot is no
+/// farther from the first slot than the number is from the first number, and likewise from the last. If no number is
 /// missing, the range is one index.
 fn window(slots: &[Slot], number: Number) -> (usize, usize)
     requires { IsSlots slots.now }
@@ -396,7 +398,7 @@ fn window(slots: &[Slot], number: Number) -> (usize, usize)
     (len.saturating_sub(below), len.min(above + 1))
 }
 
-/// Returns how many slots have that number or a lower one.
+/// Returns how many slots are of `number` or of a lower number.
 fn up_to(slots: &[Slot], number: Number) -> usize
     requires { IsSlots slots.now }
     ensures parted { IsPartitionPoint (λ slot. slot.0 ≤ number.0) (λ slot. number.0 < slot.0) slots.now result }
@@ -418,7 +420,7 @@ fn first_in(slots: &[Slot]) -> Option<Number>
     None
 }
 
-/// Returns the index of a number's slot.
+/// Returns the index of the slot of `number`.
 fn index_of(slots: &[Slot], number: Number) -> Option<usize>
     requires { IsSlots slots.now }
     ensures index { IfSome result (IsIndexOf slots.now number.0) }
@@ -432,7 +434,7 @@ fn index_of(slots: &[Slot], number: Number) -> Option<usize>
     }
 }
 
-/// Returns the entry of a number.
+/// Returns the entry of `number`.
 pub(crate) fn held_at(slots: &[Slot], number: Number) -> Option<&Entry>
     requires { IsSlots slots.now }
     ensures held { option_copied result ≡ held_in slots.now number.0 }

@@ -10,8 +10,9 @@ use crate::table::{Slot, held_at};
 use checkout::Tree;
 use eden_base::{FileId, Number, Place};
 
-/// Climbs from a number to the root or to a number without a name, keeps the numbers on the way, and returns the file
-/// there. A way of more steps than there are entries goes in a circle.
+/// Climbs from `number` to the root, or to a number whose name was taken away, and returns the file of that top. Leaves
+/// the numbers passed in `way`. Returns none if a number has no entry, or if the way has more steps than there are
+/// entries, and so goes in a circle.
 fn climb(slots: &[Slot], way: &mut Vec<Number>, number: Number) -> Option<FileId>
     requires slots { IsSlots slots.now }
     requires room { length slots.now ≤ vec_capacity way.old }
@@ -37,7 +38,7 @@ fn climb(slots: &[Slot], way: &mut Vec<Number>, number: Number) -> Option<FileId
     Some(FileId::ROOT)
 }
 
-/// Finds the file of a number: climbs its way, and comes down again by the names on it.
+/// Returns the file that `number` names in `tree`: climbs to the top of its way, and comes down again by the names.
 pub(crate) fn locate(
     slots: &[Slot],
     way: &mut Vec<Number>,
