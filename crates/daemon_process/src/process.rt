@@ -25,25 +25,25 @@ use std::thread::{Scope, Threads};
 use std::time::Duration;
 use takeover_core::Versions;
 
-/// The versions of the image that a daemon writes and reads: whole, and in parts.
+/// The versions of the image that a daemon writes and reads: 1 is whole, 2 is in parts.
 const VERSIONS: [u16; 2] = [1, 2];
 
-/// How a daemon ran, with the writer of its lines.
+/// How a daemon's run ended, with the writer of the daemon's lines.
 #[derive(Drop)]
 pub struct DaemonRun<W> {
     pub out: W,
     pub ended: Result<(), DaemonFault>,
 }
 
-/// How a daemon serves until its end, with the writer of its lines.
+/// How a daemon ends that served, with the writer of its lines.
 #[derive(Drop)]
 struct Service<W> {
     out: W,
     exit: Exit,
 }
 
-/// Runs a daemon over the checkout of `manifest`, and writes its lines to `out`, each at once. Returns when another
-/// daemon took over or the mount is over.
+/// Runs a daemon over the checkout of `manifest`, and writes each line to `out` as soon as it is known. Returns when
+/// another daemon took over, the mount is over, or a fault ended the daemon.
 pub fn run_daemon<R: Threads + Wait + Clock + Files + Net + Sync, W: Write + Drop>(
     rt: &R,
     alloc: Global,
@@ -57,7 +57,7 @@ pub fn run_daemon<R: Threads + Wait + Clock + Files + Net + Sync, W: Write + Dro
     end_run(serve_mount(rt, alloc, &shared, orders, out))
 }
 
-/// Gets the seat and serves until the daemon ends.
+/// Gets the seat, serves until the daemon ends, and returns how it ends.
 fn serve_mount<R: Threads + Wait + Clock + Files + Net + Sync, W: Write + Drop>(
     rt: &R,
     alloc: Global,
@@ -73,7 +73,7 @@ fn serve_mount<R: Threads + Wait + Clock + Files + Net + Sync, W: Write + Drop>(
     }
 }
 
-/// Prints how a daemon ends, and returns how it ran.
+/// Prints the last line of a daemon, if its exit has one, and returns how its run ended.
 fn end_run<W: Write + Drop>(service: Service<W>) -> DaemonRun<W>
     ensures runs { (old : Option (List ℕ)) → PrintsUntil old (W.contents service.out) service.exit
         → RunsDaemon result.ended old (W.contents result.out) }
@@ -88,14 +88,14 @@ fn end_run<W: Write + Drop>(service: Service<W>) -> DaemonRun<W>
     }
 }
 
-/// Returns the versions that a daemon offers and takes.
+/// Returns the versions of the image that a daemon offers and accepts.
 fn versions() -> Versions
     ensures versions { result ≡ 1 ∷ 2 ∷ [] }
 {
     Versions::of(&VERSIONS)
 }
 
-/// Prints how a daemon ends, unless it ends by a fault.
+/// Prints the last line of a daemon and returns `Ok`, or prints nothing and returns the fault that ended the daemon.
 fn print_exit<W: Write>(out: &mut W, exit: Exit) -> io::Result<Result<(), DaemonFault>>
     ensures prints { IfOk result (λ told. PrintsExit exit told (W.contents out.old) (W.contents out.new)) }
 {
@@ -108,7 +108,7 @@ fn print_exit<W: Write>(out: &mut W, exit: Exit) -> io::Result<Result<(), Daemon
     Ok(Ok(()))
 }
 
-/// Serves the mount and takeovers, each in threads of its own, until the daemon ends.
+/// Serves the mount and takeovers in separate threads until the daemon ends, and returns how it ends.
 fn run<R: Threads + Wait + Clock + Sync, W: Write + Drop>(
     rt: &R,
     alloc: Global,
@@ -149,7 +149,7 @@ fn run<R: Threads + Wait + Clock + Sync, W: Write + Drop>(
     )
 }
 
-/// Serves the mount in this thread and takeovers in two more, of which one lets connections in.
+/// Serves the mount in this thread, and takeovers in two more: one accepts connections, one hands the mount over.
 fn run_within<'s, 'e: 's, R: Threads + Wait + Clock + Sync + 's, W: Write + Drop>(
     scope: &Scope<'s, &'e ()>,
     rt: &'e R,
@@ -176,7 +176,7 @@ fn run_within<'s, 'e: 's, R: Threads + Wait + Clock + Sync + 's, W: Write + Drop
     Service { out, exit }
 }
 
-/// Serves if the threads that takeovers need were made, and returns how the daemon ends.
+/// Serves if `are_made`: the threads that takeovers need were made. Returns how the daemon ends.
 fn serve_if<R: Threads + Wait + Clock + Sync, W: Write>(
     rt: &R,
     alloc: Global,

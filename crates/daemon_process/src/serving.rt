@@ -1,4 +1,4 @@
-//! A daemon while it serves.
+//! The rounds in which a daemon serves.
 ghost use Rattle.std.specs.Prelude.{◌≡◌, IfOk, OnErr, OnOk};
 ghost use Rattle.std.specs.Io.KnownBytes.{Appends};
 ghost use Rattle.daemon_process.specs.Ending.{PrintsUntil};
@@ -20,21 +20,21 @@ use std::time::Duration;
 use std::{mem, thread};
 use workers::{Rooms, Stop};
 
-/// How long a daemon that was refused memory waits, in milliseconds.
+/// How long a daemon waits after memory was refused, in milliseconds.
 const PAUSE: u64 = 1;
 
-/// The channels of a daemon's workers with their generation, and the rooms that rounds work in. There are no channels
-/// before the first round.
+/// The channels of a daemon's workers, the generation at which they were made, and the rooms that rounds work in.
+/// Before the first round there are no channels.
 #[derive(Drop)]
 struct Crew<'a, R: Clock> {
     generation: u64,
-    /// How often rounds had been asked to stop when its last one began.
+    /// How often rounds were asked to stop before the last round began.
     stops: u64,
     channels: Vec<Worker<'a, R>>,
     rooms: Rooms,
 }
 
-/// Serves by rounds of workers whenever the daemon may, until it ends.
+/// Serves by rounds of workers, whenever something may be lent, and returns the daemon's exit.
 pub(crate) fn serve<R: Threads + Wait + Clock + Sync, W: Write>(
     rt: &R,
     alloc: Global,
@@ -68,7 +68,7 @@ pub(crate) fn serve<R: Threads + Wait + Clock + Sync, W: Write>(
     unreachable!()
 }
 
-/// Serves a round over a lease, and gives it back. Returns the daemon's exit, if it ends.
+/// Serves a round over `lease`, and gives the lease back. Returns the daemon's exit, if the daemon ends.
 fn serve_lease<'a, R: Threads + Wait + Clock + Sync, W: Write>(
     rt: &'a R,
     alloc: Global,
@@ -104,8 +104,8 @@ fn serve_lease<'a, R: Threads + Wait + Clock + Sync, W: Write>(
     }
 }
 
-/// Makes the workers' channels at `generation`, if the present ones are of another, and else lets these heed `stop`.
-/// Returns whether the daemon begins to serve: it is at another generation, or a round was asked to stop meanwhile.
+/// Makes channels at `generation` if the present ones are of another generation, else makes the present ones heed
+/// `stop`. Returns whether the daemon begins to serve: at another generation, or again after a round was asked to stop.
 fn man<'a, R: Clock>(
     rt: &'a R,
     alloc: Global,
@@ -136,7 +136,7 @@ fn man<'a, R: Clock>(
     Ok(true)
 }
 
-/// Prints that the daemon serves at `generation`, if it begins to.
+/// Prints that the daemon serves at `generation`, if `is_new`.
 fn print_round<W: Write>(out: &mut W, is_new: bool, generation: u64) -> io::Result<()>
     ensures line { OnOk result (Appends (W.contents out.old) (W.contents out.new)
         (printed_of is_new generation)) }
@@ -147,7 +147,7 @@ fn print_round<W: Write>(out: &mut W, is_new: bool, generation: u64) -> io::Resu
     Ok(())
 }
 
-/// Prints that the daemon serves at a generation.
+/// Prints that the daemon serves at `generation`.
 fn print_serving<W: Write>(out: &mut W, generation: u64) -> io::Result<()>
     ensures line { OnOk result (Appends (W.contents out.old) (W.contents out.new)
         (serving_line generation)) }

@@ -16,16 +16,16 @@ use std::time::Duration;
 use takeover_core::Phase;
 use workers::Stop;
 
-/// The longest sleep of a thread that waits, in milliseconds.
+/// The longest sleep of a waiting thread, in milliseconds.
 const LONGEST_SLEEP: u64 = 60_000;
 
 /// What the lock protects.
 #[derive(Drop)]
 struct State {
     desk: DaemonDesk,
-    /// The stop of the round that runs now.
+    /// The stop of the round that runs or comes next, until a round is asked to stop.
     stop: Option<Arc<Stop>>,
-    /// How often a round was asked to stop.
+    /// How often a round was asked to stop; 0 follows the greatest count.
     stops: u64,
     exit: Option<Exit>,
 }
@@ -33,16 +33,16 @@ struct State {
 /// What a daemon's main thread does next.
 #[derive(Drop)]
 pub(crate) enum Next {
-    /// It serves a round, until it is asked to stop. The number is how often rounds were asked to stop before.
+    /// Serves a round until the round is asked to stop. The number is how often rounds were asked to stop before.
     Serve(Lease, Arc<Stop>, u64),
-    /// It waits for a change.
+    /// Waits for a change.
     Wait,
-    /// It waits a moment, as memory was refused.
+    /// Waits a moment, since memory was refused.
     Pause,
     Exit(Exit),
 }
 
-/// A daemon's desk under a lock, and what tells its threads that something changed.
+/// A daemon's desk under a lock, and the signal that tells its threads of changes.
 #[derive(Drop)]
 pub(crate) struct Shared {
     state: Mutex<State>,
@@ -89,7 +89,7 @@ impl State {
         Ok(again)
     }
 
-    /// Hears a frame of another daemon. If the daemon then is not serving any more, asks the round to stop.
+    /// Takes in a frame of another daemon. Asks the round to stop if the daemon doesn't serve after that.
     fn hear(&mut self, frame: &Frame) -> Hearing
         ensures hears { Hears self.old.desk frame.now result self.new.desk }
         ensures exit { self.new.exit ≡ self.old.exit }
@@ -102,7 +102,7 @@ impl State {
         heard
     }
 
-    /// Asks the round that runs now to stop, where one may.
+    /// Asks the round that runs to stop, if one may run.
     fn stop_round(&mut self)
         ensures stops { self.new.stops ≡ stops_behind (is_some self.old.stop) self.old.stops }
         ensures none { self.new.stop ≡ None }
@@ -117,7 +117,7 @@ impl State {
 }
 
 impl Shared {
-    /// Puts a desk under a lock.
+    /// Makes the shared state over `desk`, with no exit and no round.
     pub(crate) fn new(desk: DaemonDesk) -> Shared {
         Shared {
             state: Mutex::new(State {
@@ -130,57 +130,57 @@ impl Shared {
         }
     }
 
-    /// Returns how often something changed.
+    /// Returns how many changes were signalled.
     pub(crate) fn changes(&self) -> u64 {
         self.changes.notifications()
     }
 
-    /// Waits for a change after the first `seen` ones, for a minute at most.
+    /// Waits until more than `seen` changes were signalled, for a minute at most.
     pub(crate) fn sleep<R: Wait>(&self, rt: &R, seen: u64) {
         self.changes
             .sleep(rt, seen, Duration::from_millis(LONGEST_SLEEP));
     }
 
-    /// Makes the state to serve before the mount is asked for.
+    /// Makes what the daemon needs to serve, before it asks for the mount.
     pub(crate) fn prepare<R: Wait>(&self, rt: &R) -> Result<(), NoMemory> {
         self.state.lock(rt).desk.prepare()
     }
 
-    /// Takes in the broker's answer to a Mount.
+    /// Takes in the broker's answer to a Mount frame.
     pub(crate) fn take_mount<R: Wait>(&self, rt: &R, answer: &Frame) -> Mounting {
         self.state.lock(rt).desk.take_mount(answer)
     }
 
-    /// Returns what a new daemon offers.
+    /// Returns the frame by which a new daemon offers to take over.
     pub(crate) fn offer<R: Wait>(&self, rt: &R) -> Frame {
         self.state.lock(rt).desk.offer()
     }
 
-    /// Returns how far the daemon is in a takeover.
+    /// Returns the daemon's phase: how far it is in a takeover.
     pub(crate) fn phase<R: Wait>(&self, rt: &R) -> Phase {
         self.state.lock(rt).desk.phase()
     }
 
-    /// Hears a frame of another daemon.
+    /// Takes in a frame of another daemon, and signals a change.
     pub(crate) fn hear<R: Wait>(&self, rt: &R, frame: &Frame) -> Hearing {
         let heard = self.state.lock(rt).hear(frame);
         self.changes.notify_all();
         heard
     }
 
-    /// Ends the daemon's part in a takeover, and returns the frame to send to the other daemon.
+    /// Ends the daemon's part in a takeover, and returns the frame to send to the other daemon, if there is one.
     pub(crate) fn give_up<R: Wait>(&self, rt: &R) -> Option<Frame> {
         let told = self.state.lock(rt).desk.give_up();
         self.changes.notify_all();
         told
     }
 
-    /// Returns the claim that the daemon wants to make.
+    /// Returns the frame of the claim that the daemon wants to make, if it wants to make one.
     pub(crate) fn claim<R: Wait>(&self, rt: &R) -> Option<Frame> {
         self.state.lock(rt).desk.claim()
     }
 
-    /// Takes in the broker's answer to a Claim.
+    /// Takes in the broker's answer to a Claim frame.
     pub(crate) fn take_claim<R: Wait>(&self, rt: &R, answer: &Frame) -> Claiming {
         let claiming = self.state.lock(rt).desk.take_claim(answer);
         self.changes.notify_all();
@@ -192,14 +192,14 @@ impl Shared {
         self.state.lock(rt).next(alloc)
     }
 
-    /// Takes back what was lent for a round.
+    /// Takes a round's lease back.
     pub(crate) fn take_back<R: Wait>(&self, rt: &R, lease: Lease) {
         self.state.lock(rt).desk.take_back(lease);
         self.changes.notify_all();
     }
 
     /// Waits until the workers gave their lease back, and returns the frame to send to the other daemon. Returns none
-    /// where the daemon ends before that.
+    /// if the daemon's exit is noted before that.
     pub(crate) fn drain<R: Wait>(&self, rt: &R) -> Option<Frame> {
         for _ in rt.forever() {
             let seen = self.changes();
@@ -216,7 +216,7 @@ impl Shared {
         unreachable!()
     }
 
-    /// Notes how the daemon ends, unless it ends already.
+    /// Notes the daemon's exit, unless one is noted.
     pub(crate) fn end<R: Wait>(&self, rt: &R, exit: Exit) {
         let mut state = self.state.lock(rt);
         if state.exit.is_none() {
@@ -226,7 +226,7 @@ impl Shared {
         self.changes.notify_all();
     }
 
-    /// Returns whether the daemon ends.
+    /// Returns whether the daemon's exit is noted.
     pub(crate) fn is_over<R: Wait>(&self, rt: &R) -> bool {
         self.state.lock(rt).exit.is_some()
     }

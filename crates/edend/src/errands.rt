@@ -26,7 +26,7 @@ use world_script::{
     Sources, end_errand, gather_lines, read_manifest, read_path, run_process,
 };
 
-/// Runs the program in a process: a script of a whole mount, or an errand over sockets.
+/// Runs the program in a process: plays a script of a whole mount, or runs an errand over sockets.
 pub fn run_edend<R: Threads + Wait + Clock + Files + Net + Sync, P: Process>(
     host: &R,
     alloc: Global,
@@ -47,7 +47,7 @@ pub fn run_edend<R: Threads + Wait + Clock + Files + Net + Sync, P: Process>(
     }
 }
 
-/// Runs a noted errand to its end in a process.
+/// Runs the errand that was noted, and ends the process with it.
 fn run_noted<R: Threads + Wait + Clock + Files + Net + Sync, P: Process>(
     host: &R,
     alloc: Global,
@@ -69,14 +69,14 @@ fn run_noted<R: Threads + Wait + Clock + Files + Net + Sync, P: Process>(
     end_errand(ended, out, process.errors())
 }
 
-/// How an errand over sockets ran, with the writer of its lines.
+/// How an errand over sockets ended, with the writer of its lines.
 #[derive(Drop)]
 struct ErrandRun<'a, W> {
     out: W,
     ended: Result<(), Failure<'a>>,
 }
 
-/// Runs an errand over sockets.
+/// Runs an errand over sockets, and returns how it ended.
 fn run<'a, R: Threads + Wait + Clock + Files + Net + Sync, S: Sources, W: Write + Drop>(
     host: &R,
     alloc: Global,
@@ -93,7 +93,7 @@ fn run<'a, R: Threads + Wait + Clock + Files + Net + Sync, S: Sources, W: Write 
     }
 }
 
-/// Returns the run of an errand that printed nothing and failed by `failure`.
+/// Returns the run of an errand that printed nothing more to `out` and failed by `failure`.
 fn fails<'a, W: Write + Drop>(out: W, failure: Failure<'a>) -> ErrandRun<'a, W>
     ensures ended { result.ended ≡ Err failure.entry }
     ensures same { W.contents result.out ≡ W.contents out }
@@ -104,7 +104,7 @@ fn fails<'a, W: Write + Drop>(out: W, failure: Failure<'a>) -> ErrandRun<'a, W>
     }
 }
 
-/// Returns the failure of `fault`, caused by the system's error with the file, socket or stream `name`.
+/// Returns the failure of `fault`, which the system's error with the file, socket or stream `name` caused.
 fn caused<'a>(fault: Fault, name: &'a str, error: io::Error) -> Failure<'a>
     ensures fault { result.fault ≡ fault }
     ensures name { name_of result ≡ Some name.now }
@@ -115,7 +115,7 @@ fn caused<'a>(fault: Fault, name: &'a str, error: io::Error) -> Failure<'a>
     }
 }
 
-/// Reads a broker's script, and plays the kernel by it.
+/// Reads a broker's script, plays the kernel by it, and returns how the errand ended.
 fn broker<'a, R: Threads + Wait + Clock + Files + Net + Sync, S: Sources, W: Write + Drop>(
     host: &R,
     alloc: Global,
@@ -147,7 +147,7 @@ fn broker<'a, R: Threads + Wait + Clock + Files + Net + Sync, S: Sources, W: Wri
     }
 }
 
-/// Returns the failure of a script that is refused.
+/// Returns the failure of a broker whose script was refused.
 fn failure_of_script<'a>(fault: BrokerScriptFault, _words: &BrokerWords<'a>) -> Failure<'a>
     ensures { Names (BrokerErrand _words.now) result }
 {
@@ -157,7 +157,7 @@ fn failure_of_script<'a>(fault: BrokerScriptFault, _words: &BrokerWords<'a>) -> 
     }
 }
 
-/// Returns the failure of a broker that these words ask for.
+/// Returns the failure of a broker that ended by `fault`, run with these words.
 fn failure_of_broker<'a>(fault: BrokerFault, words: &BrokerWords<'a>) -> Failure<'a>
     ensures names { Names (BrokerErrand words.now) result }
     ensures first { (script : List BrokerLine) (old new : Option (List ℕ))
@@ -172,7 +172,7 @@ fn failure_of_broker<'a>(fault: BrokerFault, words: &BrokerWords<'a>) -> Failure
     }
 }
 
-/// Reads a manifest, and runs a daemon over its checkout.
+/// Reads a manifest, runs a daemon over its checkout, and returns how the errand ended.
 fn daemon<'a, R: Threads + Wait + Clock + Files + Net + Sync, S: Sources, W: Write + Drop>(
     host: &R,
     alloc: Global,
@@ -205,7 +205,7 @@ fn daemon<'a, R: Threads + Wait + Clock + Files + Net + Sync, S: Sources, W: Wri
     }
 }
 
-/// Returns the orders that `words` give the daemon.
+/// Returns a daemon's orders, as `words` give them.
 fn orders_of<'a>(words: &DaemonWords<'a>) -> Orders<'a>
     ensures broker { result.broker.now ≡ words.now.broker.now }
     ensures takeover { result.takeover.now ≡ words.now.takeover.now }
@@ -222,7 +222,7 @@ fn orders_of<'a>(words: &DaemonWords<'a>) -> Orders<'a>
     }
 }
 
-/// Returns how the daemon begins, as its words say.
+/// Returns how a daemon begins: it mounts, or takes over.
 fn start_of(start: world_script::Start) -> Start {
     match start {
         world_script::Start::Mount => Start::Mount,
@@ -230,7 +230,7 @@ fn start_of(start: world_script::Start) -> Start {
     }
 }
 
-/// Returns the failure of a daemon that these words ask for.
+/// Returns the failure of a daemon that ended by `fault`, run with these words.
 fn failure_of_daemon<'a>(fault: DaemonFault, words: &DaemonWords<'a>) -> Failure<'a>
     ensures names { Names (DaemonErrand words.now) result }
     ensures first { (old new : Option (List ℕ)) → RunsDaemon (Err fault) old new
