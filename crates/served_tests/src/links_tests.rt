@@ -100,7 +100,7 @@ fn an_end_between_frames_gives_none(rt: HostRuntime) {
     assert!(rt; matches!(front_gives(rt.alloc(), 0), Ok(None)));
 }
 
-/// Returns whether a frame of each stream has its fault, though no byte follows the one that shows it.
+/// Returns whether each stream of `faults` is refused with its fault, though no byte follows the one that shows it.
 fn faults_are_told(alloc: Global, faults: &[(&[u8], FrameFault)]) -> bool {
     for (stream, fault) in faults {
         let mut bytes = *stream;
@@ -117,8 +117,8 @@ fn a_faulty_frame_is_told_where_it_shows(rt: HostRuntime) {
     assert!(rt; faults_are_told(rt.alloc(), &FAULTS));
 }
 
-/// Streams: the claim, each that is faulty, and one that ends within a length; then an Empty, an Offer, and data of two
-/// bytes. With each, how many reads of one byte come to its end or its fault.
+/// Streams, each with how many reads of one byte it takes to its end or fault. They are the Claim, each faulty stream,
+/// and one that ends within a length. An Empty, an Offer, and data of two bytes follow.
 static STREAMS: [(&[u8], usize); 8] = [
     (&CLAIM_TEXT, 13),
     (&[0, 1, 0, 1], 4),
@@ -133,7 +133,8 @@ static STREAMS: [(&[u8], usize); 8] = [
     ),
 ];
 
-/// Returns whether a read that fails, of one byte each, ends the frame at once.
+/// Reads `rest` by single bytes, and lets the read `fails` fail. Returns whether that read ends the frame, as the last
+/// one.
 fn read_fails(alloc: Global, rest: &[u8], fails: usize) -> bool {
     let mut reader = Pieces {
         rest,
@@ -145,7 +146,7 @@ fn read_fails(alloc: Global, rest: &[u8], fails: usize) -> bool {
     matches!(read_frame(alloc, &mut reader), Err(FrameFault::Read)) && reader.reads == fails
 }
 
-/// Returns whether a failure of any of these reads ends the frame at once, and one of the next is not met.
+/// Returns whether a failure of any of the first `reads` reads ends the frame at once, and a later failure isn't met.
 fn each_read_fails(alloc: Global, stream: &[u8], reads: usize) -> bool {
     let end = reads.saturating_add(1);
     for fails in 1..end {
@@ -156,7 +157,7 @@ fn each_read_fails(alloc: Global, stream: &[u8], reads: usize) -> bool {
     !read_fails(alloc, stream, end)
 }
 
-/// Returns that of each stream.
+/// Calls `each_read_fails` with each stream, and returns whether all calls return true.
 fn all_reads_fail(alloc: Global, streams: &[(&[u8], usize)]) -> bool {
     for (stream, reads) in streams {
         if !each_read_fails(alloc, stream, *reads) {
@@ -171,7 +172,7 @@ fn a_read_that_fails_is_told(rt: HostRuntime) {
     assert!(rt; all_reads_fail(rt.alloc(), &STREAMS));
 }
 
-/// Returns whether the claim comes behind this many reads that are interrupted.
+/// Returns whether the Claim comes after `interrupted` reads that are interrupted.
 fn comes_late(alloc: Global, interrupted: usize) -> bool {
     let mut reader = Late {
         rest: &CLAIM,
@@ -180,7 +181,8 @@ fn comes_late(alloc: Global, interrupted: usize) -> bool {
     is_claim(read_frame(alloc, &mut reader))
 }
 
-/// Returns whether interrupted reads are made again, and count: the claim takes thirteen reads more.
+/// Returns whether interrupted reads are made again, and count among the 131,072 reads allowed: the Claim takes 13
+/// more.
 fn comes_late_enough(alloc: Global) -> bool {
     comes_late(alloc, 1) && comes_late(alloc, 131_059) && !comes_late(alloc, 131_060)
 }
@@ -190,7 +192,7 @@ fn an_interrupted_read_counts(rt: HostRuntime) {
     assert!(rt; comes_late_enough(rt.alloc()) || comes_late_enough(rt.alloc()));
 }
 
-/// Reads from a reader of which each read is interrupted. Returns how many reads are made, if the fault is `Read`.
+/// Reads from a reader whose every read is interrupted. Returns how many reads are made, if the fault is `Read`.
 fn interrupted_reads(alloc: Global) -> Option<usize> {
     let mut reader = Interrupted { reads: 0 };
     match read_frame(alloc, &mut reader) {
@@ -269,8 +271,8 @@ fn writes_claim(
     told == fault && writer.writes == writes && len <= 13 && writer.held.as_slice() == &CLAIM[..len]
 }
 
-/// Returns whether a Claim is written by one write, by two if the first is interrupted, and by 13 of a byte each. With
-/// a writer that takes nothing, a fault has to come.
+/// Returns whether a Claim is written by one write, by two if the first is interrupted, and by 13 of one byte each. A
+/// writer that takes nothing has to cause a fault.
 fn writes(alloc: Global) -> bool {
     writes_claim(alloc, sink(alloc, 64, 0, false), None, 13, 1)
         && writes_claim(alloc, sink(alloc, 64, 0, true), None, 13, 2)

@@ -1,5 +1,6 @@
-//! Images with a byte set to 00, set to ff, or with its lowest bit turned: each is refused, whole and in pieces, or is the
-//! one spelling of what is read. What is raised of it knows each of its numbers, and is handed over and taken over again.
+//! Images with one byte set to 00, set to ff, or with its lowest bit flipped. Each damaged image is refused, whole and
+//! in pieces, or its bytes are just those that are written for what is read. If a daemon can be raised from the image,
+//! it knows each of its numbers, and is handed over and taken over again.
 ghost use Rattle.std.specs.Prelude.{◌≡◌, IfOk};
 ghost use Rattle.map_image.specs.Fit.{IsFit};
 
@@ -17,10 +18,10 @@ use manifest::Manifest;
 use map_image::{Image, ImageFault};
 use std::alloc::Global;
 
-/// What is done to a byte.
+/// What is done to a byte: the bits that are kept, and then the bits that are flipped.
 static TURNS: [(u8, u8); 3] = [(0x00, 0x00), (0x00, 0xff), (0xff, 0x01)];
 
-/// Returns the changed image in a version with one byte damaged: some of its bits are kept, and then some are turned.
+/// Returns the changed image in `version`, with the byte at `at` damaged by `turn`.
 fn damaged(version: u8, at: usize, turn: (u8, u8)) -> [u8; 147] {
     let mut bytes = changed_with(5, version);
     if let Some(place) = bytes.get_mut(at) {
@@ -29,7 +30,7 @@ fn damaged(version: u8, at: usize, turn: (u8, u8)) -> [u8; 147] {
     bytes
 }
 
-/// Returns whether an image is spelled so in a version, or its fault.
+/// Returns whether `image` is written as just `bytes` in `version`, or the fault with which it was refused.
 fn spelled_so(
     alloc: Global,
     image: Result<Image, ImageFault>,
@@ -48,8 +49,8 @@ fn spelled_so(
     }
 }
 
-/// Returns whether bytes are the one spelling of an image or have the same fault, whole, in two pieces, and one by one.
-/// The first piece has this length.
+/// Returns whether `bytes` are read with the same result whole, in two pieces, and byte by byte: they are refused with
+/// one fault, or are just what is written for the image read. The first of two pieces has `len` bytes.
 fn is_alike_in_pieces(alloc: Global, version: u16, bytes: &[u8], len: usize) -> bool {
     let whole = spelled_so(alloc, image_of_bytes(alloc, bytes), version, bytes);
     whole != Ok(false)
@@ -57,7 +58,7 @@ fn is_alike_in_pieces(alloc: Global, version: u16, bytes: &[u8], len: usize) -> 
         && spelled_so(alloc, image_of_each(alloc, bytes), version, bytes) == whole
 }
 
-/// Returns whether the attributes of each number are answered.
+/// Returns whether the attributes of each number of the map are answered.
 fn knows_each(alloc: Global, served: &mut Served, manifest: &Manifest) -> bool
     requires over { served.old.tree.manifest ≡ manifest.now }
 {
@@ -75,7 +76,7 @@ fn knows_each(alloc: Global, served: &mut Served, manifest: &Manifest) -> bool
     false
 }
 
-/// Returns whether bytes that were handed over are taken over, and handed over as the same.
+/// Returns whether `bytes`, which were handed over, are taken over, and are handed over as the same bytes again.
 fn is_taken_again(alloc: Global, manifest: &Manifest, version: u16, bytes: &[u8]) -> bool {
     match taken(alloc, manifest, bytes) {
         Ok(served) => {
@@ -90,7 +91,7 @@ fn is_taken_again(alloc: Global, manifest: &Manifest, version: u16, bytes: &[u8]
     }
 }
 
-/// Returns whether what is served is handed over as bytes that are taken over again, and knows each of its numbers.
+/// Returns whether `served` is handed over as bytes that are taken over again, and knows each of its numbers.
 fn is_sound(alloc: Global, served: &mut Served, manifest: &Manifest, version: u16) -> bool
     requires over { served.old.tree.manifest ≡ manifest.now }
 {
@@ -104,7 +105,7 @@ fn is_sound(alloc: Global, served: &mut Served, manifest: &Manifest, version: u1
     }
 }
 
-/// Returns whether nothing can be restored from `bytes`, or what is restored is sound.
+/// Returns whether nothing can be raised from `bytes`, or what is raised is sound.
 fn is_refused_or_sound(alloc: Global, manifest: &Manifest, version: u16, bytes: &[u8]) -> bool {
     match raised(alloc, manifest, bytes) {
         Ok(served) => {
@@ -117,7 +118,7 @@ fn is_refused_or_sound(alloc: Global, manifest: &Manifest, version: u16, bytes: 
     }
 }
 
-/// Returns whether the image with a byte damaged is refused, or is sound.
+/// Damages the byte at `at`, and returns whether the image reads the same in pieces, and is refused or sound.
 fn is_told(alloc: Global, manifest: &Manifest, version: u8, at: usize, turn: (u8, u8)) -> bool {
     let bytes = damaged(version, at, turn);
     let number = u16::from(version);
@@ -125,7 +126,7 @@ fn is_told(alloc: Global, manifest: &Manifest, version: u8, at: usize, turn: (u8
         && is_refused_or_sound(alloc, manifest, number, &bytes)
 }
 
-/// Returns that of each turn.
+/// Calls `is_told` with each element of `TURNS`, and returns whether all calls return true.
 fn is_told_by_each(alloc: Global, manifest: &Manifest, version: u8, at: usize) -> bool {
     for turn in &TURNS {
         if !is_told(alloc, manifest, version, at, *turn) {
@@ -135,7 +136,7 @@ fn is_told_by_each(alloc: Global, manifest: &Manifest, version: u8, at: usize) -
     true
 }
 
-/// Returns that of each byte.
+/// Calls `is_told_by_each` with each byte of the image, and returns whether all calls return true.
 pub(crate) fn is_told_everywhere(alloc: Global, manifest: &Manifest, version: u8) -> bool {
     for at in 0..147 {
         if !is_told_by_each(alloc, manifest, version, at) {

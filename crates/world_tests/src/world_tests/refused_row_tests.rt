@@ -1,6 +1,6 @@
-//! Scripts in which an allocation may be refused, one in a run, as `tools/refuse --rows` does. A `do` is the list of its
-//! events here. An event that was refused memory is made again, and so are those of a `do` that was answered ENOMEM, from
-//! its issue on: then the script prints what it prints with ample memory.
+//! Scripts that are played with one allocation refused in each run, as `tools/refuse --rows` does. A `do` is made by
+//! its single events. An event that was refused memory is made again. A `do` that was answered ENOMEM is made again
+//! from its issue on. Then the script prints what it prints with ample memory.
 use super::events::manifest;
 use super::lines::event_of;
 use super::parts_tests;
@@ -14,7 +14,7 @@ use std::alloc::Global;
 use std::io::{self, Write};
 use world::{Event, Happened, Outcome, World};
 
-/// The lines of a script, and what they print.
+/// The lines of a script, and what the script prints.
 type Row = (&'static [u8], &'static [u8]);
 
 static TWO_LOOKUPS: Row = (
@@ -37,13 +37,13 @@ static ERRORS: Row = (
     b"daemon 1\nmounted 1\nanswer 1 error ENOTEMPTY\nanswer 2 error EISDIR\nanswer 3 error ENOTDIR\nanswer 4 error ENOENT\nanswer 5 entry 2 dir 0700 0 2\nanswer 6 error EEXIST\nanswer 7 done\nanswer 8 error ENOENT\nanswer 9 attr 2 dir 0700 0 0\nanswer 10 error ENOSYS\nrefused NotHeld\n",
 );
 
-/// The lines of a takeover in parts behind the lookups, and what they print up to the numbers that `show` has.
+/// The lines of a takeover in parts, after the lookups, and what they print before the numbers that `show` prints.
 static PARTS: Row = (
     b"start 1 2\nhear 1 2\nhear 2 3\ndrained 1\nhear 2 4\nhear 1 5\nhear 2 7\nhear 2 6\nhear 2 6\nhear 2 7\nclaim 2\nshow",
     b"daemon 2\nsaid 3 choice 1 2\nheard\nsaid 4 ready 1 1\nsaid 5 pong 1\nsaid 6 parts 1 1 2 5262\nignored\nheard\nignored\nheard\nclaimed 2\nseat 2 2 next 202\n",
 );
 
-/// Lets an event happen, and once more where memory was refused.
+/// Makes `event` happen, and once more if memory was refused. Returns the last outcome.
 fn outcome_of(world: &mut World, event: &Event) -> Outcome {
     let outcome = world.step(event);
     if last_of(&outcome) != REFUSED {
@@ -53,7 +53,7 @@ fn outcome_of(world: &mut World, event: &Event) -> Outcome {
     world.step(event)
 }
 
-/// Lets the events of a `do` behind its issue happen, up to the first that is refused. Returns what was told last.
+/// Makes the events of a `do` after its issue happen, up to the first that is refused. Returns what was told last.
 fn worked(world: &mut World, is_ask: bool) -> Option<Happened> {
     let daemon = world.broker().seat()?.daemon;
     let position = 1;
@@ -79,7 +79,7 @@ fn worked(world: &mut World, is_ask: bool) -> Option<Happened> {
     told
 }
 
-/// Lets the events of a `do` happen, and returns what was told last.
+/// Makes the events of a `do` happen, and returns what was told last.
 fn done_once(world: &mut World, issue: &Event) -> Option<Happened> {
     match last_told(world, issue) {
         Some(Happened::Asked(unique)) => worked(world, unique.is_some()),
@@ -87,7 +87,7 @@ fn done_once(world: &mut World, issue: &Event) -> Option<Happened> {
     }
 }
 
-/// Returns whether the kernel was answered that memory was refused.
+/// Returns whether `told` is the reply ENOMEM to the kernel.
 fn is_out_of_memory(told: &Happened) -> bool {
     match reply_told(told) {
         Some(reply) => reply.answer == Answer::Error(Errno::ENOMEM),
@@ -95,7 +95,8 @@ fn is_out_of_memory(told: &Happened) -> bool {
     }
 }
 
-/// Lets the events of a `do` happen, and once more where it was answered ENOMEM: then later uniques are one higher.
+/// Makes a `do` of `request`, and makes it again if it was answered ENOMEM. Then adds 1 to `late`, since later uniques
+/// are one higher. Returns what was told last.
 fn done(world: &mut World, request: Request, late: &mut u64) -> Option<Happened> {
     let issue = Event::Issue(request);
     let mut told = done_once(world, &issue);
@@ -111,7 +112,8 @@ fn done(world: &mut World, request: Request, late: &mut u64) -> Option<Happened>
     told
 }
 
-/// Prints what a `do` told last, with the unique that it has where none was made again.
+/// Prints what a `do` told last. Lowers the unique by `late`, so that it is the one of a run in which nothing is made
+/// again.
 fn print_done(out: &mut Vec<u8>, told: &Happened, late: u64) -> io::Result<()> {
     match told {
         Happened::Answered(reply) => {
@@ -128,7 +130,7 @@ fn print_done(out: &mut Vec<u8>, told: &Happened, late: u64) -> io::Result<()> {
     }
 }
 
-/// Lets an event happen that is no `do`, and prints what it told.
+/// Makes `event`, which is no `do`, happen, and prints what it told.
 fn print_other(out: &mut Vec<u8>, world: &mut World, event: &Event) -> io::Result<()> {
     let outcome = outcome_of(world, event);
     let printed = print_event(out, world, event, &outcome);
@@ -136,7 +138,7 @@ fn print_other(out: &mut Vec<u8>, world: &mut World, event: &Event) -> io::Resul
     printed
 }
 
-/// Lets an event happen, and prints what it told.
+/// Makes `event` happen, and prints what it told.
 fn print_told(
     out: &mut Vec<u8>,
     world: &mut World,
@@ -156,7 +158,7 @@ fn print_told(
     }
 }
 
-/// Returns what is expected behind what a line prints, where it prints the front of what is expected.
+/// Plays `line`, and returns `expected` without what the line printed, if `expected` begins with that.
 fn behind<'a>(
     alloc: Global,
     out: &mut Vec<u8>,
@@ -171,7 +173,7 @@ fn behind<'a>(
     expected.strip_prefix(out.as_slice())
 }
 
-/// Returns whether the lines of a script print these, and no more.
+/// Plays the lines of `script`, and returns whether they print exactly `printed`.
 fn all_print(
     alloc: Global,
     out: &mut Vec<u8>,
@@ -190,7 +192,7 @@ fn all_print(
     expected.is_empty()
 }
 
-/// Makes room for what a line prints, and once more where memory was refused.
+/// Makes a buffer for what a line prints, and tries once more if memory was refused.
 fn room(alloc: Global) -> Option<Vec<u8>> {
     match Vec::with_capacity(alloc, 32_768) {
         Ok(out) => Some(out),
@@ -242,7 +244,7 @@ fn answers_each_error(rt: HostRuntime) {
     assert!(rt; prints_row(rt.alloc(), &ERRORS));
 }
 
-/// Writes a script of a lookup of each of the 200 files, and a takeover in parts behind it.
+/// Writes a script that looks up each of the 200 files, and then makes a takeover in parts.
 fn put_script(text: &mut Vec<u8>) -> io::Result<()> {
     text.write_all(b"start 1 2\nmount 1\n")?;
     for file in 0..200 {
@@ -251,7 +253,7 @@ fn put_script(text: &mut Vec<u8>) -> io::Result<()> {
     text.write_all(PARTS.0)
 }
 
-/// Writes what the lookups print.
+/// Writes what the 200 lookups print.
 fn put_answers(text: &mut Vec<u8>) -> io::Result<()> {
     for unique in 1..201 {
         let number = unique + 1;
@@ -260,7 +262,7 @@ fn put_answers(text: &mut Vec<u8>) -> io::Result<()> {
     Ok(())
 }
 
-/// Writes what `show` prints for each number.
+/// Writes what `show` prints of each of the 200 numbers.
 fn put_numbers(text: &mut Vec<u8>) -> io::Result<()> {
     for file in 0..200 {
         let number = file + 2;
@@ -272,7 +274,7 @@ fn put_numbers(text: &mut Vec<u8>) -> io::Result<()> {
     Ok(())
 }
 
-/// Writes what that script prints.
+/// Writes what the script of `put_script` prints.
 fn put_printed(text: &mut Vec<u8>) -> io::Result<()> {
     text.write_all(b"daemon 1\nmounted 1\n")?;
     put_answers(text)?;
@@ -280,7 +282,7 @@ fn put_printed(text: &mut Vec<u8>) -> io::Result<()> {
     put_numbers(text)
 }
 
-/// Reads the manifest of the 200 files, and once more where memory was refused.
+/// Reads the manifest of the 200 files, and tries once more if memory was refused.
 fn manifest_of_parts(alloc: Global) -> Option<Manifest> {
     match parts_tests::manifest(alloc) {
         Some(manifest) => Some(manifest),
@@ -288,7 +290,7 @@ fn manifest_of_parts(alloc: Global) -> Option<Manifest> {
     }
 }
 
-/// Returns whether that script prints so.
+/// Returns whether the script of `put_script` prints what `put_printed` writes.
 fn prints_parts(alloc: Global, manifest: &Manifest) -> bool {
     let (Some(script), Some(printed)) = (room(alloc), room(alloc)) else {
         return false;

@@ -1,4 +1,4 @@
-//! Takeovers in which the old daemon ends, or the new one, or both, behind each event from the second start on.
+//! Takeovers in which the old daemon, the new one, or both crash after each event from the second `start` on.
 mod rows;
 
 use super::events::{manifest, room};
@@ -13,11 +13,11 @@ use std::alloc::Global;
 use takeover_core::{Message, Versions};
 use world::{Event, Happened, Outcome, Refusal, World, run};
 
-/// The old daemon, the new one, or both.
+/// The daemons that crash: the old one, the new one, or both.
 static CRASHES: [&[u64]; 3] = [&[1], &[2], &[1, 2]];
 
-/// Lets a daemon claim. Returns whether that is refused: Ended where there is no mount, Stale where there is a later
-/// one, or WrongPhase where the daemon wants nothing.
+/// Makes `daemon` claim. Returns whether the claim is refused as it has to be: with Ended if there is no mount, with
+/// Stale if there is a later mount, or with WrongPhase if the daemon wants nothing.
 fn claims_in_vain(world: &mut World, daemon: DaemonId, tally: &mut Tally) -> bool {
     let is_mounted = world.broker().seat().is_some();
     match last_told(world, &Event::Claim(daemon)) {
@@ -33,7 +33,7 @@ fn claims_in_vain(world: &mut World, daemon: DaemonId, tally: &mut Tally) -> boo
     }
 }
 
-/// Lets an event happen. Returns whether it is refused where it is a claim.
+/// Makes `event` happen. If it is a claim, returns whether the claim is refused; else returns true.
 fn happens_in_vain(world: &mut World, event: &Event, tally: &mut Tally) -> bool {
     if let Event::Claim(daemon) = event {
         return claims_in_vain(world, *daemon, tally);
@@ -42,7 +42,7 @@ fn happens_in_vain(world: &mut World, event: &Event, tally: &mut Tally) -> bool 
     true
 }
 
-/// Lets events happen, and returns whether each claim of them is refused.
+/// Makes `events` happen, and returns whether each claim among them is refused.
 fn happen_in_vain(world: &mut World, events: &[Event], tally: &mut Tally) -> bool {
     for event in events {
         if !happens_in_vain(world, event, tally) {
@@ -52,7 +52,7 @@ fn happen_in_vain(world: &mut World, events: &[Event], tally: &mut Tally) -> boo
     true
 }
 
-/// Lets each daemon below this one claim, and returns whether all are refused.
+/// Makes each daemon below `end` claim, and returns whether all claims are refused.
 fn all_claim_in_vain(world: &mut World, end: DaemonId, tally: &mut Tally) -> bool {
     for daemon in 1..end.0 {
         if !claims_in_vain(world, DaemonId(daemon), tally) {
@@ -62,7 +62,7 @@ fn all_claim_in_vain(world: &mut World, end: DaemonId, tally: &mut Tally) -> boo
     true
 }
 
-/// Lets a daemon hear the first `count` messages, and claim behind each. Returns whether all claims are refused.
+/// Makes `daemon` hear the first `count` messages, and claim after each. Returns whether all claims are refused.
 fn hears_in_vain(world: &mut World, daemon: DaemonId, count: u64, tally: &mut Tally) -> bool {
     for index in 0..count {
         let position = index.saturating_add(1);
@@ -74,7 +74,7 @@ fn hears_in_vain(world: &mut World, daemon: DaemonId, count: u64, tally: &mut Ta
     true
 }
 
-/// Returns that of each daemon below this one.
+/// Calls `hears_in_vain` with each daemon below `end`, and returns whether all calls return true.
 fn all_hear_in_vain(world: &mut World, end: DaemonId, count: u64, tally: &mut Tally) -> bool {
     for daemon in 1..end.0 {
         if !hears_in_vain(world, DaemonId(daemon), count, tally) {
@@ -84,7 +84,7 @@ fn all_hear_in_vain(world: &mut World, end: DaemonId, count: u64, tally: &mut Ta
     true
 }
 
-/// Starts a daemon of both versions.
+/// Starts a daemon that knows both versions of the image, and returns it.
 fn started(world: &mut World) -> Option<DaemonId> {
     match last_told(world, &Event::Start(Versions::of(&[1, 2]))) {
         Some(Happened::Started(daemon)) => Some(daemon),
@@ -92,7 +92,7 @@ fn started(world: &mut World) -> Option<DaemonId> {
     }
 }
 
-/// Returns whether a reply that is no error reached the kernel.
+/// Returns whether `told` is a reply that reached the kernel and is no error.
 fn is_no_error(told: &Happened) -> bool {
     match reply_told(told) {
         Some(reply) => !matches!(reply.answer, Answer::Error(_)),
@@ -100,7 +100,7 @@ fn is_no_error(told: &Happened) -> bool {
     }
 }
 
-/// Returns whether the kernel is answered, and no error.
+/// Asks for the attributes of the root, and returns whether the kernel gets an answer that is no error.
 fn is_answered(world: &mut World) -> bool {
     let ask = Event::Do(Request::Getattr { node: Number::ROOT });
     let told = last_told(world, &ask);
@@ -111,7 +111,8 @@ fn is_answered(world: &mut World) -> bool {
     }
 }
 
-/// Returns whether a daemon has the seat at this generation, and answers. A forget in its hand may come first.
+/// Returns whether `daemon` has the seat at `generation`, and answers an ask. The first ask may fail, if a forget comes
+/// first in the daemon's hand.
 fn serves_at(world: &mut World, daemon: DaemonId, generation: u64) -> bool {
     let is_seated = match world.broker().seat() {
         Some(seat) => seat.daemon == daemon && seat.generation == generation,
@@ -120,13 +121,13 @@ fn serves_at(world: &mut World, daemon: DaemonId, generation: u64) -> bool {
     is_seated && (is_answered(world) || is_answered(world))
 }
 
-/// Returns how many messages were said.
+/// Returns how many messages were sent.
 fn said(world: &World) -> u64 {
     world.messages().len() as u64
 }
 
-/// Returns whether all claims are refused until a new daemon mounts, at the generation behind the last one, and then
-/// those of each daemon that hears every message.
+/// Starts daemons in a world whose mount ended. Returns whether all claims are refused until a new daemon mounts, at
+/// the generation after `last`, and whether claims of daemons that hear every message are refused after that.
 fn mounts_again(world: &mut World, last: u64, tally: &mut Tally) -> bool {
     let Some(new) = started(world) else {
         return false;
@@ -148,7 +149,7 @@ fn mounts_again(world: &mut World, last: u64, tally: &mut Tally) -> bool {
         && serves_at(world, new, generation)
 }
 
-/// Returns whether a daemon answers the offer of a new one with a choice, as in Serving alone.
+/// Returns whether `daemon` answers a new daemon's offer with a choice, which a daemon does only in the phase Serving.
 fn chooses(world: &mut World, daemon: DaemonId) -> bool {
     if started(world).is_none() {
         return false;
@@ -159,8 +160,8 @@ fn chooses(world: &mut World, daemon: DaemonId) -> bool {
         && matches!(world.messages().last(), Some(Message::Choice { .. }))
 }
 
-/// Lets a daemon that has the seat at this generation give up, and claim. Returns the generation at which it has the
-/// seat then.
+/// Makes `daemon`, which has the seat at `generation`, give up and claim. Returns the generation at which it has the
+/// seat after that.
 fn given_up(
     world: &mut World,
     daemon: DaemonId,
@@ -178,7 +179,8 @@ fn given_up(
     }
 }
 
-/// Returns whether the daemon of the seat is in Serving again once it gave up and, where it wants that, claimed.
+/// Makes the seated daemon give up, and claim if it wants to. Returns whether it serves and is in the phase Serving
+/// after that.
 fn serves_on(world: &mut World, tally: &mut Tally) -> bool {
     let Some(seat) = world.broker().seat() else {
         return false;
@@ -191,7 +193,8 @@ fn serves_on(world: &mut World, tally: &mut Tally) -> bool {
     }
 }
 
-/// Returns whether a world goes on as it has to behind a crash, once these events happened in it.
+/// Makes `rest` happen after a crash. Returns whether the world goes on as it has to: by a new mount, or by the daemon
+/// that kept the seat.
 fn goes_on(world: &mut World, rest: &[Event], last: u64, tally: &mut Tally) -> bool {
     if world.broker().seat().is_none() {
         tally.ended = tally.ended.saturating_add(1);
@@ -204,7 +207,7 @@ fn goes_on(world: &mut World, rest: &[Event], last: u64, tally: &mut Tally) -> b
     serves_on(world, tally)
 }
 
-/// Returns the generation of the last mount or claim.
+/// Returns the generation of the last mount or claim in `outcomes`, or 0.
 fn last_generation(outcomes: &[Outcome]) -> u64 {
     let mut last = 0;
     for outcome in outcomes {
@@ -217,7 +220,7 @@ fn last_generation(outcomes: &[Outcome]) -> u64 {
     last
 }
 
-/// Runs events that end with a crash, and returns whether the world goes on as it has to.
+/// Runs `events`, which end with crashes, in a new world, and calls `goes_on` with `rest`.
 fn runs_on(
     alloc: Global,
     manifest: &Manifest,
@@ -238,7 +241,7 @@ fn runs_on(
     }
 }
 
-/// Puts crashes behind the other events, and returns whether all were put.
+/// Appends the crash of each daemon of `crashed` to `events`, and returns whether all were appended.
 fn are_crashed(events: &mut Vec<Event>, crashed: &[u64]) -> bool {
     for daemon in crashed {
         if events.push(Event::Crash(DaemonId(*daemon))).is_err() {
@@ -248,7 +251,7 @@ fn are_crashed(events: &mut Vec<Event>, crashed: &[u64]) -> bool {
     true
 }
 
-/// Puts what a row has before its second start.
+/// Appends the events that `row` has before its second `start`.
 fn is_begun(alloc: Global, row: &Row, events: &mut Vec<Event>) -> bool {
     if row.is_of_parts {
         return parts_tests::are_begun(alloc, events);
@@ -256,8 +259,8 @@ fn is_begun(alloc: Global, row: &Row, events: &mut Vec<Event>) -> bool {
     are_put(alloc, events, row.before)
 }
 
-/// Returns whether a row goes on as it has to behind its events and crashes, with no event more and with all that are
-/// left.
+/// Calls `runs_on` twice: with no event after the crashes, and with all events of `rest`. Returns whether both calls
+/// return true.
 fn goes_both(
     alloc: Global,
     manifest: &Manifest,
@@ -268,7 +271,8 @@ fn goes_both(
     runs_on(alloc, manifest, events, &[], tally) && runs_on(alloc, manifest, events, rest, tally)
 }
 
-/// Returns that of the events up to a place behind the second start, and of those crashes.
+/// Runs the first `place` lines of `row.behind` and the crashes of `crashed`, and calls `goes_both` with the lines
+/// left.
 fn stops_at(
     alloc: Global,
     manifest: &Manifest,
@@ -295,7 +299,7 @@ fn stops_at(
     goes
 }
 
-/// Returns that of each crash.
+/// Calls `stops_at` with each element of `CRASHES`, and returns whether all calls return true.
 fn stops_by_each(
     alloc: Global,
     manifest: &Manifest,
@@ -311,7 +315,7 @@ fn stops_by_each(
     true
 }
 
-/// Returns that of each place behind the second start.
+/// Calls `stops_by_each` after each line of `row.behind`, and returns whether all calls return true.
 fn stops_everywhere(alloc: Global, manifest: &Manifest, row: &Row, tally: &mut Tally) -> bool {
     for place in 0..row.behind.len() {
         if !stops_by_each(alloc, manifest, row, place.saturating_add(1), tally) {
@@ -321,7 +325,7 @@ fn stops_everywhere(alloc: Global, manifest: &Manifest, row: &Row, tally: &mut T
     true
 }
 
-/// Returns whether a row goes on as it has to behind each crash, and comes to as much as it says.
+/// Returns whether the world goes on as it has to after each crash in `row`, and the tally is the one of `row`.
 fn goes(alloc: Global, manifest: &Manifest, row: &Row) -> bool {
     let mut tally = Tally {
         ended: 0,
@@ -333,7 +337,7 @@ fn goes(alloc: Global, manifest: &Manifest, row: &Row) -> bool {
     stops_everywhere(alloc, manifest, row, &mut tally) && tally == row.comes_to
 }
 
-/// Returns the manifest of a row.
+/// Returns the manifest that `row` is played over.
 fn manifest_of(alloc: Global, row: &Row) -> Option<Manifest> {
     if row.is_of_parts {
         return parts_tests::manifest(alloc);
@@ -341,7 +345,7 @@ fn manifest_of(alloc: Global, row: &Row) -> Option<Manifest> {
     manifest(alloc)
 }
 
-/// Returns the index of the first row that does not go on as it has to.
+/// Returns the index of the first row for which `goes` returns false.
 fn first_to_fail(alloc: Global) -> Option<usize> {
     for (index, row) in ROWS.iter().enumerate() {
         let Some(manifest) = manifest_of(alloc, row) else {

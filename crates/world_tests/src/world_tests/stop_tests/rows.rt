@@ -1,31 +1,31 @@
-//! Takeovers as lines of a script, and what comes of a crash behind each line.
+//! Takeovers as lines of a script, and how often each result comes of a crash after each line.
 
-/// What comes of runs, as counted from the table of phases.
+/// How often each result comes of the runs of a row, as counted from the table of phases.
 #[derive(Clone, Copy, PartialEq, Eq)]
 pub(crate) struct Tally {
-    /// Runs in which the mount ends with the crash, and runs in which a daemon keeps the seat.
+    /// How many runs end the mount by the crash, and, in `kept`, in how many a daemon keeps the seat.
     pub ended: u64,
     pub kept: u64,
-    /// Claims that are refused, since there is no mount, or a later one.
+    /// How many claims are refused because there is no mount, and, in `told_stale`, because there is a later mount.
     pub told_ended: u64,
     pub told_stale: u64,
-    /// Daemons that claim the seat that they had.
+    /// How many daemons claim back the seat that they had.
     pub claimed_back: u64,
 }
 
 /// A takeover, as lines of a script.
 pub(crate) struct Row {
-    /// Whether it is of 200 files, each looked up once by a daemon that mounted.
+    /// Whether the takeover is over 200 files, each looked up once, and its image is in parts.
     pub is_of_parts: bool,
     pub before: &'static [&'static [u8]],
-    /// The lines from the second start on.
+    /// The lines from the second `start` on.
     pub behind: &'static [&'static [u8]],
-    /// What comes of its runs, of which there are six for each line of `behind`.
+    /// The results of the row's runs, of which there are six for each line of `behind`.
     pub comes_to: Tally,
 }
 
 pub(crate) static ROWS: [Row; 5] = [
-    // An unlinked file that is held.
+    // The kernel holds an unlinked file.
     Row {
         is_of_parts: false,
         before: &[
@@ -59,7 +59,7 @@ pub(crate) static ROWS: [Row; 5] = [
             claimed_back: 5,
         },
     },
-    // A reply that is delivered behind the data.
+    // A reply is delivered after the data message.
     Row {
         is_of_parts: false,
         before: &[
@@ -120,7 +120,7 @@ pub(crate) static ROWS: [Row; 5] = [
             claimed_back: 2,
         },
     },
-    // Two new daemons hear the same data.
+    // Two new daemons hear the same data message.
     Row {
         is_of_parts: false,
         before: &[b"start", b"mount 1"],
@@ -150,7 +150,7 @@ pub(crate) static ROWS: [Row; 5] = [
             claimed_back: 4,
         },
     },
-    // An image in two parts.
+    // The image is in two parts.
     Row {
         is_of_parts: true,
         before: &[],
