@@ -1,5 +1,5 @@
-//! Messages of the FUSE protocol, read, answered and written: `measure messages LINES`, at the limit that the program has
-//! by itself. Each line of the manifest has a number, but for the last file of a directory. Files are random.
+//! Messages of the FUSE protocol, read, answered and written: `measure messages LINES`, at the program's default limit.
+//! Each line of the manifest has a number, except the last file of each directory. Files are chosen at random.
 ghost use Rattle.fuse_wire.specs.Request.{IsSendable};
 
 use crate::names::{EACH, named};
@@ -16,7 +16,7 @@ use std::alloc::Global;
 /// A message, as the kernel writes it.
 type Text = Vec<u8>;
 
-/// What a daemon serves, and the buffer of its replies.
+/// What a daemon serves, and a buffer for its replies.
 #[derive(Drop)]
 struct Server {
     hosted: Hosted,
@@ -24,7 +24,7 @@ struct Server {
 }
 
 impl Server {
-    /// Reads a message, answers it and writes the reply. Returns the length of that, and 0 where there is none.
+    /// Reads a message, answers it, and writes the reply. Returns the length of the reply, or 0 if there is none.
     fn serve(&mut self, alloc: Global, text: &[u8]) -> usize {
         let Ok(ask) = read_request(alloc, text) else {
             return 0;
@@ -37,37 +37,37 @@ impl Server {
     }
 }
 
-/// Writes a request as the kernel does.
+/// Returns a request as the kernel writes it.
 fn text_of(alloc: Global, what: Request) -> Result<Text, NoMemory>
     requires { IsSendable what }
 {
     write_request(alloc, &Ask { unique: 7, what })
 }
 
-/// Returns the number of the directory in which the line of a number stands.
+/// Returns the number of the directory that contains the file of number `node`.
 fn dir_of(node: Number) -> Number {
     let line = node.0.wrapping_sub(2);
     Number((line - line % EACH).wrapping_add(2))
 }
 
-/// Returns the message that looks up the file of a number.
+/// Returns the message that looks up the file of number `node`.
 fn lookup_of(alloc: Global, node: Number) -> Result<Text, NoMemory> {
     let name = name_of(alloc, node.0.wrapping_sub(2))?;
     let dir = dir_of(node);
     text_of(alloc, Request::Lookup { dir, name })
 }
 
-/// Returns the message that asks for the attributes of a number.
+/// Returns the message that asks for the attributes of number `node`.
 fn getattr_of(alloc: Global, node: Number) -> Result<Text, NoMemory> {
     text_of(alloc, Request::Getattr { node })
 }
 
-/// Returns the message that takes a number back once.
+/// Returns the message that takes one lookup of number `node` back.
 fn forget_of(alloc: Global, node: Number) -> Result<Text, NoMemory> {
     text_of(alloc, Request::Forget(Item { node, k: 1 }))
 }
 
-/// Returns a number of a file that has one: neither that of a directory, nor of a directory's last file.
+/// Returns the number of a random file that has one: not of a directory, nor of the last file in a directory.
 fn held(random: &mut Random, lines: u64) -> Number {
     let node = random.number(lines);
     match node.0.wrapping_sub(2) % EACH {
@@ -77,7 +77,7 @@ fn held(random: &mut Random, lines: u64) -> Number {
     }
 }
 
-/// Returns the number that the last file of a random directory had.
+/// Returns the number that the last file of a random directory had before it was forgotten.
 fn fresh(random: &mut Random, lines: u64) -> Number {
     let directories = lines / EACH;
     let line = random
@@ -88,7 +88,7 @@ fn fresh(random: &mut Random, lines: u64) -> Number {
     Number(line.wrapping_add(EACH).wrapping_add(1))
 }
 
-// ---- the messages, each kind in a function of its own
+// ---- the messages, each kind in a separate function
 
 #[inline(never)]
 fn look_up_held(alloc: Global, server: &mut Server, text: &[u8]) -> usize {
@@ -137,7 +137,7 @@ fn forget_each_last(alloc: Global, server: &mut Server, lines: u64) -> Result<()
     Ok(())
 }
 
-/// Looks files up that have numbers. Returns the length of all replies.
+/// Looks up random files that have numbers. Returns the sum of the lengths of the replies.
 fn look_up(alloc: Global, server: &mut Server, lines: u64) -> Result<u64, NoMemory> {
     let (mut random, mut length) = (Random::new(), 0u64);
     for _ in 0..ASKED {
@@ -148,7 +148,7 @@ fn look_up(alloc: Global, server: &mut Server, lines: u64) -> Result<u64, NoMemo
     Ok(length)
 }
 
-/// Asks for the attributes of files. Counts those that have some.
+/// Asks for the attributes of random files. Returns how many replies come.
 fn show(alloc: Global, server: &mut Server, lines: u64) -> Result<u64, NoMemory> {
     let (mut random, mut shown) = (Random::new(), 0u64);
     for _ in 0..ASKED {
@@ -159,7 +159,7 @@ fn show(alloc: Global, server: &mut Server, lines: u64) -> Result<u64, NoMemory>
     Ok(shown)
 }
 
-/// Returns a message of two kinds in turn.
+/// Returns a lookup if `turn` is even, else an ask for attributes.
 fn mixed_of(alloc: Global, turn: u64, node: Number) -> Result<Text, NoMemory> {
     if turn % 2 == 0 {
         lookup_of(alloc, node)
@@ -168,7 +168,7 @@ fn mixed_of(alloc: Global, turn: u64, node: Number) -> Result<Text, NoMemory> {
     }
 }
 
-/// Looks files up and asks for attributes in turn. Returns the length of all replies.
+/// Looks up random files and asks for attributes, in turn. Returns the sum of the lengths of the replies.
 fn mix(alloc: Global, server: &mut Server, lines: u64) -> Result<u64, NoMemory> {
     let (mut random, mut length) = (Random::new(), 0u64);
     for turn in 0..ASKED {
@@ -180,7 +180,7 @@ fn mix(alloc: Global, server: &mut Server, lines: u64) -> Result<u64, NoMemory> 
     Ok(length)
 }
 
-/// Looks a file up that has no number, and forgets the one that it gets. Tells whether both were answered so.
+/// Looks up a file that has no number, and forgets the number that it gets. Returns whether both went as expected.
 fn find_fresh(alloc: Global, server: &mut Server, node: Number) -> Result<bool, NoMemory> {
     let given = server.hosted.served.map().next();
     let lookup = lookup_of(alloc, node)?;
@@ -192,7 +192,7 @@ fn find_fresh(alloc: Global, server: &mut Server, node: Number) -> Result<bool, 
     Ok(found && gone)
 }
 
-/// Looks files up that have no number, and counts them.
+/// Looks up random files that have no number. Returns how many were found and forgotten again.
 fn find(alloc: Global, server: &mut Server, lines: u64) -> Result<u64, NoMemory> {
     let (mut random, mut found) = (Random::new(), 0u64);
     for _ in 0..ASKED {
@@ -203,12 +203,12 @@ fn find(alloc: Global, server: &mut Server, lines: u64) -> Result<u64, NoMemory>
     Ok(found)
 }
 
-/// Returns a name that no line has.
+/// Returns a name that no line of the manifest has.
 fn made_name(alloc: Global, i: u64) -> Result<Name, NoMemory> {
     named(alloc, format!(in alloc; "made{i}.txt")?)
 }
 
-/// Returns the messages that make a file in a directory, take its name away and forget its number.
+/// Returns three messages: they make a file in the directory `dir`, remove its name, and forget its number `given`.
 fn made_of(alloc: Global, dir: Number, i: u64, given: Number) -> Result<[Text; 3], NoMemory> {
     let perm = Perm::DIRECTORY;
     let name = made_name(alloc, i)?;
@@ -219,7 +219,7 @@ fn made_of(alloc: Global, dir: Number, i: u64, given: Number) -> Result<[Text; 3
     Ok([create, unlink, forget])
 }
 
-/// Makes files in random directories, each of which leaves at once. Counts them.
+/// Makes files in random directories, and removes each at once. Returns how many were made.
 fn make(alloc: Global, server: &mut Server, lines: u64) -> Result<u64, NoMemory> {
     let (mut random, mut made) = (Random::new(), 0u64);
     for i in 0..ASKED {
@@ -232,7 +232,7 @@ fn make(alloc: Global, server: &mut Server, lines: u64) -> Result<u64, NoMemory>
     Ok(made)
 }
 
-/// Sends all messages to a server.
+/// Sends all messages to `server`, and returns what was measured.
 fn send_all(alloc: Global, server: &mut Server, lines: u64) -> Result<Told, NoMemory> {
     look_all_up(alloc, &mut server.hosted, lines)?;
     forget_each_last(alloc, server, lines)?;
@@ -247,7 +247,7 @@ fn send_all(alloc: Global, server: &mut Server, lines: u64) -> Result<Told, NoMe
     ))
 }
 
-/// Sends all messages, as words say.
+/// Sends all messages, as `words` say. Returns none if `words` give no number of lines.
 pub(crate) fn measure(alloc: Global, words: &[&str]) -> Result<Option<Told>, NoMemory> {
     let Some(lines) = number_at(words, 0) else {
         return Ok(None);

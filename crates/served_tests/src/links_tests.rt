@@ -291,7 +291,8 @@ fn a_frame_is_one_write(rt: HostRuntime) {
     assert!(rt; writes(rt.alloc()) || writes(rt.alloc()));
 }
 
-/// Returns whether a write that fails, of one byte each, ends a frame at once, behind the front of its text.
+/// Writes `frame` by single bytes, and lets the write `fails` fail. Returns whether that write ends the frame, after
+/// the bytes of `text` before it.
 fn write_fails(alloc: Global, frame: &Frame, text: &[u8], fails: usize) -> bool {
     let Some(mut writer) = sink(alloc, 1, fails, false) else {
         return false;
@@ -302,7 +303,7 @@ fn write_fails(alloc: Global, frame: &Frame, text: &[u8], fails: usize) -> bool 
         && text.get(..fails.saturating_sub(1)) == Some(writer.held.as_slice())
 }
 
-/// Returns whether a failure of any write ends a frame at once.
+/// Calls `write_fails` with the position of each byte of `text`, and returns whether all calls return true.
 fn each_write_fails(alloc: Global, frame: &Frame, text: &[u8]) -> bool {
     for fails in 1..text.len() + 1 {
         if !write_fails(alloc, frame, text, fails) && !write_fails(alloc, frame, text, fails) {
@@ -312,7 +313,7 @@ fn each_write_fails(alloc: Global, frame: &Frame, text: &[u8]) -> bool {
     true
 }
 
-/// Returns whether a failure of any write ends the frame of a text at once, where it is one.
+/// Returns whether a failure of any write ends the frame of `text` at once, or whether `text` is no frame.
 fn frame_is_not_written(alloc: Global, text: &[u8]) -> bool {
     let mut bytes = text;
     match read_slice(alloc, &mut bytes) {
@@ -325,7 +326,7 @@ fn frame_is_not_written(alloc: Global, text: &[u8]) -> bool {
     }
 }
 
-/// Returns that of each stream.
+/// Calls `frame_is_not_written` with each stream, and returns whether all calls return true.
 fn frames_are_not_written(alloc: Global, streams: &[(&[u8], usize)]) -> bool {
     for (stream, _reads) in streams {
         if !frame_is_not_written(alloc, stream) {
@@ -340,7 +341,7 @@ fn a_write_that_fails_is_told(rt: HostRuntime) {
     assert!(rt; frames_are_not_written(rt.alloc(), &STREAMS));
 }
 
-/// Returns how often a writer is written whose every write is interrupted, where that is told as Write.
+/// Writes to a writer whose every write is interrupted. Returns how many writes are made, if the fault is `Write`.
 fn interrupted_writes(alloc: Global) -> Option<usize> {
     let mut writer = NeverWritten { writes: 0 };
     match write_frame(alloc, &mut writer, &Frame::Empty) {
@@ -349,7 +350,7 @@ fn interrupted_writes(alloc: Global) -> Option<usize> {
     }
 }
 
-/// Returns whether a write that is interrupted is made again, 131,072 times in all.
+/// Returns whether an interrupted write is made again, up to 131,072 writes in all.
 fn writes_to_the_last(alloc: Global) -> bool {
     interrupted_writes(alloc) == Some(131_072)
 }
@@ -372,7 +373,7 @@ fn writes_ask(alloc: Global, len: usize, fault: Option<FrameFault>, written: usi
     told == fault && writer.len() == written
 }
 
-/// Returns whether an Ask of the longest body is written, and nothing of one whose body is longer.
+/// Returns whether an Ask of the longest body is written, and nothing is written of an Ask with one byte more.
 fn writes_long(alloc: Global) -> bool {
     writes_ask(alloc, 65_536, None, 65_541)
         && writes_ask(alloc, 65_537, Some(FrameFault::TooLong), 0)

@@ -16,8 +16,8 @@ use std::sync::atomic::Ordering;
 use std::thread::Threads;
 use workers::Stop;
 
-/// Serves a round of two channels with one ask each, of the uniques `first` and `second`. Returns whether the ask of
-/// unique 2 is first in the journal, and the round is settled if and only if `change` takes out no receipt.
+/// Serves a round of two channels with one ask each, with uniques `first` and `second`. Returns whether the ask with
+/// unique 2 is first in the journal, and the round is settled exactly if `change` is `None`.
 fn serves_second_first<R: Threads + Wait + Clock + Sync>(
     rt: &R,
     alloc: Global,
@@ -48,7 +48,7 @@ fn serves_second_first<R: Threads + Wait + Clock + Sync>(
     left == Some(wanted) && !hook.gave_up.load(Ordering::SeqCst)
 }
 
-/// Each worker has a thread of its own. If the channels were served one by one, the hook would give up.
+/// Each worker runs in a separate thread. If the channels were served one after the other, the hook would give up.
 #[test]
 fn channels_are_served_side_by_side(rt: HostRuntime) {
     let served = serves_second_first(&rt, rt.alloc(), 1, 2, Change::None);
@@ -110,15 +110,15 @@ fn serves_both<R: Threads + Wait + Sync>(rt: &R, alloc: Global) -> bool {
     left == Some(in_order) || left == Some(in_other_order)
 }
 
-/// Passes also where one allocation is refused: a round gives back what it was handed, and is served again. A worker that
-/// has no thread of its own runs behind the other.
+/// Passes also if one allocation is refused: a round gives back what it was handed, and is served again. A worker that
+/// gets no separate thread runs after the other worker.
 #[test]
 fn an_ask_of_each_channel_is_served(rt: HostRuntime) {
     let served = serves_both(&rt, rt.alloc());
     assert!(rt; served);
 }
 
-/// Passes also where one allocation is refused: a round gives back what it was handed, and is served again.
+/// Passes also if one allocation is refused: a round gives back what it was handed, and is served again.
 #[test]
 fn one_turn_takes_one_ask_of_three(rt: HostRuntime) {
     let wanted = Left {

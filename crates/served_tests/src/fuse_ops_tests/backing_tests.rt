@@ -9,8 +9,8 @@ use std::alloc::Global;
 const FOUR_FILES: &[u8] =
     b"commit 0123456789abcdef0123456789abcdef01234567\ndir src\nfile 0644 12 src/a\nfile 0600 3 src/b\nfile 0644 40 README\n";
 
-/// Makes the request of the index `place`. The first four requests look the four files up, one each. The last asks for
-/// the attributes of number 3, which are unloaded by then if the limit is 1.
+/// Makes the request at index `place`. The first four requests look up one file each. The last asks for the attributes
+/// of number 3, which are unloaded by then if the limit is 1.
 fn asked_in_turn(alloc: Global, place: usize) -> Option<Request> {
     match place {
         0 => asked(alloc, Asks::LookUp, 1, b"src"),
@@ -30,7 +30,7 @@ fn number_told(answer: Option<Answer>) -> u64 {
     }
 }
 
-/// Answers the request of the index `place`, and returns whether that request could be made.
+/// Answers the request at index `place`, and returns whether the request could be made.
 fn ask(alloc: Global, served: &mut Hosted, place: usize) -> bool {
     match asked_in_turn(alloc, place) {
         Some(request) => {
@@ -42,7 +42,7 @@ fn ask(alloc: Global, served: &mut Hosted, place: usize) -> bool {
     }
 }
 
-/// Answers each request of an index below `end`, and returns whether all could be made.
+/// Answers each request at an index below `end`, and returns whether all could be made.
 fn ask_before(alloc: Global, served: &mut Hosted, end: usize) -> bool {
     for place in 0..end {
         if !ask(alloc, served, place) {
@@ -70,7 +70,7 @@ fn answer_again(alloc: Global, served: &mut Hosted, request: &Request) -> Option
     }
 }
 
-/// Returns whether `request` is answered EIO while the backing fails, and with `number` when the request is made again.
+/// Returns whether `request` is answered EIO while the backing fails, and then with `number` as it is made again.
 fn fails_first(
     alloc: Global,
     served: &mut Hosted,
@@ -82,7 +82,7 @@ fn fails_first(
         && number_told(answer_again(alloc, served, request)) == number
 }
 
-/// Calls `fails_first` with the request of the index `place`.
+/// Calls `fails_first` with the request at index `place`.
 fn fails_once(alloc: Global, served: &mut Hosted, place: usize, next: u64) -> Option<bool> {
     let number = if place == 4 { 3 } else { next };
     let request = asked_in_turn(alloc, place)?;
@@ -91,7 +91,7 @@ fn fails_once(alloc: Global, served: &mut Hosted, place: usize, next: u64) -> Op
     Some(fails)
 }
 
-/// Answers each request of an index below `place`, and calls `fails_once` with the request of `place`. Returns none if
+/// Answers each request at an index below `place`, and calls `fails_once` with the request at `place`. Returns none if
 /// a request could not be made.
 fn fails_in_turn(alloc: Global, served: &mut Hosted, place: usize, next: u64) -> Option<bool> {
     if ask_before(alloc, served, place) {
@@ -109,7 +109,7 @@ fn fails_at(alloc: Global, place: usize, next: u64) -> Option<bool> {
     fails
 }
 
-/// Rows: the index of a request, the next number before that request, and whether the request asks the backing.
+/// Rows: the index of a request, the next number before the request, and whether it asks the backing.
 static FAILING: [(usize, u64, bool); 5] = [
     (0, 2, false),
     (1, 3, true),
@@ -125,7 +125,7 @@ fn answers_eio_where_the_backing_fails_and_changes_nothing(rt: HostRuntime) {
     }
 }
 
-/// Answers the request of the index `place` with a backing that fails at once. Returns the number in the answer.
+/// Answers the request at index `place` with a backing that fails at once. Returns the number in the answer.
 fn told_without(alloc: Global, served: &mut Hosted, place: usize) -> Option<u64> {
     let request = asked_in_turn(alloc, place)?;
     let answer = served.apply_failing(alloc, 0, &request);
@@ -133,7 +133,7 @@ fn told_without(alloc: Global, served: &mut Hosted, place: usize) -> Option<u64>
     Some(number_told(answer))
 }
 
-/// Looks each file up in a daemon that keeps all loaded. Then calls `told_without` with the index `place`.
+/// Looks up each file in a daemon that keeps all loaded, and then calls `told_without` with index `place`.
 fn told_loaded(alloc: Global, place: usize) -> Option<u64> {
     let mut served = Hosted::of(alloc, FOUR_FILES, 3)?;
     let told = if ask_before(alloc, &mut served, 4) {
@@ -155,7 +155,7 @@ fn tells_what_is_loaded_though_the_backing_fails(rt: HostRuntime) {
     }
 }
 
-/// Returns whether the attributes of the number `node` are answered though the backing fails.
+/// Returns whether the attributes of number `node` are answered though the backing fails.
 fn is_loaded(alloc: Global, served: &mut Hosted, node: u64) -> bool {
     let request = Request::Getattr { node: Number(node) };
     let answer = served.apply_failing(alloc, 0, &request);
@@ -166,14 +166,14 @@ fn is_loaded(alloc: Global, served: &mut Hosted, node: u64) -> bool {
     }
 }
 
-/// Returns for each of the three regular files whether its attributes are loaded.
+/// Returns, for each of the three regular files, whether its attributes are loaded.
 fn are_loaded(alloc: Global, served: &mut Hosted) -> [bool; 3] {
     let first = is_loaded(alloc, served, 3);
     let second = is_loaded(alloc, served, 4);
     [first, second, is_loaded(alloc, served, 5)]
 }
 
-/// Looks each file up, and returns which of the three regular files are loaded then.
+/// Looks up each file, and returns which of the three regular files are loaded after that.
 fn loaded_then(alloc: Global, served: &mut Hosted) -> Option<[bool; 3]> {
     if ask_before(alloc, served, 4) {
         Some(are_loaded(alloc, served))
@@ -182,7 +182,7 @@ fn loaded_then(alloc: Global, served: &mut Hosted) -> Option<[bool; 3]> {
     }
 }
 
-/// Calls `loaded_then` with a new daemon that keeps `limit` files loaded.
+/// Calls `loaded_then` with a new daemon that keeps at most `limit` files loaded.
 fn stay_loaded(alloc: Global, limit: usize) -> Option<[bool; 3]> {
     let mut served = Hosted::of(alloc, FOUR_FILES, limit)?;
     let loaded = loaded_then(alloc, &mut served);
@@ -204,14 +204,16 @@ fn keeps_as_many_loaded_as_the_limit_says(rt: HostRuntime) {
     }
 }
 
-/// A manifest of four files, of which a limit of one keeps one loaded.
+/// A manifest of four files, of which a daemon with limit 1 keeps one loaded.
 const LIMITED: &[u8] =
     b"commit 0123456789abcdef0123456789abcdef01234567\ndir src\nfile 0644 12 src/a\nfile 0755 0 src/b\nfile 0644 7 README\n";
 
-/// A directory and a name to look up in it, or a number with no name to ask for; and the number in the answer.
+/// A directory's number and a name to look up, or a number to get attributes of and no name; then the number in the
+/// answer.
 type Asked = (u64, &'static [u8], u64);
 
-/// Each file is looked up, and then two that are no longer loaded are asked for. The backing is asked for all but `src`.
+/// Each file is looked up, and then the attributes of two unloaded files are asked for. All rows but the one of `src`
+/// ask the backing.
 static ASKED: [Asked; 6] = [
     (1, b"src", 2),
     (2, b"a", 3),
@@ -221,7 +223,7 @@ static ASKED: [Asked; 6] = [
     (4, b"", 4),
 ];
 
-/// Makes the request of a row.
+/// Makes the request of `row`.
 fn request_of(alloc: Global, row: Asked) -> Option<Request> {
     let (number, name, _) = row;
     if name.is_empty() {
@@ -232,8 +234,8 @@ fn request_of(alloc: Global, row: Asked) -> Option<Request> {
     asked(alloc, Asks::LookUp, number, name)
 }
 
-/// Returns the bytes that a daemon would hand over: its entries with their counts, the next number, and all changes of
-/// its tree.
+/// Returns the bytes that a daemon hands over: its entries with their counts, the next number, and all changes of its
+/// tree. Tries once more if memory was refused.
 fn known(alloc: Global, served: &Hosted) -> Option<Vec<u8>> {
     match hand_over(alloc, &served.served, 1, 1) {
         Ok(bytes) => Some(bytes),
@@ -241,7 +243,8 @@ fn known(alloc: Global, served: &Hosted) -> Option<Vec<u8>> {
     }
 }
 
-/// Answers a request by a backing that gives so many answers before it fails once, and again where memory was refused.
+/// Answers `request` with a backing that gives `answers` answers and then fails once. Tries once more if memory was
+/// refused.
 fn answered(
     alloc: Global,
     served: &mut Hosted,
@@ -254,8 +257,8 @@ fn answered(
     }
 }
 
-/// Answers a request. Where that is EIO, the request is answered once more. Returns whether EIO changed nothing, and the
-/// number told is the expected one.
+/// Answers `request`, and once more if the answer is EIO, which it counts in `failures`. Returns whether EIO changed
+/// nothing, and the number in the last answer is `number`.
 fn answers_in_the_end(
     alloc: Global,
     served: &mut Hosted,
@@ -278,7 +281,7 @@ fn answers_in_the_end(
     is_unchanged && number_told(told) == number
 }
 
-/// Returns that of the request of a row.
+/// Calls `answers_in_the_end` with the request and the number of `row`.
 fn row_is_answered(
     alloc: Global,
     served: &mut Hosted,
@@ -296,8 +299,8 @@ fn row_is_answered(
     }
 }
 
-/// Returns how often EIO was answered to the rows by a backing that fails at its call behind so many, where it changed
-/// nothing and each row was answered in the end.
+/// Answers all rows with a backing that fails once, after `calls` answers. Returns how often EIO was answered, or none
+/// if EIO changed something or a row was not answered in the end.
 fn failures_behind(alloc: Global, served: &mut Hosted, calls: u64) -> Option<u64> {
     let mut answers = calls;
     let mut failures = 0;
@@ -309,7 +312,7 @@ fn failures_behind(alloc: Global, served: &mut Hosted, calls: u64) -> Option<u64
     Some(failures)
 }
 
-/// Calls `failures_behind` on a new daemon.
+/// Calls `failures_behind` with a new daemon of limit 1.
 fn failures_of_new(alloc: Global, calls: u64) -> Option<u64> {
     let mut served = Hosted::of(alloc, LIMITED, 1)?;
     let failures = failures_behind(alloc, &mut served, calls);
@@ -317,7 +320,7 @@ fn failures_of_new(alloc: Global, calls: u64) -> Option<u64> {
     failures
 }
 
-/// Returns whether each of the five calls of the backing, and no other, may fail so.
+/// Returns whether a failure of each of the five calls of the backing gives one EIO, and the rows make no sixth call.
 fn each_call_fails(alloc: Global) -> bool {
     for calls in 0..5 {
         if failures_of_new(alloc, calls) != Some(1) {

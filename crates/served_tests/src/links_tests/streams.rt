@@ -1,4 +1,4 @@
-//! Readers and writers that give and take a few bytes at a time, and fail.
+//! Readers and writers that give and take a few bytes at a time, fail, or are interrupted.
 use std::io::{self, ErrorKind, Read, Write};
 
 /// Bytes that are read a few at a time.
@@ -32,7 +32,7 @@ impl Read for Pieces<'_> {
     }
 }
 
-/// A reader of which each read is interrupted.
+/// A reader whose every read is interrupted.
 #[derive(Drop)]
 pub(crate) struct Interrupted {
     pub reads: usize,
@@ -45,11 +45,11 @@ impl Read for Interrupted {
     }
 }
 
-/// Bytes that are read one at a time behind some reads that are interrupted.
+/// Bytes that are read one at a time, after some reads that are interrupted.
 #[derive(Drop)]
 pub(crate) struct Late<'a> {
     pub rest: &'a [u8],
-    /// How many reads more are interrupted.
+    /// How many more reads are interrupted.
     pub interrupted: usize,
 }
 

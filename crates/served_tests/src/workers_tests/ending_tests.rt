@@ -1,4 +1,4 @@
-//! How rounds end: those whose channels run out, stop or break, and one that is asked to stop.
+//! How rounds end whose channels run out of asks, stop, or break, and how a round ends that is asked to stop.
 ghost use Rattle.std.specs.Prelude.{◌≡◌, vec_len, IfOk};
 
 use super::rounds::{begun, serve};
@@ -16,16 +16,16 @@ use workers::{Hook, NoHook, RoundFault, Stop};
 /// How a round ended.
 #[derive(Clone, Copy, PartialEq, Eq)]
 enum Ended {
-    /// Without a fault, with this count of records.
+    /// Without a fault, with this many records in the journal.
     Well(usize),
     Broken,
     Otherwise,
 }
 
-/// A channel: how many asks it gives, how many replies it takes, and what it says when no ask is left.
+/// A channel: how many asks it gives, how many replies it takes, and what it says after its last ask.
 type Script = (u64, usize, Then);
 
-/// A channel with one ask, which then is empty.
+/// A channel that gives one ask, and is empty after that.
 const WELL: Script = (1, 9, Then::Empty);
 
 /// Rows: two channels, and how a round over them ends.
@@ -48,7 +48,7 @@ static ENDINGS: [(Script, Script, Ended); 16] = [
     (WELL, (1, 0, Then::Empty), Ended::Broken),
 ];
 
-/// Makes the channels of `first` and `second`.
+/// Makes two channels, of the scripts `first` and `second`.
 fn two<'a>(
     alloc: Global,
     first: Script,
@@ -63,7 +63,7 @@ fn two<'a>(
     Ok(channels)
 }
 
-/// Serves a round over `channels`, and returns how the round ended.
+/// Serves a round over `channels`, and returns how it ended.
 fn ending_of<R: Threads + Wait + Sync, G: Hook + Sync>(
     rt: &R,
     alloc: Global,
@@ -114,7 +114,7 @@ fn a_round_ends_as_its_channels_do(rt: HostRuntime) -> Result<(), Fail> {
     Ok(())
 }
 
-/// A hook that asks for a stop after each reply, and notes in `early` if no reply was posted by then.
+/// A hook that asks for a stop after each reply, and sets `early` to 1 if no reply was posted before its call.
 #[derive(Drop)]
 struct Stopping<'a> {
     stop: &'a Stop,
@@ -133,8 +133,8 @@ impl<'a> Hook for Stopping<'a> {
     }
 }
 
-/// Serves a round with a hook that asks for a stop after the first reply. Returns whether the round ends before the
-/// next turn, and the hook was called after the post.
+/// Serves a round with a hook that asks for a stop after the first reply. Returns whether the round ends with one
+/// record, and the hook was called after the post.
 fn stops_at_one<R: Threads + Wait + Sync>(rt: &R, alloc: Global, manifest: &Manifest) -> bool {
     let posted = AtomicU64::new(0);
     let stop = Stop::new();

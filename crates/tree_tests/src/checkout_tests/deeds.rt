@@ -1,4 +1,4 @@
-//! Calls on a tree with their expected results, as data. A test is a table of such calls.
+//! Calls on a tree with their expected results, as data. A test is a table of these calls.
 ghost use Rattle.std.specs.Prelude.{◌≡◌};
 ghost use Rattle.checkout.specs.RenamedTree.{can_replace};
 
@@ -45,7 +45,7 @@ pub enum Deed {
     Differ(&'static [MadeRow], &'static [Named], u64),
 }
 
-/// Makes a file, or returns none if the precondition of `Tree::create` does not hold.
+/// Makes a file, or returns none if the precondition of `Tree::create` doesn't hold.
 pub(crate) fn created(
     tree: &mut Tree,
     dir: FileId,
@@ -67,7 +67,7 @@ pub(crate) fn created(
     }
 }
 
-/// Makes a file, and tries once more if the call was refused.
+/// Calls `created`, and once more if the call was refused.
 pub(crate) fn created_again(
     tree: &mut Tree,
     dir: FileId,
@@ -156,7 +156,7 @@ pub(crate) fn renamed(
     Some(tree.rename(dir, name, to_dir, to_name))
 }
 
-/// Does the same, once more if memory was refused.
+/// Calls `renamed`, and once more if memory was refused.
 pub(crate) fn renamed_again(
     tree: &mut Tree,
     dir: FileId,

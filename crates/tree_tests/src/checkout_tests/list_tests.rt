@@ -1,4 +1,4 @@
-//! A long run of calls, on a tree and on a plain list of the same links.
+//! A long run of calls, made both on a tree and on a plain list of the same links.
 use super::deeds::{changes_again, created_again, removed, renamed_again};
 use crate::again::{parsed, read_again};
 use checkout::{Changes, Tree};
@@ -6,11 +6,11 @@ use eden_base::{FileId, Kind, Name, Perm};
 use manifest::{LinkChange, Manifest};
 use std::alloc::{AllocError, Global};
 
-/// Files and directories under names of one byte.
+/// A manifest of files and directories with names of one byte.
 const TEXT: &[u8] =
     b"commit 0123456789abcdef0123456789abcdef01234567\ndir a\nfile 0644 12 a/a\nfile 0755 0 a/b\ndir a/c\nfile 0644 7 b\n";
 
-/// A name of one byte.
+/// A link: a directory, a name of one byte, and the file that the name gives.
 #[derive(Clone, Copy)]
 struct Link {
     dir: u64,
@@ -47,7 +47,7 @@ static LINKS: [Link; 5] = [
     },
 ];
 
-/// Returns the file under a name.
+/// Returns the file that `name` gives in the directory `dir`.
 fn at(links: &[Link], dir: u64, name: u8) -> Option<u64> {
     for link in links {
         if link.dir == dir && link.name == name {
@@ -57,7 +57,7 @@ fn at(links: &[Link], dir: u64, name: u8) -> Option<u64> {
     None
 }
 
-/// The links in no order, the directories, linked or not, and the next file.
+/// The links in any order, the directories, linked or not, and the id of the next made file.
 #[derive(Drop)]
 struct Plain {
     links: Vec<Link>,
@@ -83,7 +83,7 @@ impl Plain {
         self.dirs.iter().any(|dir| *dir == file)
     }
 
-    /// Returns whether a name can come into the directory.
+    /// Returns whether a name may be added to the directory `dir`.
     fn is_open(&self, dir: u64) -> bool {
         self.is_dir(dir) && (dir == 1 || self.dir_of(dir).is_some())
     }
@@ -129,7 +129,7 @@ impl Plain {
         Some(file)
     }
 
-    /// Returns whether a file can come to a name at which this one stands.
+    /// Returns whether `file` may move into the directory `dir`, to a name that gives `replaced` until then.
     fn can_move(&self, file: u64, dir: u64, replaced: Option<u64>) -> bool {
         if !self.is_open(dir) || self.is_at_or_above(file, dir) {
             return false;
@@ -162,7 +162,7 @@ impl Plain {
     }
 }
 
-/// Makes the list of the manifest's links; nothing where memory was refused.
+/// Makes the list of the manifest's links, or returns an error if memory was refused.
 fn plain_of(alloc: Global) -> Result<Plain, AllocError> {
     let mut plain = Plain {
         links: Vec::new(alloc),
@@ -178,7 +178,7 @@ fn plain_of(alloc: Global) -> Result<Plain, AllocError> {
     Ok(plain)
 }
 
-/// Moves a file in both, and returns whether both answered the same.
+/// Moves a file in both `tree` and `plain`, and returns whether both give the same result.
 fn rename(
     tree: &mut Tree,
     plain: &mut Plain,
@@ -192,7 +192,7 @@ fn rename(
     Ok(replaced == expected.map(|file| file.map(FileId)))
 }
 
-/// Makes a file in both, and returns whether both answered the same.
+/// Makes a file in both `tree` and `plain`, and returns whether both give the same result.
 fn create(
     tree: &mut Tree,
     plain: &mut Plain,
@@ -205,7 +205,7 @@ fn create(
     Ok(file == expected.map(FileId))
 }
 
-/// Makes one call on both, and returns whether both answered the same.
+/// Makes the call that `dice` choose on both `tree` and `plain`, and returns whether both give the same result.
 fn step(
     tree: &mut Tree,
     plain: &mut Plain,
@@ -223,13 +223,13 @@ fn step(
     }
 }
 
-/// Returns one of the directories, and one of four names.
+/// Returns one of the directories and one of four names, as `dice` choose.
 fn place(plain: &Plain, dice: u64) -> (u64, u8) {
     let dir = plain.dirs.get((dice / 4) as usize % 8).copied();
     (dir.unwrap_or(1), 97u8.wrapping_add((dice % 4) as u8))
 }
 
-/// Calls `step` with places that the dice say.
+/// Calls `step` with two names in directories, as `dice` choose them.
 fn step_at(
     alloc: Global,
     tree: &mut Tree,
@@ -249,7 +249,7 @@ fn step_at(
     }
 }
 
-/// Returns how many names in a directory give another file than the manifest says.
+/// Returns how many names in the directory `dir` give another file than in the manifest.
 fn differing_in(plain: &Plain, dir: u64) -> usize {
     let mut count = 0usize;
     for name in [b'a', b'b', b'c', b'd'] {
@@ -260,7 +260,7 @@ fn differing_in(plain: &Plain, dir: u64) -> usize {
     count
 }
 
-/// Returns how many names do in all.
+/// Returns how many names in all directories give another file than in the manifest.
 fn differing(plain: &Plain) -> usize {
     let mut count = 0usize;
     for dir in &plain.dirs {
@@ -269,14 +269,14 @@ fn differing(plain: &Plain) -> usize {
     count
 }
 
-/// Returns whether a changed name gives what the list has, and not what the manifest has.
+/// Returns whether the changed name `link` gives the file that `plain` has, and the manifest has another.
 fn is_changed(plain: &Plain, link: &LinkChange) -> bool {
     let name = link.name.bytes().first().copied().unwrap_or(0);
     let file = at(&plain.links, link.dir.0, name);
     link.target == file.map(FileId) && file != at(&LINKS, link.dir.0, name)
 }
 
-/// Returns whether these are all names that differ.
+/// Returns whether `links` are all names that give another file in `plain` than in the manifest.
 fn are_changed(plain: &Plain, links: &[LinkChange]) -> bool {
     for link in links {
         if !is_changed(plain, link) {
@@ -286,7 +286,7 @@ fn are_changed(plain: &Plain, links: &[LinkChange]) -> bool {
     links.len() == differing(plain)
 }
 
-/// Returns whether the changes of a tree are those of the list.
+/// Returns whether the changes of `tree` are those of `plain`.
 fn tells(tree: &Tree, plain: &Plain) -> bool {
     match changes_again(tree) {
         Some(changes) => {
@@ -298,7 +298,7 @@ fn tells(tree: &Tree, plain: &Plain) -> bool {
     }
 }
 
-/// Returns whether the tree of these changes tells them again.
+/// Returns whether the tree of `manifest` with `changes` has the changes of `plain`.
 fn comes_again(alloc: Global, manifest: &Manifest, changes: &Changes, plain: &Plain) -> bool {
     match Tree::with_changes(alloc, manifest, changes) {
         Ok(tree) => {
@@ -310,7 +310,7 @@ fn comes_again(alloc: Global, manifest: &Manifest, changes: &Changes, plain: &Pl
     }
 }
 
-/// Returns whether a tree and the tree of its changes both tell what the list says.
+/// Returns whether `tree`, and the tree that is made of its changes, both have the changes of `plain`.
 fn agrees(alloc: Global, manifest: &Manifest, tree: &Tree, plain: &Plain) -> bool {
     match changes_again(tree) {
         Some(changes) => {
@@ -323,7 +323,8 @@ fn agrees(alloc: Global, manifest: &Manifest, tree: &Tree, plain: &Plain) -> boo
     }
 }
 
-/// Makes six hundred calls on both. Returns whether both answered the same each time and agree after each.
+/// Makes 600 calls on both `tree` and `plain`. Returns whether all calls give the same results, and both agree after
+/// each.
 fn agree_for_long(
     alloc: Global,
     manifest: &Manifest,
@@ -344,7 +345,8 @@ fn agree_for_long(
     Ok(true)
 }
 
-/// Calls `agree_for_long`, and returns whether many files were made.
+/// Calls `agree_for_long` with a new list. Returns whether that returns true, and many files and links are there in the
+/// end.
 fn agree_on_much(alloc: Global, manifest: &Manifest, tree: &mut Tree) -> bool {
     match plain_of(alloc) {
         Ok(plain) => {

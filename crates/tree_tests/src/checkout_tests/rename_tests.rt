@@ -1,4 +1,4 @@
-//! A tree whose files move: where each file stands then, and how the tree differs from that of its manifest.
+//! A tree whose files move: where each file stands after that, and how the tree differs from that of its manifest.
 use super::deeds::{Deed, MadeRow, Named, changes_again, differs, each_goes_so};
 use crate::again::{read_again, tree_again};
 use crate::small::SMALL;
@@ -7,10 +7,11 @@ use eden_base::Kind;
 use manifest::Manifest;
 use std::alloc::Global;
 
-/// Files that were made, names with what they give, and the next file.
+/// The differences of a tree: the made files, the changed names with their files, and the next file.
 type Told = (&'static [MadeRow], &'static [Named], u64);
 
-/// Returns whether the tree of these changes is made, once more where memory was refused, and tells just them.
+/// Makes the tree of `manifest` with `changes`, and tries once more if memory was refused. Returns whether the tree
+/// differs by exactly `told`.
 fn comes_again(alloc: Global, manifest: &Manifest, changes: &Changes, told: Told) -> bool {
     let made = match Tree::with_changes(alloc, manifest, changes) {
         Err(ChangeFault::NoMemory) => Tree::with_changes(alloc, manifest, changes),
@@ -26,8 +27,8 @@ fn comes_again(alloc: Global, manifest: &Manifest, changes: &Changes, told: Told
     }
 }
 
-/// Does the deeds, and returns whether all go so and the tree then differs by what is told, as does the tree of its
-/// changes.
+/// Does `deeds`, and returns whether each has its expected result and the tree differs by `told` after them. The tree
+/// that is made of its changes has to differ by `told` too.
 fn goes_so(
     alloc: Global,
     manifest: &Manifest,
@@ -111,7 +112,7 @@ fn moves_a_directory_over_an_empty_one(rt: HostRuntime) {
     );
 }
 
-/// To a new name in its directory and in another; the made file moves as those of the manifest do.
+/// Files move to new names in the same directory and in another; a made file moves as the files of the manifest do.
 static TO_NEW_NAMES: [Deed; 6] = [
     Deed::Rename((2, b"a"), (2, b"z"), Some(None)),
     Deed::Make(1, b"m", Kind::File, 0o600, 6),
@@ -136,7 +137,7 @@ fn moves_to_new_names_again_after_memory_was_refused(rt: HostRuntime) {
     );
 }
 
-/// A directory with files below moves into another. Its files stand below both now.
+/// A directory with files below it moves into another one. Its files stand below both after that.
 static WITH_FILES_BELOW: [Deed; 10] = [
     Deed::Make(1, b"d", Kind::Dir, 0o700, 6),
     Deed::Make(6, b"e", Kind::Dir, 0o700, 7),
@@ -172,7 +173,7 @@ fn moves_a_directory_with_what_is_below_it(rt: HostRuntime) {
     );
 }
 
-/// Each file that moved away comes back, over what came to its name meanwhile.
+/// Each file that moved away comes back, over the file that took its name meanwhile.
 static BACK: [Deed; 9] = [
     Deed::Rename((1, b"src"), (1, b"x"), Some(None)),
     Deed::Rename((2, b"a"), (1, b"README"), Some(Some(5))),
@@ -205,7 +206,7 @@ fn tells_no_name_to_which_its_file_came_back(rt: HostRuntime) {
     );
 }
 
-/// What came back goes again: by a move, and then for good.
+/// A file that came back moves away again, and is removed in the end.
 static BACK_AND_AWAY: [Deed; 9] = [
     Deed::Rename((2, b"b"), (1, b"b"), Some(None)),
     Deed::Rename((1, b"b"), (2, b"b"), Some(None)),
@@ -229,8 +230,8 @@ fn moves_what_came_back_once_more(rt: HostRuntime) {
     );
 }
 
-/// No file moves that isn't there, nor over itself, over a file of the other kind, over a directory with names, into
-/// itself or below, or into a directory without a name.
+/// No file moves that isn't there. No file moves over itself, over a file of the other kind, or over a directory with
+/// names. No file moves into itself, below itself, or into a directory without a name.
 static REFUSED: [Deed; 12] = [
     Deed::Rename((2, b"z"), (1, b"z"), None),
     Deed::Rename((1, b"README"), (1, b"README"), None),
@@ -261,7 +262,8 @@ fn moves_nothing_where_a_condition_fails(rt: HostRuntime) {
     );
 }
 
-/// Who is who, or stands above whom: the root above all linked files, and what is no file above itself alone.
+/// Which files are the same or stand above others: the root stands above all linked files, and an id of no file only
+/// above itself.
 static STANDS: [Deed; 9] = [
     Deed::Stand(1, 3, true),
     Deed::Stand(2, 3, true),

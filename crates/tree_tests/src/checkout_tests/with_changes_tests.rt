@@ -1,4 +1,4 @@
-//! Trees that are made of changes, and the first of the changes that no tree has.
+//! Trees that are made with changes, and the first of the changes that no tree can have.
 use super::deeds::{MadeRow, Named, created, differs};
 use crate::again::{parsed, read_again};
 use crate::small::SMALL;
@@ -93,7 +93,7 @@ fn is_told_again(
     }
 }
 
-/// Calls `is_told_again` with `manifest` and the changes of `told`.
+/// Calls `is_told_again` with the changes that `changes_of` makes of `told`.
 fn goes_so_with(alloc: Global, manifest: &Manifest, told: Told, place: Option<usize>) -> bool {
     match changes_again(alloc, told) {
         Some(changes) => {
@@ -117,14 +117,14 @@ fn goes_so(alloc: Global, told: Told, place: Option<usize>) -> bool {
     }
 }
 
-/// Changes, each with the position of the first that no tree has:
+/// Changes, and the position of the first refused change:
 ///
 /// - A file moves.
-/// - A directory is made, and a file in it.
-/// - The next file is one of the manifest.
+/// - A directory and its file are made.
+/// - The next file exists.
 /// - A file has two names.
-/// - A directory with names in it loses its own name.
-/// - Two directories stand in each other.
+/// - A nonempty directory is unlinked.
+/// - Two directories contain each other.
 static ROWS: [(Told, Option<usize>); 6] = [
     ((&[], &[(1, b"z", Some(3)), (2, b"a", None)], 6), None),
     (
@@ -170,10 +170,10 @@ fn has_the_changes_that_it_was_made_of(rt: HostRuntime) {
     assert!(rt; goes_so(rt.alloc(), MOVED, None));
 }
 
-/// Nothing is changed, and no file id is left.
+/// The changes of a tree without changes that has no file id left.
 static USED_UP: Told = (&[], &[], 9_223_372_036_854_775_807);
 
-/// Returns whether no file is made in the root of a tree, since no id is left, and the tree stays as it was.
+/// Returns whether making a file in the root of `tree` fails because no id is left, and changes nothing.
 fn makes_no_file(alloc: Global, tree: &mut Tree) -> bool {
     let (Some(name), Some(perm)) = (parsed(alloc, b"z"), Perm::of(0o400)) else {
         return false;
@@ -183,7 +183,7 @@ fn makes_no_file(alloc: Global, tree: &mut Tree) -> bool {
     made == Some(Err(CreateFault::NoFileId)) && differs(tree, USED_UP.0, USED_UP.1, USED_UP.2)
 }
 
-/// Returns that of the tree of these changes.
+/// Calls `makes_no_file` with the tree of `manifest` with `changes`.
 fn makes_no_file_with(alloc: Global, manifest: &Manifest, changes: &Changes) -> bool {
     match changed(alloc, manifest, changes) {
         Ok(tree) => {
@@ -196,7 +196,7 @@ fn makes_no_file_with(alloc: Global, manifest: &Manifest, changes: &Changes) -> 
     }
 }
 
-/// Calls `makes_no_file_with` over the manifest `SMALL`.
+/// Calls `makes_no_file_with` with the manifest `SMALL` and the changes of `USED_UP`.
 fn makes_no_file_in_the_end(alloc: Global) -> bool {
     let (Ok(manifest), Some(changes)) = (read_again(alloc, SMALL), changes_again(alloc, USED_UP))
     else {
