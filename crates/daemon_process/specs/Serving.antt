@@ -43,12 +43,12 @@ IsRound (Some server) (next.Serve lease stop stops) = lent_server lease ≡ serv
 IsRound None next.Wait = Unit {0}
 IsRound server other = ⊥
 
--- a wait comes next while the daemon drains, else a round if something may be lent
+-- a wait comes next while the daemon drains, else what `IsRound` says
 abbrev pub ComesWhile : Bool → Option ServerState → Next → Type 0
 ComesWhile true server what = what ≡ next.Wait
 ComesWhile false server what = IsRound server what
 
--- the exit comes next if it is noted; else a wait or a round, as the daemon drains or not
+-- the exit comes next if it is noted; else a wait while the daemon drains, else what `IsRound` says of what may be lent
 abbrev pub ComesNext : Option Exit → DeskState → Next → Type 0
 ComesNext (Some exit) desk what = what ≡ next.Exit exit
 ComesNext None desk what = ComesWhile (is_draining desk.daemon.node.phase) (lendable desk) what

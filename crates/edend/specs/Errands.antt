@@ -43,7 +43,8 @@ abbrev pub RunsWell :
 RunsWell input file (Broker words) before after = PlaysRead (script_at input file words.script.now) before after
 RunsWell input file (Daemon words) before after = RunsDaemon (Ok tt) before after
 
--- what an errand that failed printed before, if each line could be printed: a broker nothing, a daemon the lines of its generations
+-- what an errand that failed printed before, if each line could be printed: a broker nothing, a daemon the lines of its
+-- generations
 abbrev pub PrintsFirst : Errand → Option (List ℕ) → Option (List ℕ) → Type 0
 PrintsFirst (Broker words) before after = Appends before after []
 PrintsFirst (Daemon words) before after = PrintsServing before after

@@ -11,8 +11,8 @@ use Rattle.entry_table.specs.Entries.{entry_of, is_kept}
 use Rattle.entry_table.specs.declared.kept.Kept.{Kept}
 use Rattle.entry_table.specs.declared.kept.Entry.{Entry}
 
--- what contracts see of a table: its entries, the files remembered of them, and its user's notes of them, each list by
--- rising number; also the next number, and how many numbers are reserved (1 or 0)
+-- What contracts see of a table: its entries, the files remembered of them, and its user's notes of them, each list by
+-- rising number. Also the next number, and how many numbers are reserved: 1 or 0.
 pub record TableState : Type 0 where
   pub entries : List Kept
   pub remembered : List (ℕ × FileId)
