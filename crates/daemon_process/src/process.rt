@@ -149,7 +149,7 @@ fn run<R: Threads + Wait + Clock + Sync, W: Write + Drop>(
     )
 }
 
-/// Serves the mount in this thread, and takeovers in two more: one accepts connections, one hands the mount over.
+/// Serves the mount in this thread, and takeovers in two more: one accepts connections, one serves them.
 fn run_within<'s, 'e: 's, R: Threads + Wait + Clock + Sync + 's, W: Write + Drop>(
     scope: &Scope<'s, &'e ()>,
     rt: &'e R,

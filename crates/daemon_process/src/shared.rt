@@ -141,7 +141,7 @@ impl Shared {
             .sleep(rt, seen, Duration::from_millis(LONGEST_SLEEP));
     }
 
-    /// Makes what the daemon needs to serve, before it asks for the mount.
+    /// Makes the state that the daemon serves once it mounts, before it asks for the mount.
     pub(crate) fn prepare<R: Wait>(&self, rt: &R) -> Result<(), NoMemory> {
         self.state.lock(rt).desk.prepare()
     }
@@ -151,7 +151,7 @@ impl Shared {
         self.state.lock(rt).desk.take_mount(answer)
     }
 
-    /// Returns the frame by which a new daemon offers to take over.
+    /// Returns the frame in which a new daemon offers its versions of the image.
     pub(crate) fn offer<R: Wait>(&self, rt: &R) -> Frame {
         self.state.lock(rt).desk.offer()
     }
