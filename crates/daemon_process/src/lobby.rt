@@ -26,7 +26,7 @@ struct State {
     is_over: bool,
 }
 
-/// The connection of another daemon that is served, and one that waits.
+/// The connections of other daemons: at most one is served, and at most one waits to be served next.
 #[derive(Drop)]
 pub(crate) struct Lobby {
     state: Mutex<State>,

@@ -9,7 +9,7 @@ use crate::Content;
 use eden_base::{FileId, Kind, Name, Perm};
 use std::marker::Model;
 
-/// A line of a manifest: the file itself, the directory that holds it, and its name there.
+/// A line of a manifest: the directory and the name that lead to a file, and the file's kind, permissions and size.
 #[derive(Drop)]
 pub struct Line {
     pub dir: FileId,

@@ -46,7 +46,8 @@ fn image_told(alloc: Global, bytes: &[u8]) -> Result<Image, HandoverFault>
     }
 }
 
-/// Returns the image that a reader took. Takes no memory, so that the fault is never `NoMemory`.
+/// Returns the image that the bytes fed to `reader` are, or `Refused` if they are no image. Takes no memory, so the fault
+/// is never `NoMemory`.
 fn image_fed(reader: ImageReader) -> Result<Image, HandoverFault>
     ensures text { IfOk result (λ image. (version : ℕ) × IsImageText image version reader) }
     ensures fit { IfOk result IsFit }

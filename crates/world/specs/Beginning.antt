@@ -20,7 +20,8 @@ abbrev pub HasTwo : List Happened → Type 0
 HasTwo (asked ∷ taken ∷ later) = taken ≢ Refused NoMemory
 HasTwo outcome = ⊥
 
--- the issue and the take were both made, and any events may follow; or one of them was refused, and no event follows
+-- true: the issue and the take were made, and whatever events come next go on from there; false: one of them was
+-- refused, and the list ends there, whatever events come next
 abbrev pub Begins : State → Request → DaemonId → Bool → List Happened → State → Type 0
 Begins old request daemon true outcome new =
     (length outcome ≤ 2) × HasTwo outcome × ((events : List Event) → Goes old (Issue request ∷ Take daemon ∷ events) outcome new events)

@@ -281,7 +281,7 @@ fn answers_in_the_end(
     is_unchanged && number_told(told) == number
 }
 
-/// Calls `answers_in_the_end` with the request and the number of `row`.
+/// Answers the request of `row` as `answers_in_the_end` does. Returns false if the request could not be made.
 fn row_is_answered(
     alloc: Global,
     served: &mut Hosted,
