@@ -1,0 +1,65 @@
+//! A map from keys to numbers.
+ghost use Rattle.std.specs.Prelude.{◌≡◌, ℕ, ◌==◌, None, Some, OnOk, OnErr, if◌then◌else◌};
+ghost use Rattle.key_map.specs.Keys.{at_key};
+
+use crate::numbers::Numbers;
+use crate::tier::Tier;
+use crate::tree::Tree;
+use std::alloc::{AllocError, Global};
+
+/// Numbers by keys. A key's number stands in the first tier in which the key's cell was empty, and in a tree if none
+/// was. At 64,000 keys of names some 200 stand in the tree, and a search looks at 1.7 cells. However keys are chosen, it
+/// looks at five cells and goes one way down the tree.
+#[derive(Drop)]
+pub struct KeyMap {
+    tiers: Tier<Tier<Tier<Tier<Tier<Tree>>>>>,
+    /// How many numbers there are.
+    held: usize,
+}
+
+impl KeyMap {
+    /// Makes a map without numbers. Each tier has half as many cells as the tier above it.
+    #[tactic(auto, unfolding(crate::specs::Keys::at_key))]
+    pub fn new(alloc: Global) -> KeyMap
+        ensures empty { (key : ℕ) → at_key result key ≡ None }
+    {
+        let fifth = Tier::over(alloc, 24, 1, Tree::new(alloc));
+        let fourth = Tier::over(alloc, 40, 2, fifth);
+        let third = Tier::over(alloc, 0, 4, fourth);
+        let second = Tier::over(alloc, 16, 8, third);
+        let tiers = Tier::over(alloc, 32, 16, second);
+        KeyMap { tiers, held: 0 }
+    }
+
+    /// Returns the number at `key`, if there is one.
+    #[tactic(auto, unfolding(crate::specs::Keys::at_key))]
+    pub fn get(&self, key: u64) -> Option<u64>
+        ensures number { result ≡ at_key self.now key }
+    {
+        self.tiers.get(key)
+    }
+
+    /// Puts `number` at `key`, which has none. If memory is refused, each key has what it had.
+    #[tactic(auto, unfolding(crate::specs::Keys::at_key))]
+    pub fn insert(&mut self, alloc: Global, key: u64, number: u64) -> Result<(), AllocError>
+        requires free { at_key self.old key ≡ None }
+        ensures ok { OnOk result ((k : ℕ) → at_key self.new k ≡ (if k == key then Some number else at_key self.old k)) }
+        ensures err { OnErr result ((k : ℕ) → at_key self.new k ≡ at_key self.old k) }
+    {
+        if self.held >= self.tiers.len() {
+            self.tiers.widen(alloc)?;
+        }
+        self.tiers.insert(key, number)?;
+        self.held = self.held.saturating_add(1);
+        Ok(())
+    }
+
+    /// Removes the number at `key`, if there is one. Takes no memory.
+    #[tactic(auto, unfolding(crate::specs::Keys::at_key))]
+    pub fn remove(&mut self, key: u64)
+        ensures removed { (k : ℕ) → at_key self.new k ≡ (if k == key then None else at_key self.old k) }
+    {
+        self.tiers.remove(key);
+        self.held = self.held.saturating_sub(1);
+    }
+}
