@@ -1,15 +1,17 @@
 -- Lookups in a tree that is laid over a manifest's.
-use Rattle.std.proofs.Common.{◌≡◌, ℕ, Bool, true, false, cond, not, if◌then◌else◌, List, [], ◌∷◌, ◌++◌, map, Option, Some, None, refl, sym, ap, ◌∙◌}
+use Rattle.std.proofs.Common.{◌≡◌, ℕ, Bool, true, false, cond, not, if◌then◌else◌, List, [], ◌∷◌, ◌++◌, map, Option, Some, None, IsSome, length, ◌+◌, ◌≤◌, refl, sym, ap, ◌∙◌, inl, inr, arith}
 use Rattle.std.specs.Option.{option_map, option_or}
 use Rattle.std.specs.Ordering.{nat_cmp, eq_by_cmp}
 use Rattle.std.specs.Cmp.{nat_cmp_total}
 use Rattle.std.specs.FinMap.{FinMap, get, entries, empty, find, get-empty, get-entries, get-from_entries, retain_keys, get-retain_keys, same_map, nat_cmp-IsAntisymmetric}
 use Rattle.eden_base.specs.declared.number.FileId.{FileId}
 use Rattle.checkout.specs.declared.made.MadeFile.{MadeFile}
-use Rattle.manifest.specs.Manifest.{File}
+use Rattle.eden_base.proofs.MemberLemmas.{some-IsSome}
+use Rattle.manifest.specs.Manifest.{File, Line}
 use Rattle.checkout.specs.Overlay.{file_made, files_over, stays, still, links_over}
-use Rattle.manifest.specs.Tree.{link_cmp}
+use Rattle.manifest.specs.Tree.{files_from, link_cmp}
 use Rattle.manifest.proofs.FlatLemmas.{find-append, link_cmp_total, link_cmp-same}
+use Rattle.manifest.proofs.ManifestTree.{id_of_file}
 
 find-values : {X Y : Type 0} (f : X → Y) (es : List (ℕ × X)) (q : ℕ) → find nat_cmp q (map (λ (e : ℕ × X). (e.0, f e.1)) es) ≡ option_map f (find nat_cmp q es)
 find-values f [] q = refl
@@ -26,6 +28,15 @@ get-files_over made base q =
     ∙ find-append nat_cmp q (map (λ (e : ℕ × MadeFile). (e.0, file_made e.1)) (entries made)) (entries base)
     ∙ ap (λ o. option_or o (find nat_cmp q (entries base))) (find-values file_made (entries made) q ∙ ap (option_map file_made) (sym (get-entries made q)))
     ∙ ap (option_or (option_map file_made (get made q))) (sym (get-entries base q))
+
+-- a file of the lines was not made
+pub none-made : (made : FinMap nat_cmp MadeFile) (lines : List Line) (q : ℕ) (file : File) → ((f : ℕ) → IsSome (get made f) → length lines + 2 ≤ f) → get (files_from 2 lines) q ≡ Some file → get made q ≡ None
+none-made made lines q file later h = in_ (get made q) refl where
+  in_ : (o : Option MadeFile) → get made q ≡ o → o ≡ None
+  in_ None e = refl
+  in_ (Some m) e =
+      let past = later q (some-IsSome (get made q) m e) in
+      absurd (elim (id_of_file 2 lines q file h) [ inl one ↦ omega (arith, one, past) | inr w ↦ omega (arith, w.1, past) ])
 
 kept : (gone : ℕ → Bool) (o : Option FileId) → cond (stays gone o) o None ≡ still gone o
 kept gone None = refl

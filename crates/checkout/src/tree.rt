@@ -130,14 +130,15 @@ impl Tree {
     fn content(&self, file: FileId) -> Option<Content>
         ensures { result ≡ file_of self.now file }
     {
-        match self.made.get(file) {
-            Some(made) => Some(Content {
-                kind: made.kind,
-                perm: made.perm,
-                size: 0,
-            }),
-            None => self.manifest.content(file),
+        if let Some(content) = self.manifest.content(file) {
+            return Some(content);
         }
+        let made = self.made.get(file)?;
+        Some(Content {
+            kind: made.kind,
+            perm: made.perm,
+            size: 0,
+        })
     }
 
     /// Returns the kind of a file, or none if the tree doesn't have the file.
@@ -152,6 +153,9 @@ impl Tree {
     pub fn perm_made(&self, file: FileId) -> Option<Perm>
         ensures perm { result ≡ perm_made self.now file }
     {
+        if overlay::is_line(&self.manifest, file) {
+            return None;
+        }
         let made = self.made.get(file)?;
         Some(made.perm)
     }

@@ -15,5 +15,7 @@ pub mod NameLemmas
 pub mod OpenedDirectories
 pub mod PartsLaws
 pub mod PathLaws
+pub mod PlaceLaws
+pub mod PlacesPush
 pub mod ReadLemmas
 pub mod TextLemmas

@@ -15,7 +15,7 @@ pub apart : (lines : List Line) → AreLines lines → AreApart lines
 apart lines h = record { apart = λ i j a b lt at_i at_j. (h.each i a at_i).place_is_new j b lt at_j }
 
 -- what stands in the longer list
-slice_get-push : (lines : List Line) (l : Line) (i : ℕ) (x : Line) → slice_get (lines ++ l ∷ []) i ≡ Some x → (slice_get lines i ≡ Some x) ⊎ ((i ≡ length lines) × (l ≡ x))
+pub slice_get-push : (lines : List Line) (l : Line) (i : ℕ) (x : Line) → slice_get (lines ++ l ∷ []) i ≡ Some x → (slice_get lines i ≡ Some x) ⊎ ((i ≡ length lines) × (l ≡ x))
 slice_get-push [] l zero x h = inr (refl, cc)
 slice_get-push [] l (suc i) x h = absurd (cc)
 slice_get-push (y ∷ ys) l zero x h = inl h

@@ -10,6 +10,7 @@ mod line;
 mod lines;
 mod links;
 mod manifest;
+mod places;
 mod tally;
 
 pub use content::{Content, nlink_of_kind};

@@ -10,7 +10,7 @@ ghost use Rattle.manifest.specs.Tree.{file_at, links_from, root};
 use crate::entry::Entry;
 use crate::field::is_path;
 use crate::line::kind_of;
-use crate::links::Links;
+use crate::places::Places;
 use crate::tally::Tally;
 use crate::{Line, ManifestFaultKind};
 use eden_base::{FileId, Kind, Name, NoMemory, cut};
@@ -21,7 +21,7 @@ use std::marker::Model;
 #[derive(Drop)]
 pub struct Lines {
     lines: Vec<Line>,
-    links: Links,
+    places: Places,
     /// How many lines stand in each directory.
     kids: Tally,
 }
@@ -30,7 +30,7 @@ impl Model for Lines {
     ghost use Rattle.std.specs.Prelude.{◌≡◌, List, ℕ};
     ghost use Rattle.manifest.specs.Manifest.{Line, AreLines, kids_in};
     ghost use Rattle.manifest.specs.Tally.{count_of};
-    ghost use Rattle.manifest.specs.Tree.{links_from};
+    ghost use Rattle.manifest.specs.Places.{IsPlaces};
     ghost use Rattle.manifest.specs.Codes.{lines_code};
 
     ghost Value = { List Line };
@@ -39,7 +39,7 @@ impl Model for Lines {
 
     ghost view = { λ a. a.lines.items };
 
-    ghost invariant = { λ a. AreLines a.lines.items × (a.links ≡ links_from 2 a.lines.items)
+    ghost invariant = { λ a. AreLines a.lines.items × IsPlaces a.lines.items a.places
         × ((dir : ℕ) → count_of a.kids dir ≡ kids_in dir a.lines.items) };
 }
 
@@ -53,7 +53,7 @@ impl Lines {
     {
         Lines {
             lines: Vec::new(alloc),
-            links: Links::new(alloc),
+            places: Places::new(alloc),
             kids: Tally::new(alloc),
         }
     }
@@ -78,7 +78,7 @@ impl Lines {
     pub fn child(&self, dir: FileId, name: &[u8]) -> Option<FileId>
         ensures { result ≡ get (links_from 2 self.now) (dir.0, name.now) }
     {
-        self.links.get(dir, name)
+        self.places.child(self.lines.as_slice(), dir, name)
     }
 
     /// Returns how many lines stand in a directory.
@@ -130,7 +130,7 @@ impl Lines {
         if kind_of(self.lines.as_slice(), dir) != Some(Kind::Dir) {
             return Err(ManifestFaultKind::NoParent);
         }
-        if self.links.get(dir, name).is_some() {
+        if self.child(dir, name).is_some() {
             return Err(ManifestFaultKind::Twice);
         }
         if self.len() >= Lines::MAX_LINES {
@@ -149,7 +149,7 @@ impl Lines {
         let mut dir = FileId::ROOT;
         let mut rest = path;
         while let Some((first, after)) = cut(rest, b'/') {
-            dir = self.links.get(dir, first)?;
+            dir = self.child(dir, first)?;
             rest = after;
         }
         Some((dir, rest))
@@ -166,7 +166,7 @@ impl Lines {
         let file = FileId(self.len() as u64 + 2);
         self.lines.reserve(1)?;
         self.kids.reserve(file.0 as usize)?;
-        self.links.insert(alloc, line.dir, line.name.bytes(), file)?;
+        self.places.add(alloc, line.dir, line.name.bytes(), file)?;
         self.kids.raise(line.dir.0);
         self.lines.push(line).unwrap();
         Ok(())

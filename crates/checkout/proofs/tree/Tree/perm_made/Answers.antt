@@ -6,9 +6,10 @@ use Rattle.std.specs.Option.{option_map, option_or}
 use Rattle.eden_base.proofs.MemberLemmas.{some-IsSome}
 use Rattle.eden_base.specs.declared.attr.Perm.{Perm}
 use Rattle.manifest.specs.Manifest.{File, Line}
-use Rattle.checkout.specs.Overlay.{file_made}
+use Rattle.checkout.specs.Overlay.{file_made, files_over}
 use Rattle.manifest.specs.Tree.{files_from}
 use Rattle.manifest.proofs.ManifestTree.{id_of_file}
+use Rattle.checkout.proofs.OverlayLaws.{within_lines}
 use Rattle.checkout.proofs.UnionLaws.{get-files_over}
 use Rattle.checkout.proofs.tree.Tree.perm_made.Goals as goal
 
@@ -27,6 +28,13 @@ none_behind lines q =
             elim (id_of_file 2 lines q f h) [ inl one ↦ absurd (omega (arith, one, past)) | inr w ↦ absurd (omega (arith, w.1, past)) ]
       ] refl
     ] refl
+
+pub returns-then-is_line : goal.returns-then-is_line
+returns-then-is_line c =
+    let i = c.self.inside in
+    let line = (within_lines i.manifest c.args.file (sym c.is_line.ensures ∙ c.if-is_line.true)).1 in
+    let below : nat_lt c.args.file.0 (length i.manifest.lines + 2) ≡ true = grind (arith, nat_tests) in
+    rw (← c.self.view_is) (record { perm = sym (ap (λ (b : Bool). if b then None else perm_of (get (files_over i.made (files_from 2 i.manifest.lines)) c.args.file.0)) below) })
 
 pub returns-in_err-made : goal.returns-in_err-made
 returns-in_err-made c =

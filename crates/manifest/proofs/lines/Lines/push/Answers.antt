@@ -1,13 +1,12 @@
 -- One more line, at a new place.
-use Rattle.std.proofs.Common.{◌≡◌, ℕ, ◌+◌, ◌==◌, if◌then◌else◌, List, slice_index, [], ◌∷◌, ◌++◌, length, arith, ap, subst, sym, ◌∙◌}
-use Rattle.std.specs.FinMap.{insert}
+use Rattle.std.proofs.Common.{◌≡◌, ℕ, ◌+◌, ◌==◌, if◌then◌else◌, List, slice_index, [], ◌∷◌, ◌++◌, arith, ap, subst, sym, ◌∙◌}
 use Rattle.eden_base.specs.Name.{IsNameText}
 use Rattle.manifest.specs.Manifest.{Line, AreLines, kids_in}
 use Rattle.manifest.specs.Tally.{Tally, count_of}
-use Rattle.manifest.specs.Tree.{links_from}
+use Rattle.manifest.specs.Places.{IsPlaces}
 use Rattle.manifest.proofs.LineCounts.{kids-le-length, kids_in-push}
-use Rattle.manifest.proofs.ManifestTree.{file_with, links_from-push}
 use Rattle.manifest.proofs.MoreLines.{AreLines-push}
+use Rattle.manifest.proofs.PlacesPush.{places-push}
 use Rattle.manifest.proofs.lines.Lines.push.Goals as goal
 
 -- the counts of the lines so far, where there is room for more
@@ -21,15 +20,11 @@ invariant_of-self-2 c =
     let are = subst AreLines c.self.view_is c.self.invariant.0 in
     let name = subst IsNameText (c.bytes.ensures.bytes ∙ ap (λ (l : Line). l.name) c.line.view_is) c.bytes.ensures.is_name in
     let all = (rw c.unwrap.ensures at c.push.ensures.items) ∙ ap (λ xs. xs ++ line ∷ []) (c.reserve.ensures.items ∙ c.self.view_is) in
-    let id : c.len.result + 2 ≡ 2 + length lines = omega (arith, c.len.ensures.len) in
     rw all (
       AreLines-push lines line are c.requires.room c.requires.size name c.requires.dir c.requires.new,
-      c.in_ok-insert.ensures.ok
-          ∙ ap (λ m. insert m (c.line.inside.dir.0, c.bytes.result.now) (file_with (c.len.result + 2))) (c.self.invariant.1 ∙ ap (links_from 2) c.self.view_is)
-          ∙ ap (λ n. insert (links_from 2 lines) (c.line.inside.dir.0, n) (file_with (c.len.result + 2))) c.bytes.ensures.bytes
-          ∙ ap (λ (l : Line). insert (links_from 2 lines) (l.dir.0, l.name) (file_with (c.len.result + 2))) c.line.view_is
-          ∙ ap (λ n. insert (links_from 2 lines) (line.dir.0, line.name) (file_with n)) id
-          ∙ sym (links_from-push 2 lines line c.requires.new),
+      places-push lines line c.self.inside.places c.add.new.self (subst (λ (ls : List Line). IsPlaces ls c.self.inside.places) c.self.view_is c.self.invariant.1) c.requires.new
+          c.line.inside.dir.0 c.bytes.result.now (c.len.result + 2) (ap (λ (l : Line). l.dir.0) c.line.view_is) (c.bytes.ensures.bytes ∙ ap (λ (l : Line). l.name) c.line.view_is) (omega (arith, c.len.ensures.len))
+          c.in_ok-add.ensures.files c.in_ok-add.ensures.others,
       λ d.
           c.raise.ensures.counts d ∙ ap (λ (n : ℕ). if d == c.line.inside.dir.0 then n + 1 else n) (kids c.self.inside.kids c.reserve-2.new.self _ lines c.reserve-2.ensures.counts c.self.invariant.2 c.self.view_is d)
           ∙ ap (λ (x : ℕ). if d == x then kids_in d lines + 1 else kids_in d lines) (ap (λ (l : Line). l.dir.0) c.line.view_is) ∙ sym (kids_in-push d lines line),

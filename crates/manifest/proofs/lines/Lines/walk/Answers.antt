@@ -1,10 +1,9 @@
 -- A path's first name leads to where the rest goes on.
 use Rattle.std.proofs.Common.{ap, sym, ◌∙◌}
 use Rattle.std.specs.Option.{option_and_then}
-use Rattle.std.specs.FinMap.{get}
 use Rattle.eden_base.specs.declared.number.FileId.{FileId}
 use Rattle.manifest.specs.Text.{front, last}
-use Rattle.manifest.specs.Tree.{file_at, links_from}
+use Rattle.manifest.specs.Tree.{file_at}
 use Rattle.manifest.specs.ManifestText.{names_of, tree_so_far}
 use Rattle.manifest.proofs.TextLemmas.{parts-cut, parts-no_cut, front-more, last-more}
 use Rattle.manifest.proofs.lines.Lines.walk.Goals as goal
@@ -15,11 +14,10 @@ returns-in_err-dir c =
     let dir = c.loop-first.dir in
     let name = c.in-Some.first.now in
     let rest = front (names_of c.in-Some.after.now) in
-    let child = sym c.get.ensures ∙ c.in_err-dir.was in
-    let links = c.self.invariant.1 ∙ ap (links_from 2) c.self.view_is in
+    let child = sym c.child.ensures ∙ c.in_err-dir.was in
     let first = parts-cut 47 c.loop-first.rest.now name c.in-Some.after.now (sym c.in-Some.ensures.parts) in
     let none = sym c.loop-first.invariant.0 ∙ ap (file_at tree dir) (ap front first ∙ front-more 47 name c.in-Some.after.now)
-    ∙ ap (option_and_then (λ (f : FileId). file_at tree f rest)) (sym (ap (λ m. get m (dir.0, name)) links) ∙ child) in
+    ∙ ap (option_and_then (λ (f : FileId). file_at tree f rest)) child in
     rw c.from_residual.ensures none
 
 pub loop-first-preserved : goal.loop-first-preserved
@@ -28,11 +26,10 @@ loop-first-preserved c =
     let dir = c.loop-first.dir in
     let name = c.in-Some.first.now in
     let rest = front (names_of c.in-Some.after.now) in
-    let child = sym c.get.ensures ∙ c.in_ok-dir.was in
-    let links = c.self.invariant.1 ∙ ap (links_from 2) c.self.view_is in
+    let child = sym c.child.ensures ∙ c.in_ok-dir.was in
     let first = parts-cut 47 c.loop-first.rest.now name c.in-Some.after.now (sym c.in-Some.ensures.parts) in
     let whole = sym c.loop-first.invariant.0 ∙ ap (file_at tree dir) (ap front first ∙ front-more 47 name c.in-Some.after.now)
-    ∙ ap (option_and_then (λ (f : FileId). file_at tree f rest)) (sym (ap (λ m. get m (dir.0, name)) links) ∙ child) in
+    ∙ ap (option_and_then (λ (f : FileId). file_at tree f rest)) child in
     (sym whole, sym (ap last first ∙ last-more 47 name c.in-Some.after.now) ∙ c.loop-first.invariant.1)
 
 pub returns : goal.returns

@@ -1,0 +1,82 @@
+//! The files of lines by their places.
+ghost use Rattle.std.specs.Prelude.{◌≡◌, ℕ, ◌==◌, ◌&&◌, is_ok, is_some, not, None, Some, if◌then◌else◌};
+ghost use Rattle.std.specs.FinMap.{empty, get, insert};
+ghost use Rattle.key_map.specs.Keys.{at_key, key_of};
+ghost use Rattle.manifest.specs.Manifest.{AreLines};
+ghost use Rattle.manifest.specs.Places.{stands, IsPlaces};
+ghost use Rattle.manifest.specs.Tree.{links_from};
+
+use crate::Line;
+use crate::line::line_of;
+use crate::links::Links;
+use eden_base::{FileId, NoMemory};
+use key_map::{KeyMap, key_of};
+use std::alloc::Global;
+
+/// The files of lines, by the keys of their places. Names aren't kept here: a file is that of a place only if its line
+/// stands there. A line whose key was taken by another is in `others`, under its name.
+#[derive(Drop)]
+pub(crate) struct Places {
+    files: KeyMap,
+    others: Links,
+}
+
+impl Places {
+    /// Makes an index of no lines.
+    pub(crate) fn new(alloc: Global) -> Places
+        ensures files { (key : ℕ) → at_key result.files key ≡ None }
+        ensures others { result.others ≡ empty }
+    {
+        Places {
+            files: KeyMap::new(alloc),
+            others: Links::new(alloc),
+        }
+    }
+
+    /// Returns the file of the line that stands under a name in a directory, if there is one.
+    pub(crate) fn child(&self, lines: &[Line], dir: FileId, name: &[u8]) -> Option<FileId>
+        requires lines { AreLines lines.now }
+        requires places { IsPlaces lines.now self.now }
+        ensures child { result ≡ get (links_from 2 lines.now) (dir.0, name.now) }
+    {
+        let file = FileId(self.files.get(key_of(dir.0, name))?);
+        if stands(lines, file, dir, name) {
+            return Some(file);
+        }
+        self.others.get(dir, name)
+    }
+
+    /// Adds the file of a line at a new place. If memory is refused, nothing changes.
+    pub(crate) fn add(
+        &mut self,
+        alloc: Global,
+        dir: FileId,
+        name: &[u8],
+        file: FileId,
+    ) -> Result<(), NoMemory>
+        ensures files { (k : ℕ) → at_key self.new.files k
+            ≡ (if is_ok result && (k == key_of dir.0 name.now
+            && not (is_some (at_key self.old.files (key_of dir.0 name.now))))
+            then Some file.0 else at_key self.old.files k) }
+        ensures others { self.new.others
+            ≡ (if is_ok result && is_some (at_key self.old.files (key_of dir.0 name.now))
+            then insert self.old.others (dir.0, name.now) file else self.old.others) }
+    {
+        let key = key_of(dir.0, name);
+        if self.files.get(key).is_some() {
+            return self.others.insert(alloc, dir, name, file);
+        }
+        self.files.insert(alloc, key, file.0)?;
+        Ok(())
+    }
+}
+
+/// Returns whether `file` has a line, and that stands under `name` in `dir`.
+fn stands(lines: &[Line], file: FileId, dir: FileId, name: &[u8]) -> bool
+    ensures stands { result ≡ stands lines.now file dir name.now }
+{
+    match line_of(lines, file) {
+        Some(line) => line.dir == dir && line.name.bytes() == name,
+        None => false,
+    }
+}
