@@ -2,9 +2,9 @@
 -- libfuse counts lookups in 64 bits. A size is an `off_t`, which has a sign.
 use Rattle.std.specs.Prelude.{ℕ, ◌-◌, ◌^◌}
 
--- how often the kernel may hold one number: a count of 32 bits
+-- how often the kernel may hold one number
 abbrev pub greatest_count : ℕ
-greatest_count = 2 ^ 32 - 1
+greatest_count = 2 ^ 63 - 1
 
 -- the number after the last that may be given
 abbrev pub end_of_numbers : ℕ

@@ -1,7 +1,7 @@
 //! The limits of numbers, counts, sizes, generations and sessions.
 
-/// How often the kernel may hold one number: a count of 32 bits.
-pub const GREATEST_COUNT: u64 = (1 << 32) - 1;
+/// How often the kernel may hold one number.
+pub const GREATEST_COUNT: u64 = (1 << 63) - 1;
 
 /// The number after the last that may be given.
 pub const END_OF_NUMBERS: u64 = (1 << 63) - 1;

@@ -18,7 +18,7 @@ use Rattle.byte_codec.specs.Field.{AreBytes}
 use Rattle.byte_codec.specs.Reading.{◌>>=◌}
 use Rattle.byte_codec.proofs.ByteLemmas.{AreBytes-drop}
 use Rattle.byte_codec.proofs.StepLemmas.{bind_ok, guard_ok, test_ok, done, ok_is}
-use Rattle.fuse_wire.specs.RequestBody.{checked, name_of, made_of, items_at, batch_of, forget_of, name_text, item_text, IsMadeBody, IsBatchBody, FitsItem}
+use Rattle.fuse_wire.specs.RequestBody.{checked, ended_by_nul, name_of, made_of, items_at, batch_of, forget_of, name_text, item_text, IsMadeBody, IsBatchBody, FitsItem}
 use Rattle.fuse_wire.specs.Mode.{perm_of}
 use Rattle.fuse_wire.proofs.Fields.{u32_again, u64_again, u32_below, u32_front, u64_front}
 use Rattle.fuse_wire.proofs.Lengths.{length-u32_bytes, length-u64_bytes, length-items}
@@ -32,7 +32,7 @@ yes_eq a b e = grind (arith, nat_tests)
 
 -- ---- names
 
-checked_ok : (cut name : List ℕ) (fault : Option NameFault) → checked cut fault ≡ Ok name → (fault ≡ None) × (cut ≡ name)
+pub checked_ok : (cut name : List ℕ) (fault : Option NameFault) → checked cut fault ≡ Ok name → (fault ≡ None) × (cut ≡ name)
 checked_ok cut name None e = (refl, ok_is cut name e)
 checked_ok cut name (Some fault) e = absurd cc
 
@@ -43,28 +43,38 @@ last_apart xs n is =
     let last : drop n xs ≡ get_or xs n 0 ∷ [] = drop-cons xs n 0 (omega arith) ∙ ap (λ (r : List ℕ). get_or xs n 0 ∷ r) rest in
     ap (λ (d : List ℕ). take n xs ++ d) (sym last) ∙ take-append-drop n xs
 
-pub name_found : (body name : List ℕ) → name_of body ≡ Ok name → IsNameText name × (body ≡ name_text name)
-unfolding name_of
-name_found body name e =
-    let n = length body - 1 in
-    let t = test_ok (ltb 0 (length body) && eqb (slice_index body n) 0) BadBody (checked (take n body) (name_fault (take n body))) name e in
-    let tests = and_parts (ltb 0 (length body)) (eqb (slice_index body n) 0) t.0 in
-    let some : 0 < length body = grind (arith, nat_tests) in
-    let nul : slice_index body n ≡ 0 = eqb-true _ _ tests.1 in
-    let is = checked_ok (take n body) name (name_fault (take n body)) t.1 in
-    let apart : take n body ++ slice_index body n ∷ [] ≡ body = last_apart body n (omega arith) in
-    let whole : body ≡ name ++ 0 ∷ [] = sym apart ∙ ap (λ (b : ℕ). take n body ++ b ∷ []) nul ∙ ap (λ (m : List ℕ). m ++ 0 ∷ []) is.1 in
-    (subst (λ (m : List ℕ). name_fault m ≡ None) is.1 is.0, whole)
+-- what a NUL ends has these bytes and the NUL
+pub ended_found : (bytes name : List ℕ) → ended_by_nul bytes ≡ Ok name → bytes ≡ name_text name
+unfolding ended_by_nul
+ended_found bytes name e =
+    let n = length bytes - 1 in
+    let t = test_ok (ltb 0 (length bytes) && eqb (slice_index bytes n) 0) BadBody (Ok (take n bytes)) name e in
+    let tests = and_parts (ltb 0 (length bytes)) (eqb (slice_index bytes n) 0) t.0 in
+    let some : 0 < length bytes = grind (arith, nat_tests) in
+    let nul : slice_index bytes n ≡ 0 = eqb-true _ _ tests.1 in
+    let apart : take n bytes ++ slice_index bytes n ∷ [] ≡ bytes = last_apart bytes n (omega arith) in
+    sym apart ∙ ap (λ (b : ℕ). take n bytes ++ b ∷ []) nul ∙ ap (λ (m : List ℕ). m ++ 0 ∷ []) (ok_is (take n bytes) name t.1)
 
-pub name_again : (name : List ℕ) → IsNameText name → name_of (name_text name) ≡ Ok name
-unfolding name_of
-name_again name is =
+pub ended_again : (name : List ℕ) → ended_by_nul (name_text name) ≡ Ok name
+unfolding ended_by_nul
+ended_again name =
     let len : length (name_text name) - 1 ≡ length name = omega (arith, length-append name (0 ∷ [])) in
     let some : ltb 0 (length (name_text name)) ≡ true = lt-ltb _ _ (omega (arith, length-append name (0 ∷ []))) in
     let first : length name - length name ≡ 0 = omega arith in
     let nul : slice_index (name_text name) (length name) ≡ 0 = get_or-append_right name (0 ∷ []) (length name) (length name) 0 refl (omega arith) ∙ ap (λ (i : ℕ). get_or (0 ∷ []) i 0) first in
     let cut : take (length name) (name_text name) ≡ name = take_at name (0 ∷ []) (length name) refl in
-    rw (len, some, nul, cut, is) refl
+    rw (len, some, nul, cut) refl
+
+pub name_found : (body name : List ℕ) → name_of body ≡ Ok name → IsNameText name × (body ≡ name_text name)
+unfolding name_of
+name_found body name e =
+    let b = bind_ok (ended_by_nul body) (λ n. checked n (name_fault n)) name e in
+    let is = checked_ok b.0 name (name_fault b.0) b.2 in
+    (subst (λ (m : List ℕ). name_fault m ≡ None) is.1 is.0, ended_found body b.0 b.1 ∙ ap name_text is.1)
+
+pub name_again : (name : List ℕ) → IsNameText name → name_of (name_text name) ≡ Ok name
+unfolding name_of
+name_again name is = rw (ended_again name, is) refl
 
 -- ---- a mode and a name
 

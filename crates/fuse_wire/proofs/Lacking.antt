@@ -1,7 +1,6 @@
 -- What a call gave that may lack memory.
-use Rattle.std.proofs.Common.{◌≡◌, ℕ, Bool, false, List, Result, Ok, Err, ap, sym}
+use Rattle.std.proofs.Common.{◌≡◌, Bool, false, Result, Ok, Err, ap, sym}
 use Rattle.std.specs.Prelude.{IsTrue}
-use Rattle.eden_base.specs.declared.attr.Perm.{Perm}
 use Rattle.fuse_wire.specs.declared.fault.WireFault.{WireFault}
 use Rattle.fuse_wire.specs.declared.fault.WireFault.TheVariants.{Short, BadLength, BadBody, BadCount, BadName, NoMemory}
 use Rattle.byte_codec.specs.Reading.{◌>>=◌}
@@ -42,15 +41,12 @@ not_out_of_memory Takes (Err BadBody) read given = λ e. cc
 not_out_of_memory Takes (Err BadCount) read given = λ e. cc
 not_out_of_memory Takes (Err (BadName name)) read given = λ e. cc
 
--- a name that is at fault, or lacks memory, is so beside permissions
-abbrev beside : Perm → Result (List ℕ) WireFault → Result (List ℕ × Perm) WireFault
-beside perm name = name >>= λ n. Ok (n, perm)
-
-pub fault_beside : (may_lack : Bool) (perm : Perm) (fault : WireFault) (name : Result (List ℕ) WireFault) → Gives (MayLack may_lack TakesSome) (Err fault) name → Gives (MayLack may_lack TakesSome) (Err fault) (beside perm name)
-fault_beside may_lack perm NoMemory (Ok n) given = given
-fault_beside may_lack perm NoMemory (Err fault) given = absurd given
-fault_beside may_lack perm Short name given = ap (beside perm) given
-fault_beside may_lack perm BadLength name given = ap (beside perm) given
-fault_beside may_lack perm BadBody name given = ap (beside perm) given
-fault_beside may_lack perm BadCount name given = ap (beside perm) given
-fault_beside may_lack perm (BadName fault) name given = ap (beside perm) given
+-- what is at fault, or lacks memory, is so beside something more
+pub fault_beside : {X Y : Type 0} (may_lack : Bool) (more : X → Y) (fault : WireFault) (read : Result X WireFault) → Gives (MayLack may_lack TakesSome) (Err fault) read → Gives (MayLack may_lack TakesSome) (Err fault) (read >>= λ x. Ok (more x))
+fault_beside may_lack more NoMemory (Ok x) given = given
+fault_beside may_lack more NoMemory (Err fault) given = absurd given
+fault_beside may_lack more Short read given = ap (λ (r : Result _ WireFault). r >>= λ x. Ok (more x)) given
+fault_beside may_lack more BadLength read given = ap (λ (r : Result _ WireFault). r >>= λ x. Ok (more x)) given
+fault_beside may_lack more BadBody read given = ap (λ (r : Result _ WireFault). r >>= λ x. Ok (more x)) given
+fault_beside may_lack more BadCount read given = ap (λ (r : Result _ WireFault). r >>= λ x. Ok (more x)) given
+fault_beside may_lack more (BadName fault) read given = ap (λ (r : Result _ WireFault). r >>= λ x. Ok (more x)) given

@@ -6,6 +6,7 @@ pub mod ItemLaws
 pub mod ItemsRead
 pub mod Lacking
 pub mod Lengths
+pub mod Moves
 pub mod OtherLaws
 pub mod OwnTexts
 pub mod Replies

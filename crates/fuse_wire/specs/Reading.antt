@@ -9,11 +9,11 @@ Gives Takes (Ok x) read = read ≡ Ok x
 Gives Takes (Err NoMemory) read = IsOkAnd read Takes
 Gives Takes (Err fault) read = read ≡ Err fault
 
--- any value takes memory, as a name does
+-- each value of this type takes memory, as each name does
 abbrev pub TakesSome : {X : Type 0} → X → Type 0
 TakesSome x = Unit {0}
 
--- no value takes memory
+-- no value of this type takes memory
 abbrev pub TakesNone : {X : Type 0} → X → Type 0
 TakesNone x = ⊥
 

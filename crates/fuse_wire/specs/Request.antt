@@ -10,9 +10,9 @@ use Rattle.fuse_wire.specs.declared.item.Item.{Item}
 use Rattle.fuse_wire.specs.declared.request.Opcode.{Opcode}
 use Rattle.fuse_wire.specs.declared.request.Opcode.TheVariants as opcodes
 use Rattle.fuse_wire.specs.declared.request.Request.{Request}
-use Rattle.fuse_wire.specs.declared.request.Request.TheVariants.{Lookup, Getattr, Create, Mkdir, Unlink, Rmdir, Forget, BatchForget, Other}
+use Rattle.fuse_wire.specs.declared.request.Request.TheVariants.{Lookup, Getattr, Create, Mkdir, Unlink, Rmdir, Rename, Forget, BatchForget, Other}
 
--- ---- opcodes; RENAME, 12, is not served
+-- ---- opcodes
 
 -- the opcode of an operation, as a number
 abbrev pub code : Opcode → ℕ
@@ -22,6 +22,7 @@ code opcodes.Getattr = 3
 code opcodes.Mkdir = 9
 code opcodes.Unlink = 10
 code opcodes.Rmdir = 11
+code opcodes.Rename = 12
 code opcodes.Create = 35
 code opcodes.BatchForget = 42
 code (opcodes.Other n) = n
@@ -35,6 +36,7 @@ opcode_of n =
     else if n == 9 then opcodes.Mkdir
     else if n == 10 then opcodes.Unlink
     else if n == 11 then opcodes.Rmdir
+    else if n == 12 then opcodes.Rename
     else if n == 35 then opcodes.Create
     else if n == 42 then opcodes.BatchForget
     else opcodes.Other n
@@ -53,6 +55,7 @@ opcode (Create dir name perm) = opcodes.Create
 opcode (Mkdir dir name perm) = opcodes.Mkdir
 opcode (Unlink dir name) = opcodes.Unlink
 opcode (Rmdir dir name) = opcodes.Rmdir
+opcode (Rename dir name to_dir to_name) = opcodes.Rename
 opcode (Forget item) = opcodes.Forget
 opcode (BatchForget items) = opcodes.BatchForget
 opcode (Other n node) = opcodes.Other n
@@ -73,7 +76,8 @@ other_of n node = other_by (opcode_of n) node
 
 -- ---- the nodeid
 
--- the nodeid that is written into the header; 0 for a batch, whose numbers are in its items
+-- the nodeid that is written into the header: the old directory's for a RENAME, and 0 for a batch, whose numbers are in
+-- its items
 abbrev pub nodeid : Request → ℕ
 nodeid (Lookup dir name) = dir.0
 nodeid (Getattr node) = node.0
@@ -81,6 +85,7 @@ nodeid (Create dir name perm) = dir.0
 nodeid (Mkdir dir name perm) = dir.0
 nodeid (Unlink dir name) = dir.0
 nodeid (Rmdir dir name) = dir.0
+nodeid (Rename dir name to_dir to_name) = dir.0
 nodeid (Forget item) = item.node.0
 nodeid (BatchForget items) = 0
 nodeid (Other n node) = node.0
@@ -106,6 +111,7 @@ nodes (Create dir name perm) = dir ∷ []
 nodes (Mkdir dir name perm) = dir ∷ []
 nodes (Unlink dir name) = dir ∷ []
 nodes (Rmdir dir name) = dir ∷ []
+nodes (Rename dir name to_dir to_name) = dir ∷ to_dir ∷ []
 nodes (Forget item) = []
 nodes (BatchForget items) = []
 nodes (Other n node) = node ∷ []
@@ -118,6 +124,7 @@ form_of (Create dir name perm) = AnOpenEntry
 form_of (Getattr node) = Attributes
 form_of (Unlink dir name) = NoValue
 form_of (Rmdir dir name) = NoValue
+form_of (Rename dir name to_dir to_name) = NoValue
 form_of request = OnlyAnError
 
 -- the item of a FORGET; none for any other request, also for a batch

@@ -7,13 +7,14 @@ use Rattle.eden_base.specs.declared.attr.Perm.{Perm}
 use Rattle.eden_base.specs.declared.name.NameFault.{NameFault}
 use Rattle.eden_base.specs.declared.number.Number.{Number}
 use Rattle.eden_base.specs.Name.{IsNameText, name_fault}
+use Rattle.eden_base.specs.Text.{cut}
 use Rattle.fuse_wire.specs.declared.fault.WireFault.{WireFault}
 use Rattle.fuse_wire.specs.declared.fault.WireFault.TheVariants.{BadBody, BadCount, BadName}
 use Rattle.fuse_wire.specs.declared.item.Item.{Item}
 use Rattle.fuse_wire.specs.declared.request.Opcode.{Opcode}
 use Rattle.fuse_wire.specs.declared.request.Opcode.TheVariants as opcodes
 use Rattle.fuse_wire.specs.declared.request.Request.{Request}
-use Rattle.fuse_wire.specs.declared.request.Request.TheVariants.{Lookup, Getattr, Create, Mkdir, Unlink, Rmdir, Forget, BatchForget, Other}
+use Rattle.fuse_wire.specs.declared.request.Request.TheVariants.{Lookup, Getattr, Create, Mkdir, Unlink, Rmdir, Rename, Forget, BatchForget, Other}
 use Rattle.fuse_wire.specs.Field.{zeros, u32_bytes, u64_bytes, u32_at, u64_at}
 use Rattle.fuse_wire.specs.Mode.{S_IFREG, perm_of}
 use Rattle.byte_codec.specs.Reading.{◌>>=◌}
@@ -37,12 +38,17 @@ made_body offset mode rest name = (zeros offset ++ u32_bytes mode ++ zeros rest)
 abbrev pub batch_body : List Item → List ℕ
 batch_body items = (u32_bytes (length items) ++ zeros 4) ++ flat_map item_text items
 
+-- the body of a RENAME: the number of the new directory, then the old name and the new one
+abbrev pub move_body : Number → List ℕ → List ℕ → List ℕ
+move_body to_dir name to_name = u64_bytes to_dir.0 ++ name_text name ++ name_text to_name
+
 -- what follows the header; CREATE has flags before the mode, and umask and another word after it, MKDIR has umask after
 -- it
 abbrev pub body : Request → List ℕ
 body (Lookup dir name) = name_text name
 body (Unlink dir name) = name_text name
 body (Rmdir dir name) = name_text name
+body (Rename dir name to_dir to_name) = move_body to_dir name to_name
 body (Create dir name perm) = made_body 4 (S_IFREG + perm.bits) 8 name
 body (Mkdir dir name perm) = made_body 0 perm.bits 4 name
 body (Getattr node) = zeros 16
@@ -75,11 +81,18 @@ pub record IsBatchBody (items : List Item) (bytes : List ℕ) : Type 0 where
   pub at_most : length items ≤ 256
   pub parts : bytes ≡ (u32_bytes (length items) ++ others) ++ flat_map item_text items
 
+-- a body of RENAME: the number of the new directory, and two names
+pub record IsMoveBody (to_dir : Number) (name to_name : List ℕ) (bytes : List ℕ) : Type 0 where
+  pub is_name : IsNameText name
+  pub is_to_name : IsNameText to_name
+  pub parts : bytes ≡ move_body to_dir name to_name
+
 -- the bytes after the header are a body of this request
 abbrev pub IsBody : Request → List ℕ → Type 0
 IsBody (Lookup dir name) bytes = IsNameText name × (bytes ≡ name_text name)
 IsBody (Unlink dir name) bytes = IsNameText name × (bytes ≡ name_text name)
 IsBody (Rmdir dir name) bytes = IsNameText name × (bytes ≡ name_text name)
+IsBody (Rename dir name to_dir to_name) bytes = IsMoveBody to_dir name to_name bytes
 IsBody (Create dir name perm) bytes = IsMadeBody 4 8 name perm bytes
 IsBody (Mkdir dir name perm) bytes = IsMadeBody 0 4 name perm bytes
 IsBody (Getattr node) bytes = length bytes ≡ 16
@@ -96,6 +109,7 @@ pub record FitsItem (item : Item) : Type 0 where
 
 -- the numbers of a body fit their fields
 abbrev pub FitsBody : Request → Type 0
+FitsBody (Rename dir name to_dir to_name) = to_dir.0 < 2 ^ 64
 FitsBody (Forget item) = item.k < 2 ^ 64
 FitsBody (BatchForget items) = All FitsItem items
 FitsBody request = Unit {0}
@@ -107,12 +121,36 @@ abbrev pub checked : List ℕ → Option NameFault → Result (List ℕ) WireFau
 checked name None = Ok name
 checked name (Some fault) = Err (BadName fault)
 
+-- the bytes before a NUL at the end, or BadBody if the last byte is no NUL
+unfoldable pub ended_by_nul : List ℕ → Result (List ℕ) WireFault
+ended_by_nul bytes =
+    if nat_lt 0 (length bytes) && slice_index bytes (length bytes - 1) == 0
+    then Ok (take (length bytes - 1) bytes)
+    else Err BadBody
+
 -- the name in a body that ends with a NUL, or the first fault
 unfoldable pub name_of : List ℕ → Result (List ℕ) WireFault
-name_of body =
-    if nat_lt 0 (length body) && slice_index body (length body - 1) == 0
-    then checked (take (length body - 1) body) (name_fault (take (length body - 1) body))
-    else Err BadBody
+name_of body = ended_by_nul body >>= λ name. checked name (name_fault name)
+
+-- two names, or the first fault, which is the first name's if both have one
+abbrev pub both_checked : List ℕ → List ℕ → Result (List ℕ × List ℕ) WireFault
+both_checked first second =
+    checked first (name_fault first) >>= λ old. checked second (name_fault second) >>= λ new. Ok (old, new)
+
+-- two names, of which the first ends before the first NUL, if there is one, and the second before a NUL at the end
+abbrev pub names_in : Option (List ℕ × List ℕ) → Result (List ℕ × List ℕ) WireFault
+names_in (Some parts) = ended_by_nul parts.1 >>= λ second. both_checked parts.0 second
+names_in None = Err BadBody
+
+-- the two names in these bytes, each with its NUL, or the first fault
+unfoldable pub names_of : List ℕ → Result (List ℕ × List ℕ) WireFault
+names_of bytes = names_in (cut 0 bytes)
+
+-- the new directory, the old name and the new one in a body of RENAME, or the first fault
+unfoldable pub move_of : List ℕ → Result (Number × List ℕ × List ℕ) WireFault
+move_of body =
+    if nat_lt (length body) 8 then Err BadBody
+    else names_of (drop 8 body) >>= λ names. Ok (record { 0 = u64_at body }, names.0, names.1)
 
 -- the name in these bytes with these permissions, or the first fault
 abbrev pub named_with : Perm → List ℕ → Result (List ℕ × Perm) WireFault
@@ -151,6 +189,7 @@ what_of opcodes.Unlink node body = name_of body >>= λ name. Ok (Unlink node nam
 what_of opcodes.Rmdir node body = name_of body >>= λ name. Ok (Rmdir node name)
 what_of opcodes.Create node body = made_of 4 8 body >>= λ made. Ok (Create node made.0 made.1)
 what_of opcodes.Mkdir node body = made_of 0 4 body >>= λ made. Ok (Mkdir node made.0 made.1)
+what_of opcodes.Rename node body = move_of body >>= λ move. Ok (Rename node move.1 move.0 move.2)
 what_of opcodes.Getattr node body = if length body == 16 then Ok (Getattr node) else Err BadBody
 what_of opcodes.Forget node body = forget_of node body >>= λ item. Ok (Forget item)
 what_of opcodes.BatchForget node body = batch_of body >>= λ items. Ok (BatchForget items)
@@ -170,12 +209,13 @@ items_told request = Err BadBody
 
 -- ---- what takes memory
 
--- a request takes memory: it has a name, or is a batch
+-- a request takes memory: it has a name or two, or is a batch
 abbrev pub TakesMemory : Request → Type 0
 TakesMemory (Lookup dir name) = Unit {0}
 TakesMemory (Create dir name perm) = Unit {0}
 TakesMemory (Mkdir dir name perm) = Unit {0}
 TakesMemory (Unlink dir name) = Unit {0}
 TakesMemory (Rmdir dir name) = Unit {0}
+TakesMemory (Rename dir name to_dir to_name) = Unit {0}
 TakesMemory (BatchForget items) = Unit {0}
 TakesMemory request = ⊥

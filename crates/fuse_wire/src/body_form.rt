@@ -1,18 +1,18 @@
-//! The forms of request bodies, each with its length, its writing and its reading: a name; a mode and a name; the item
-//! of a FORGET; the items of a batch.
-ghost use Rattle.std.specs.Prelude.{All, ◌≡◌, ◌≤◌, ◌+◌, ◌*◌, ℕ, length, IfOk, IfErr, Ok, Err};
+//! The forms of request bodies, each with its length, its writing and its reading: a name; a mode and a name; a number
+//! and two names; the item of a FORGET; the items of a batch.
+ghost use Rattle.std.specs.Prelude.{All, ◌≡◌, ◌<◌, ◌≤◌, ◌+◌, ◌*◌, ◌^◌, ℕ, length, IfOk, IfErr, Ok, Err};
 ghost use Rattle.std.specs.List.{flat_map};
 ghost use Rattle.eden_base.specs.Name.{IsNameText};
 ghost use Rattle.fuse_wire.specs.Reading.{Gives, TakesSome, TakesNone, MayLack};
-ghost use Rattle.fuse_wire.specs.RequestBody.{name_text, made_body, batch_body, item_text, FitsItem, name_of, named_with, made_of, forget_of, batch_of, items_at};
+ghost use Rattle.fuse_wire.specs.RequestBody.{name_text, made_body, move_body, batch_body, item_text, FitsItem, IsMoveBody, name_of, named_with, made_of, ended_by_nul, both_checked, names_of, move_of, forget_of, batch_of, items_at};
 ghost use Rattle.fuse_wire.specs.Writing.{HasRoom, Puts};
 
-use crate::layout::{BATCH_FIXED, BATCH_REST_LEN, FORGET_LEN, MODE_LEN};
+use crate::layout::{BATCH_FIXED, BATCH_REST_LEN, FORGET_LEN, MODE_LEN, RENAME_FIXED};
 use crate::memory::Memory;
 use crate::reader::Reader;
 use crate::writer::Writer;
 use crate::{Batch, Item, Items, WireFault, mode};
-use eden_base::{Name, NoMemory, Number, Perm};
+use eden_base::{Name, NoMemory, Number, Perm, cut};
 
 /// Returns the length of a name and its NUL.
 #[tactic(auto, using(crate::proofs::Lengths::name_is_short))]
@@ -34,19 +34,28 @@ pub(crate) fn put_name(fields: &mut Writer, name: &Name)
     fields.put_slice(&[0]);
 }
 
+/// Returns the bytes before a NUL at the end, or `BadBody` if the last byte is no NUL.
+#[tactic(auto, unfolding(crate::specs::RequestBody::ended_by_nul))]
+fn ended_by_nul(bytes: &[u8]) -> Result<&[u8], WireFault>
+    ensures value { IfOk result (λ part. ended_by_nul bytes.now ≡ Ok part.now) }
+    ensures fault { IfErr result (λ fault. Gives TakesNone (Err fault) (ended_by_nul bytes.now)) }
+{
+    if bytes.is_empty() {
+        return Err(WireFault::BadBody);
+    }
+    let end = bytes.len() - 1;
+    if bytes[end] != 0 {
+        return Err(WireFault::BadBody);
+    }
+    Ok(&bytes[..end])
+}
+
 /// Reads a name and its NUL.
 #[tactic(auto, unfolding(crate::specs::RequestBody::name_of))]
 pub(crate) fn read_name<M: Memory>(memory: M, body: &[u8]) -> Result<Name, WireFault>
     ensures { Gives (MayLack M.may_lack TakesSome) result (name_of body.now) }
 {
-    if body.is_empty() {
-        return Err(WireFault::BadBody);
-    }
-    let end = body.len() - 1;
-    if body[end] != 0 {
-        return Err(WireFault::BadBody);
-    }
-    let bytes = &body[..end];
+    let bytes = ended_by_nul(body)?;
     if let Some(fault) = Name::fault(bytes) {
         return Err(WireFault::BadName(fault));
     }
@@ -110,6 +119,73 @@ pub(crate) fn read_made<M: Memory>(
     let (perm, named) = mode_part(offset, rest, body)?;
     let name = read_name(memory, named)?;
     Ok((name, perm))
+}
+
+/// Returns the length of the body of a RENAME to `to_name` in `to_dir`.
+#[tactic(auto, using(crate::proofs::Lengths::lengths))]
+pub(crate) fn move_len(to_dir: Number, name: &Name, to_name: &Name) -> usize
+    ensures len { result ≡ length (move_body to_dir name.now to_name.now) }
+    ensures at_most { result ≤ 520 }
+    ensures is_body { IsMoveBody to_dir name.now to_name.now (move_body to_dir name.now to_name.now) }
+{
+    RENAME_FIXED + name_len(name) + name_len(to_name)
+}
+
+/// Writes the number of the new directory (`struct fuse_rename_in`), and then the old name and the new one.
+#[tactic(auto, using(crate::proofs::Written::written))]
+pub(crate) fn put_move(fields: &mut Writer, to_dir: Number, name: &Name, to_name: &Name)
+    requires { HasRoom fields.old (length (move_body to_dir name.now to_name.now)) }
+    ensures body { Puts fields.old fields.new (move_body to_dir name.now to_name.now) }
+    ensures fits { to_dir.0 < 2 ^ 64 }
+{
+    fields.put_u64(to_dir.0);
+    put_name(fields, name);
+    put_name(fields, to_name);
+}
+
+/// Makes two names of `first` and `second`, or returns the first fault.
+fn both_names<M: Memory>(memory: M, first: &[u8], second: &[u8]) -> Result<(Name, Name), WireFault>
+    ensures { Gives (MayLack M.may_lack TakesSome) result (both_checked first.now second.now) }
+{
+    if let Some(fault) = Name::fault(first) {
+        return Err(WireFault::BadName(fault));
+    }
+    if let Some(fault) = Name::fault(second) {
+        return Err(WireFault::BadName(fault));
+    }
+    match memory.names(first, second) {
+        Ok(names) => Ok(names),
+        Err(NoMemory) => Err(WireFault::NoMemory),
+    }
+}
+
+/// Reads two names, each with its NUL: the first ends at the first NUL, the second at the last byte.
+#[tactic(auto, unfolding(crate::specs::RequestBody::names_of))]
+fn read_names<M: Memory>(memory: M, bytes: &[u8]) -> Result<(Name, Name), WireFault>
+    ensures { Gives (MayLack M.may_lack TakesSome) result (names_of bytes.now) }
+{
+    let Some((first, rest)) = cut(bytes, 0) else {
+        return Err(WireFault::BadBody);
+    };
+    let second = ended_by_nul(rest)?;
+    both_names(memory, first, second)
+}
+
+/// Reads the number of the new directory (`struct fuse_rename_in`), and the old name and the new one.
+#[tactic(auto, unfolding(crate::specs::RequestBody::move_of))]
+pub(crate) fn read_move<M: Memory>(
+    memory: M,
+    body: &[u8],
+) -> Result<(Number, Name, Name), WireFault>
+    ensures { Gives (MayLack M.may_lack TakesSome) result (move_of body.now) }
+{
+    if body.len() < RENAME_FIXED {
+        return Err(WireFault::BadBody);
+    }
+    let to_dir = Number(Reader::new(body).u64());
+    let (_, named) = body.split_at(RENAME_FIXED);
+    let (name, to_name) = read_names(memory, named)?;
+    Ok((to_dir, name, to_name))
 }
 
 /// Reads the item of a FORGET (`struct fuse_forget_in`).

@@ -18,6 +18,9 @@ pub(crate) const MKDIR_MODE: usize = 0;
 /// The length of the end of `struct fuse_mkdir_in`, after the mode: umask.
 pub(crate) const MKDIR_REST_LEN: usize = 4;
 
+/// The length of `struct fuse_rename_in`: newdir.
+pub(crate) const RENAME_FIXED: usize = 8;
+
 /// The length of `struct fuse_getattr_in`: getattr_flags, dummy, fh.
 pub(crate) const GETATTR_LEN: usize = 16;
 

@@ -1,4 +1,4 @@
-//! The memory for the name or the batch of a request that is read or copied.
+//! The memory for the names or the batch of a request that is read or copied.
 ghost use Rattle.std.specs.Prelude.{◌≡◌, ◌≤◌, ◌*◌, Bool, true, false, IsTrue, length, IfOk, OnErr};
 ghost use Rattle.eden_base.specs.Name.{IsNameText};
 ghost use Rattle.fuse_wire.specs.RequestBody.{items_at};
@@ -8,7 +8,6 @@ use eden_base::{Name, NameRoom, NoMemory};
 use std::alloc::Global;
 
 /// Memory for the names or the batch of one request: an allocator, which may refuse, or rooms that were taken before.
-/// No request has a second name.
 pub(crate) trait Memory: Drop {
     /// Whether this memory may be refused.
     ghost may_lack: { Bool };
@@ -83,7 +82,7 @@ impl Memory for Global {
     }
 }
 
-/// Rooms for the name or the batch of any request. No request has a second name.
+/// Rooms for the names or the batch of any request.
 #[derive(Drop)]
 pub(crate) struct Rooms {
     pub first: NameRoom,

@@ -5,7 +5,7 @@ use arrayvec::ArrayVec;
 use eden_base::Number;
 use std::marker::Model;
 
-/// The numbers of the files that one request is for. There is room for two; no request is for more than one.
+/// The numbers of the files that one request is for: at most two, as a RENAME has.
 #[derive(Drop)]
 pub struct Nodes {
     numbers: ArrayVec<Number, 2>,

@@ -12,18 +12,47 @@ use std::array;
 /// A request without its unique. `dir` and `node` are the nodeid of the header; `dir` is a directory's.
 #[derive(PartialEq, Eq, Drop)]
 pub enum Request {
-    Lookup { dir: Number, name: Name },
-    Getattr { node: Number },
-    Create { dir: Number, name: Name, perm: Perm },
-    Mkdir { dir: Number, name: Name, perm: Perm },
-    Unlink { dir: Number, name: Name },
-    Rmdir { dir: Number, name: Name },
+    Lookup {
+        dir: Number,
+        name: Name,
+    },
+    Getattr {
+        node: Number,
+    },
+    Create {
+        dir: Number,
+        name: Name,
+        perm: Perm,
+    },
+    Mkdir {
+        dir: Number,
+        name: Name,
+        perm: Perm,
+    },
+    Unlink {
+        dir: Number,
+        name: Name,
+    },
+    Rmdir {
+        dir: Number,
+        name: Name,
+    },
+    /// A move of the file under `name` in `dir` to `to_name` in `to_dir`.
+    Rename {
+        dir: Number,
+        name: Name,
+        to_dir: Number,
+        to_name: Name,
+    },
     /// A forget of one item. It has no reply.
     Forget(Item),
     /// A forget of a batch of items. It has no reply.
     BatchForget(Batch),
     /// A request that is not served, with its opcode.
-    Other { opcode: u32, node: Number },
+    Other {
+        opcode: u32,
+        node: Number,
+    },
 }
 
 /// A request, and the `unique` that its reply has.
@@ -42,6 +71,7 @@ pub(crate) enum Opcode {
     Mkdir,
     Unlink,
     Rmdir,
+    Rename,
     Create,
     BatchForget,
     /// Any other operation. The body of its requests is ignored.
@@ -83,6 +113,20 @@ impl Request {
                 let name = memory.copy_name(name)?;
                 Ok(Request::Rmdir { dir: *dir, name })
             }
+            Request::Rename {
+                dir,
+                name,
+                to_dir,
+                to_name,
+            } => {
+                let (name, to_name) = memory.copy_names(name, to_name)?;
+                Ok(Request::Rename {
+                    dir: *dir,
+                    name,
+                    to_dir: *to_dir,
+                    to_name,
+                })
+            }
             Request::Getattr { node } => Ok(Request::Getattr { node: *node }),
             Request::Forget(item) => Ok(Request::Forget(*item)),
             Request::BatchForget(batch) => {
@@ -103,8 +147,8 @@ impl Request {
         self.copied(alloc)
     }
 
-    /// Makes a copy of the request in rooms that were taken before: `first` for its name, or `batch`. No request has a
-    /// second name, so `second` is dropped.
+    /// Makes a copy of the request in rooms that were taken before: `first` for its name and `second` for a second
+    /// one, or `batch`.
     pub fn copy_to(&self, first: NameRoom, second: NameRoom, batch: BatchRoom) -> Request
         ensures copy { result ≡ self.now }
     {
@@ -141,6 +185,15 @@ impl Request {
             Request::Rmdir { dir, name } => {
                 matches!(other, Request::Rmdir { dir: second, name: its } if same_place(*dir, name, *second, its))
             }
+            Request::Rename {
+                dir,
+                name,
+                to_dir,
+                to_name,
+            } => {
+                matches!(other, Request::Rename { dir: second, name: its, to_dir: target, to_name: new }
+                    if same_place(*dir, name, *second, its) && same_place(*to_dir, to_name, *target, new))
+            }
             Request::Forget(item) => { matches!(other, Request::Forget(second) if item.is(second)) }
             Request::BatchForget(batch) => {
                 matches!(other, Request::BatchForget(second) if batch.is(second))
@@ -176,7 +229,9 @@ impl Request {
             Request::Lookup { .. } | Request::Mkdir { .. } => Form::AnEntry,
             Request::Create { .. } => Form::AnOpenEntry,
             Request::Getattr { .. } => Form::Attributes,
-            Request::Unlink { .. } | Request::Rmdir { .. } => Form::NoValue,
+            Request::Unlink { .. } | Request::Rmdir { .. } | Request::Rename { .. } => {
+                Form::NoValue
+            }
             Request::Forget(_) | Request::BatchForget(_) | Request::Other { .. } => {
                 Form::OnlyAnError
             }
@@ -194,13 +249,14 @@ impl Request {
             Request::Mkdir { .. } => Opcode::Mkdir,
             Request::Unlink { .. } => Opcode::Unlink,
             Request::Rmdir { .. } => Opcode::Rmdir,
+            Request::Rename { .. } => Opcode::Rename,
             Request::Forget(_) => Opcode::Forget,
             Request::BatchForget(_) => Opcode::BatchForget,
             Request::Other { opcode, .. } => Opcode::Other(*opcode),
         }
     }
 
-    /// Returns the nodeid that is written into the header: 0 for a batch.
+    /// Returns the nodeid that is written into the header: `dir` for a RENAME, and 0 for a batch.
     pub(crate) fn nodeid(&self) -> u64
         ensures { result ≡ nodeid self.now }
     {
@@ -209,7 +265,8 @@ impl Request {
             | Request::Create { dir, .. }
             | Request::Mkdir { dir, .. }
             | Request::Unlink { dir, .. }
-            | Request::Rmdir { dir, .. } => dir.0,
+            | Request::Rmdir { dir, .. }
+            | Request::Rename { dir, .. } => dir.0,
             Request::Getattr { node } | Request::Other { node, .. } => node.0,
             Request::Forget(item) => item.node.0,
             Request::BatchForget(_) => 0,
@@ -227,6 +284,7 @@ impl Request {
             | Request::Mkdir { dir, .. }
             | Request::Unlink { dir, .. }
             | Request::Rmdir { dir, .. } => Nodes::one(*dir),
+            Request::Rename { dir, to_dir, .. } => Nodes::two(*dir, *to_dir),
             Request::Getattr { node } | Request::Other { node, .. } => Nodes::one(*node),
             Request::Forget(_) | Request::BatchForget(_) => Nodes::none(),
         }
@@ -268,6 +326,7 @@ impl Opcode {
             9 => Opcode::Mkdir,
             10 => Opcode::Unlink,
             11 => Opcode::Rmdir,
+            12 => Opcode::Rename,
             35 => Opcode::Create,
             42 => Opcode::BatchForget,
             other => Opcode::Other(other),
@@ -285,6 +344,7 @@ impl Opcode {
             Opcode::Mkdir => 9,
             Opcode::Unlink => 10,
             Opcode::Rmdir => 11,
+            Opcode::Rename => 12,
             Opcode::Create => 35,
             Opcode::BatchForget => 42,
             Opcode::Other(other) => other,
@@ -299,6 +359,6 @@ impl Opcode {
     }
 }
 
-const _: () = prove!(size_of::<Request>() <= 80);
+const _: () = prove!(size_of::<Request>() <= 88);
 
-const _: () = prove!(size_of::<Ask>() <= 88);
+const _: () = prove!(size_of::<Ask>() <= 96);

@@ -7,8 +7,8 @@ ghost use Rattle.fuse_wire.specs.RequestReading.{WantsMemory, asked_of};
 ghost use Rattle.fuse_wire.specs.Writing.{HasRoom, Puts};
 
 use crate::body_form::{
-    batch_len, items_part, made_len, name_len, put_batch, put_made, put_name, read_batch,
-    read_forget, read_made, read_name,
+    batch_len, items_part, made_len, move_len, name_len, put_batch, put_made, put_move, put_name,
+    read_batch, read_forget, read_made, read_move, read_name,
 };
 use crate::header::Header;
 use crate::layout::{
@@ -33,6 +33,12 @@ pub(crate) fn body_len(request: &Request) -> usize
             name_len(name),
         Request::Create { name, .. } => made_len(CREATE_MODE, CREATE_REST_LEN, name),
         Request::Mkdir { name, .. } => made_len(MKDIR_MODE, MKDIR_REST_LEN, name),
+        Request::Rename {
+            to_dir,
+            name,
+            to_name,
+            ..
+        } => move_len(*to_dir, name, to_name),
         Request::Getattr { .. } => GETATTR_LEN,
         Request::Forget(_) => FORGET_LEN,
         Request::BatchForget(items) => batch_len(items.as_slice()),
@@ -58,6 +64,12 @@ pub(crate) fn put_body(fields: &mut Writer, request: &Request)
             let mode = u32::from(perm.bits());
             put_made(fields, MKDIR_MODE, mode, MKDIR_REST_LEN, name)
         }
+        Request::Rename {
+            to_dir,
+            name,
+            to_name,
+            ..
+        } => put_move(fields, *to_dir, name, to_name),
         Request::Getattr { .. } => fields.put_zeros(GETATTR_LEN),
         Request::Forget(item) => fields.put_u64(item.k),
         Request::BatchForget(items) => put_batch(fields, items.as_slice()),
@@ -92,6 +104,15 @@ pub(crate) fn read_body<M: Memory>(memory: M, header: Header, body: &[u8]) -> Re
         Opcode::Mkdir => {
             let (name, perm) = read_made(memory, MKDIR_MODE, MKDIR_REST_LEN, body)?;
             Ok(header.asks(Request::Mkdir { dir, name, perm }))
+        }
+        Opcode::Rename => {
+            let (to_dir, name, to_name) = read_move(memory, body)?;
+            Ok(header.asks(Request::Rename {
+                dir,
+                name,
+                to_dir,
+                to_name,
+            }))
         }
         Opcode::Getattr if body.len() == GETATTR_LEN => Ok(header.asks(Request::Getattr { node })),
         Opcode::Getattr => Err(WireFault::BadBody),

@@ -37,8 +37,8 @@ pub fn read_request(alloc: Global, bytes: &[u8]) -> Result<Ask, WireFault>
     read_ask(alloc, bytes)
 }
 
-/// Reads a request from its bytes, in rooms that were taken before: `first` for its name, or `batch`. No request has a
-/// second name, so `second` is dropped.
+/// Reads a request from its bytes, in rooms that were taken before: `first` for its name and `second` for a second
+/// one, or `batch`.
 pub fn read_request_to(
     first: NameRoom,
     second: NameRoom,

@@ -14,13 +14,14 @@ use eden_base::Number;
 use fuse_wire::{Ask, Item, Request, WireFault, read_items, read_request};
 use std::alloc::Global;
 
-static KINDS: [&[u8]; 9] = [
+static KINDS: [&[u8]; 10] = [
     &LOOKUP,
     &FORGET,
     &GETATTR,
     &MKDIR,
     &UNLINK,
     &RMDIR,
+    &RENAME,
     &CREATE,
     &BATCH_FORGET,
     &OPEN,
@@ -213,9 +214,9 @@ fn tells_asks_and_their_numbers(rt: HostRuntime) {
     assert!(rt; each_goes_to(rt.alloc(), &NODES));
 }
 
-static SERVED: [u32; 8] = [1, 2, 3, 9, 10, 11, 35, 42];
+static SERVED: [u32; 9] = [1, 2, 3, 9, 10, 11, 12, 35, 42];
 
-static OTHERS: [u32; 6] = [0, 12, 14, 15, 43, 0xffff_ffff];
+static OTHERS: [u32; 6] = [0, 13, 14, 15, 43, 0xffff_ffff];
 
 /// Returns whether `Request::other` makes a request of `opcode`, if `other`, and none, if not.
 fn is_made(opcode: u32, other: bool) -> bool {

@@ -8,7 +8,7 @@ use crate::sweep_tests::messages::{is_each_batch_made, is_each_name_made};
 use crate::sweep_tests::streams::{Carrier, is_each_body_carried, is_stream_read};
 use std::alloc::Global;
 
-/// What a sweep makes in many sizes.
+/// What one test makes, in sizes up to a limit.
 #[derive(Clone, Copy)]
 enum Sweep {
     /// Names of each length.

@@ -87,6 +87,71 @@ fn keeps_names_of_all_lengths(rt: HostRuntime) {
     assert!(rt; is_each_name_kept(rt.alloc()));
 }
 
+/// Appends the number 1 to `front`, then a name of `len` bytes, and its NUL.
+fn put_front(front: &mut Vec<u8>, len: u16) -> Result<(), AllocError> {
+    front.extend_from_slice(&1u64.to_le_bytes())?;
+    front.resize(8 + usize::from(len), b'o')?;
+    front.push(0)?;
+    Ok(())
+}
+
+/// Makes a RENAME of a name of `len` bytes to one of `to_len` bytes.
+fn rename_of(alloc: Global, len: u16, to_len: u16) -> Result<Vec<u8>, NoMemory> {
+    let mut front = Vec::new(alloc);
+    let is_put = put_front(&mut front, len).is_ok();
+    if !is_put {
+        drop(front);
+        return Err(NoMemory);
+    }
+    let body_len = 8 + u32::from(len) + 1 + u32::from(to_len) + 1;
+    let text = filled(alloc, 12, front.as_slice(), body_len, b'n');
+    drop(front);
+    text
+}
+
+/// Returns whether a RENAME of a name of `len` bytes to one of `to_len` bytes is kept, by `is_kept`.
+fn is_move_kept(alloc: Global, len: u16, to_len: u16) -> bool {
+    let text = match rename_of(alloc, len, to_len) {
+        Ok(text) => Ok(text),
+        Err(NoMemory) => rename_of(alloc, len, to_len),
+    };
+    match text {
+        Ok(text) => {
+            let is_kept = is_kept(alloc, text.as_slice());
+            drop(text);
+            is_kept
+        }
+        Err(NoMemory) => false,
+    }
+}
+
+/// The lengths of an old name and of a new one.
+static BOTH: [(u16, u16); 8] = [
+    (1, 1),
+    (16, 17),
+    (17, 16),
+    (17, 17),
+    (1, 255),
+    (255, 1),
+    (255, 254),
+    (255, 255),
+];
+
+/// Calls `is_move_kept` with each two lengths, and returns whether all are kept.
+fn is_each_move_kept(alloc: Global, both: &[(u16, u16)]) -> bool {
+    for (len, to_len) in both {
+        if !is_move_kept(alloc, *len, *to_len) {
+            return false;
+        }
+    }
+    true
+}
+
+#[test]
+fn keeps_two_names_of_many_lengths(rt: HostRuntime) {
+    assert!(rt; is_each_move_kept(rt.alloc(), &BOTH));
+}
+
 static COUNTS: [u16; 12] = [0, 1, 2, 3, 8, 28, 29, 30, 64, 100, 255, 256];
 
 /// Returns whether a batch of `count` items is kept, by `is_kept`.

@@ -43,6 +43,12 @@ pub const RMDIR: [u8; 42] = [
     0, 0, 0, 0, 0, 0, 0, 0, 0, 100, 0,
 ];
 
+/// RENAME of `a` in directory 2 to `README` in directory 1, with unique 4.
+pub const RENAME: [u8; 57] = [
+    57, 0, 0, 0, 12, 0, 0, 0, 4, 0, 0, 0, 0, 0, 0, 0, 2, 0, 0, 0, 0, 0, 0, 0, 0, 0, 0, 0, 0, 0, 0,
+    0, 0, 0, 0, 0, 0, 0, 0, 0, 1, 0, 0, 0, 0, 0, 0, 0, 97, 0, 82, 69, 65, 68, 77, 69, 0,
+];
+
 /// CREATE of `a` in directory 1 with permissions 0o644, with unique 8.
 pub const CREATE: [u8; 58] = [
     58, 0, 0, 0, 35, 0, 0, 0, 8, 0, 0, 0, 0, 0, 0, 0, 1, 0, 0, 0, 0, 0, 0, 0, 0, 0, 0, 0, 0, 0, 0,

@@ -17,12 +17,13 @@ const NODE: Number = Number(0x201f1e1d1c1b1a19);
 
 const PERM: Perm = Perm { bits: 0o7777 };
 
-/// A request by its kind. Its name, if the kind has one, is `name`.
+/// A request by its kind. Its name, if the kind has one, is `name`, and a second one is `other`.
 #[derive(Clone, Copy)]
 enum Wish {
     Lookup,
     Unlink,
     Rmdir,
+    Rename,
     Mkdir,
     Create,
     Getattr,
@@ -45,6 +46,22 @@ fn named(wish: Wish, name: Name) -> Option<Request>
     }
 }
 
+const TO_DIR: Number = Number(0x3837363534333231);
+
+/// Makes a RENAME of `name` to `other`, or none if memory was refused.
+fn moved(alloc: Global) -> Option<Request>
+    ensures sendable { IfSome result IsSendable }
+{
+    let name = parse(alloc, b"name").ok()?;
+    let to_name = parse(alloc, b"other").ok()?;
+    Some(Request::Rename {
+        dir: NODE,
+        name,
+        to_dir: TO_DIR,
+        to_name,
+    })
+}
+
 const ITEM: Item = Item {
     node: NODE,
     k: 0x4847464544434241,
@@ -60,6 +77,7 @@ fn request(alloc: Global, wish: Wish) -> Option<Request>
         Wish::Getattr => Some(Request::Getattr { node }),
         Wish::Open => Some(Request::Other { opcode: 14, node }),
         Wish::Forget => Some(Request::Forget(ITEM)),
+        Wish::Rename => moved(alloc),
         _ => named(wish, parse(alloc, b"name").ok()?),
     }
 }
@@ -83,10 +101,11 @@ fn is_sent(alloc: Global, wish: Wish, written: &[u8]) -> bool {
 /// A request, its bytes, and the same bytes with the ignored fields filled in.
 type Sent = (Wish, &'static [u8], &'static [u8]);
 
-static SENT: [Sent; 8] = [
+static SENT: [Sent; 9] = [
     (Wish::Lookup, &LOOKUP, &LOOKUP_FILLED),
     (Wish::Unlink, &UNLINK, &UNLINK_FILLED),
     (Wish::Rmdir, &RMDIR, &RMDIR_FILLED),
+    (Wish::Rename, &RENAME, &RENAME_FILLED),
     (Wish::Mkdir, &MKDIR, &MKDIR_FILLED),
     (Wish::Create, &CREATE, &CREATE_FILLED),
     (Wish::Getattr, &GETATTR, &GETATTR_FILLED),

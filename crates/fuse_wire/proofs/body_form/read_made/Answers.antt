@@ -12,5 +12,5 @@ returns-in_err-name g c =
     let may = g.M.Memory.may_lack in
     let fault = c.in_err-name.field-0.0 in
     let told : c.from_residual-in_err-name.result ≡ Err fault = search rules in
-    let whole = subst (Gives (MayLack may TakesSome) (Err fault)) (sym c.in_ok-perm.ensures.rest) (fault_beside may c.in_ok-perm.perm fault (name_of c.in_ok-perm.named.now) c.in_err-name.ensures) in
+    let whole = subst (Gives (MayLack may TakesSome) (Err fault)) (sym c.in_ok-perm.ensures.rest) (fault_beside may (λ (n : List ℕ). let pair : List ℕ × Perm = (n, c.in_ok-perm.perm) in pair) fault (name_of c.in_ok-perm.named.now) c.in_err-name.ensures) in
     subst (λ (r : Result (List ℕ × Perm) WireFault). Gives (MayLack may TakesSome) r (made_of c.args.offset c.args.rest c.args.body.now)) (sym told) whole
