@@ -1,4 +1,4 @@
--- The index of the linked entries after an entry came, lost its name or went, and after a link was filed in the maps.
+-- The index of the linked entries after an entry got a place, and after a link was filed in the maps.
 use Rattle.std.proofs.Common.{◌≡◌, ℕ, ◌+◌, Bool, true, false, List, [], ◌∷◌, ◌++◌, Option, Some, None, refl, sym, ap, ◌∙◌, subst, inl, inr, ◌⊎◌, arith}
 use Rattle.std.proofs.lemmas.Bool.{and_parts}
 use Rattle.std.specs.Prelude.{◌==◌, ◌&&◌, not, is_some, if◌then◌else◌}
@@ -7,10 +7,8 @@ use Rattle.eden_base.proofs.NumberTests.{eq-true, true-eq}
 use Rattle.eden_base.specs.declared.number.Number.{Number}
 use Rattle.eden_base.specs.declared.place.Place.{Place}
 use Rattle.eden_base.specs.declared.place.Place.TheVariants.{Linked}
-use Rattle.entry_table.proofs.Changing.{append-extends}
 use Rattle.entry_table.proofs.IndexedLemmas.{latest-link}
-use Rattle.entry_table.proofs.Kids.{kids-append}
-use Rattle.entry_table.proofs.Standing.{link-same, link-alike, one-place, none-stands, stands-extends, stands-more, stands-was}
+use Rattle.entry_table.proofs.Standing.{Loses, link-same, link-alike, one-place, none-stands, lost-stood, left-stood, stood-either, added-loses}
 use Rattle.entry_table.specs.Entries.{entry_of, entry_at, is_in}
 use Rattle.entry_table.specs.Links.{key_of, is_link, at_key, is_taken, written, counted, one_in, is_latest, of_latest, is_ready, Files}
 use Rattle.entry_table.specs.Slots.{Stands, IsFiled, IsIndexed, IsLinkOf, IsKeyOf, kid_in, kids_of}
@@ -31,28 +29,25 @@ none-latest index ready = in_ index.latest refl ready where
   in_ None e t = refl
   in_ (Some link) e t = absurd (let no : ⊥ = cc in no)
 
--- an entry more, whose link stands beside the maps
-module _ (es : List Kept) (next : ℕ) (x : Kept) (parent : Number) (name : List ℕ) (is : x.number.0 ≡ next) (place : x.place ≡ Linked parent name) (none : entry_of es next ≡ None)
-    (free : entry_at es parent.0 name ≡ None) (index : Index) (ready : index.latest ≡ None) (indexed : IsIndexed es index) where
-  abbrev pub more : List Kept
-  more = es ++ x ∷ []
-
+-- an entry that has a place now, whose link stands beside the maps
+module _ {more es : List Kept} {own : ℕ} {x : Kept} (gains : Loses more es own x) (parent : Number) (name : List ℕ) (place : x.place ≡ Linked parent name)
+    (free : (m : ℕ) → Stands es parent.0 name m → ⊥) (index : Index) (ready : index.latest ≡ None) (indexed : IsIndexed es index) where
   abbrev pub link : Link
-  link = record { parent = parent.0; key = key_of parent.0 name; number = next }
+  link = record { parent = parent.0; key = key_of parent.0 name; number = own }
 
   abbrev pub with_it : Index
   with_it = record { maps = index.maps; latest = Some link }
 
-  was : (dir : ℕ) (q : List ℕ) (n : ℕ) → Stands more dir q n → ((n ≡ next) × ((dir ≡ parent.0) × (q ≡ name))) ⊎ Stands es dir q n
-  was dir q n w = stands-was es next x parent name is place none dir q n w
+  was : (dir : ℕ) (q : List ℕ) (n : ℕ) → Stands more dir q n → ((n ≡ own) × ((dir ≡ parent.0) × (q ≡ name))) ⊎ Stands es dir q n
+  was dir q n w = stood-either gains parent name place dir q n w
 
   still : (dir : ℕ) (q : List ℕ) (n : ℕ) → Stands es dir q n → Stands more dir q n
-  still dir q n w = stands-extends es more (append-extends es next x is none) dir q n w
+  still dir q n w = (left-stood gains dir q n w).1
 
   nowhere : (dir : ℕ) (q : List ℕ) (m : ℕ) → dir ≡ parent.0 → q ≡ name → Stands es dir q m → ⊥
-  nowhere dir q m d e w = none-stands es parent.0 name m free (subst (λ (y : List ℕ). Stands es parent.0 y m) e (subst (λ (k : ℕ). Stands es k q m) d w))
+  nowhere dir q m d e w = free m (subst (λ (y : List ℕ). Stands es parent.0 y m) e (subst (λ (k : ℕ). Stands es k q m) d w))
 
-  apart_in : (dir : ℕ) (q : List ℕ) (n m : ℕ) → ((n ≡ next) × ((dir ≡ parent.0) × (q ≡ name))) ⊎ Stands es dir q n → ((m ≡ next) × ((dir ≡ parent.0) × (q ≡ name))) ⊎ Stands es dir q m → n ≡ m
+  apart_in : (dir : ℕ) (q : List ℕ) (n m : ℕ) → ((n ≡ own) × ((dir ≡ parent.0) × (q ≡ name))) ⊎ Stands es dir q n → ((m ≡ own) × ((dir ≡ parent.0) × (q ≡ name))) ⊎ Stands es dir q m → n ≡ m
   apart_in dir q n m (inl a) (inl b) = a.0 ∙ sym b.0
   apart_in dir q n m (inl a) (inr b) = absurd (nowhere dir q m a.1.0 a.1.1 b)
   apart_in dir q n m (inr a) (inl b) = absurd (nowhere dir q n b.1.0 b.1.1 a)
@@ -62,22 +57,22 @@ module _ (es : List Kept) (next : ℕ) (x : Kept) (parent : Number) (name : List
   old_in dir q n (inl l) = let f : is_latest index.latest n ≡ false = ap (λ (o : Option Link). is_latest o n) ready in absurd (let no : ⊥ = cc in no)
   old_in dir q n (inr there) = inr there
 
-  found_in : (dir : ℕ) (q : List ℕ) (n : ℕ) → ((n ≡ next) × ((dir ≡ parent.0) × (q ≡ name))) ⊎ Stands es dir q n → IsFiled with_it dir q n
-  found_in dir q n (inl a) = inl (eq-true next n (sym a.0))
+  found_in : (dir : ℕ) (q : List ℕ) (n : ℕ) → ((n ≡ own) × ((dir ≡ parent.0) × (q ≡ name))) ⊎ Stands es dir q n → IsFiled with_it dir q n
+  found_in dir q n (inl a) = inl (eq-true own n (sym a.0))
   found_in dir q n (inr a) = old_in dir q n (indexed.found dir q n a)
 
   latest_in : (l : Link) → Some link ≡ Some l → IsLinkOf more l
-  latest_in l e = let same : link ≡ l = cc in subst (λ (k : Link). IsLinkOf more k) same (name, stands-more es next x parent name is place none, refl)
+  latest_in l e = let same : link ≡ l = cc in subst (λ (k : Link). IsLinkOf more k) same (name, lost-stood gains parent name place, refl)
 
   counts_in : (dir : ℕ) → counted index.maps.counts dir + of_latest (Some link) dir ≡ kids_of dir more
   counts_in dir =
       let old : counted index.maps.counts dir + 0 ≡ kids_of dir es = ap (λ (o : Option Link). counted index.maps.counts dir + of_latest o dir) (sym ready) ∙ indexed.counts dir in
       let kid : kid_in dir x ≡ of_latest (Some link) dir = ap (λ (p : Place). one_if (is_in dir p)) place in
-      let long = kids-append dir es x in
+      let long = gains.kids dir in
       omega arith
 
-  pub indexed-added : IsIndexed more with_it
-  indexed-added = record {
+  pub indexed-gained : IsIndexed more with_it
+  indexed-gained = record {
     apart = λ dir q n m a b. apart_in dir q n m (was dir q n a) (was dir q m b);
     found = λ dir q n a. found_in dir q n (was dir q n a);
     keyed = λ key n e. let w = indexed.keyed key n e in (w.0, w.1, still w.0 w.1 n w.2, w.3);
@@ -85,6 +80,13 @@ module _ (es : List Kept) (next : ℕ) (x : Kept) (parent : Number) (name : List
     latest = latest_in;
     counts = counts_in;
   }
+
+-- an entry more
+pub indexed-added : (es : List Kept) (next : ℕ) (x : Kept) (parent : Number) (name : List ℕ) → x.number.0 ≡ next → x.place ≡ Linked parent name → entry_of es next ≡ None →
+    entry_at es parent.0 name ≡ None → (index : Index) → index.latest ≡ None → IsIndexed es index →
+    IsIndexed (es ++ x ∷ []) (record { maps = index.maps; latest = Some (record { parent = parent.0; key = key_of parent.0 name; number = next }) })
+indexed-added es next x parent name is place none free index ready indexed =
+    indexed-gained (added-loses es next x is none) parent name place (λ m w. none-stands es parent.0 name m free w) index ready indexed
 
 -- the link that stood beside the maps is filed in them
 module _ (es : List Kept) (index : Index) (link : Link) (name : List ℕ) (maps : Maps) (indexed : IsIndexed es index) (is : index.latest ≡ Some link) (stands : Stands es link.parent name link.number)

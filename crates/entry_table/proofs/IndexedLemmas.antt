@@ -6,9 +6,10 @@ use Rattle.std.specs.List.{list_any}
 use Rattle.eden_base.proofs.NumberTests.{eq-true, true-eq}
 use Rattle.eden_base.specs.First.{changed_where}
 use Rattle.entry_table.proofs.Changing.{KeepsPlace, changed-extends, changed-extended}
+use Rattle.entry_table.proofs.EntryLemmas.{entry_of-first}
 use Rattle.entry_table.proofs.Kids.{kids-any, kids-kept}
 use Rattle.entry_table.proofs.Standing.{number_of, one-place, entry-stands, none-stands, stands-extends}
-use Rattle.entry_table.specs.Entries.{has_number, entry_at, is_kid_of, number_of_kept, AreNumbers}
+use Rattle.entry_table.specs.Entries.{has_number, stands_at, entry_of, entry_at, is_kid_of, number_of_kept, AreNumbers, AreApart}
 use Rattle.entry_table.specs.Links.{key_of, at_key, written, counted, is_latest, latest_at, of_latest, names_in, AreAlike}
 use Rattle.entry_table.specs.Slots.{Stands, IsFiled, IsIndexed, kids_of}
 use Rattle.entry_table.specs.declared.index.Index.{Index}
@@ -51,6 +52,16 @@ indexed-none es low next index are is dir name not_latest not_key none = in_ (en
   in_ : (o : Option Kept) → entry_at es dir name ≡ o → o ≡ None
   in_ None e = refl
   in_ (Some kept) e = let w = entry-stands es low next dir name kept are e in absurd (filed_in kept.number.0 w (is.found dir name kept.number.0 w))
+
+-- so each linked entry is the one at its place
+pub indexed-apart : (es : List Kept) (low next : ℕ) (index : Index) → AreNumbers low next es → IsIndexed es index → AreApart es
+indexed-apart es low next index are is n kept dir name e l = in_ (entry_at es dir.0 name) refl where
+  in_ : (o : Option Kept) → entry_at es dir.0 name ≡ o → o ≡ Some kept
+  in_ None h = absurd (none-stands es dir.0 name n h (kept, e, l))
+  in_ (Some other) h =
+      let same : n ≡ other.number.0 = is.apart dir.0 name n other.number.0 (kept, e, l) (entry-stands es low next dir.0 name other are h) in
+      let there : entry_of es n ≡ Some other = ap (entry_of es) same ∙ entry_of-first es low next (stands_at dir.0 name) other are h in
+      sym there ∙ e
 
 -- whether entries stand in a directory
 pub indexed-kids : (es : List Kept) (index : Index) → IsIndexed es index → (dir : ℕ) → nat_lt 0 (names_in index dir) ≡ list_any (is_kid_of dir) es

@@ -3,16 +3,15 @@ use Rattle.std.proofs.Common.{◌≡◌, ℕ, ◌+◌, ◌≤◌, true, false, L
 use Rattle.std.proofs.lemmas.Bool.{and_parts}
 use Rattle.std.specs.Prelude.{◌==◌, nat_eq}
 use Rattle.std.specs.Cmp.Lexicographic.{pointwise, same_text}
-use Rattle.eden_base.proofs.MemberLemmas.{some-same, first-none, first-passes}
-use Rattle.eden_base.proofs.NumberTests.{eq-true, true-eq}
+use Rattle.eden_base.proofs.MemberLemmas.{some-none, some-same, first-none, first-passes}
+use Rattle.eden_base.proofs.NumberTests.{eq-true, eq-or, true-eq}
 use Rattle.eden_base.specs.declared.number.FileId.{FileId}
 use Rattle.eden_base.specs.declared.number.Number.{Number}
 use Rattle.eden_base.specs.declared.place.Place.TheVariants.{Linked, Unlinked}
-use Rattle.entry_table.proofs.Changing.{new_or_old}
-use Rattle.entry_table.proofs.EntryLemmas.{entry_of-first, append-same}
+use Rattle.entry_table.proofs.EntryLemmas.{entry_of-first, append-same, append-other}
 use Rattle.entry_table.proofs.FileLemmas.{Extends, linked-marked, linked-dir, linked-name}
 use Rattle.entry_table.proofs.IndexLemmas.{names-alike}
-use Rattle.entry_table.proofs.Kids.{kids-some}
+use Rattle.entry_table.proofs.Kids.{kids-some, kids-append}
 use Rattle.entry_table.proofs.Places.{place-stands, stands-place}
 use Rattle.entry_table.specs.Entries.{has_number, entry_of, entry_at, stands_at, is_in, AreNumbers}
 use Rattle.entry_table.specs.Links.{is_link}
@@ -64,15 +63,6 @@ stands-counted es dir name n w = kids-some dir (has_number n) es w.0 w.1 (ap (is
 pub stands-more : (es : List Kept) (next : ℕ) (x : Kept) (parent : Number) (name : List ℕ) → x.number.0 ≡ next → x.place ≡ Linked parent name → entry_of es next ≡ None → Stands (es ++ x ∷ []) parent.0 name next
 stands-more es next x parent name is place none = (x, append-same es next x is none, place)
 
-pub stands-was : (es : List Kept) (next : ℕ) (x : Kept) (parent : Number) (name : List ℕ) → x.number.0 ≡ next → x.place ≡ Linked parent name → entry_of es next ≡ None →
-    (dir : ℕ) (q : List ℕ) (n : ℕ) → Stands (es ++ x ∷ []) dir q n → ((n ≡ next) × ((dir ≡ parent.0) × (q ≡ name))) ⊎ Stands es dir q n
-stands-was es next x parent name is place none dir q n w = in_ (new_or_old es next n x w.0 is none w.1) where
-  in_ : ((n ≡ next) × (w.0 ≡ x)) ⊎ (entry_of es n ≡ Some w.0) → ((n ≡ next) × ((dir ≡ parent.0) × (q ≡ name))) ⊎ Stands es dir q n
-  in_ (inl (same, it)) =
-      let at : x.place ≡ Linked (number_of dir) q = ap (λ (k : Kept). k.place) (sym it) ∙ w.2 in
-      inl (same, (linked-dir x.place (number_of dir) parent q name at place, linked-name x.place (number_of dir) parent q name at place))
-  in_ (inr was) = inr (w.0, was, w.2)
-
 -- entries of which one has no name any more, or is gone
 pub record Loses (es left : List Kept) (n : ℕ) (x : Kept) : Type 0 where
   pub here : entry_of es n ≡ Some x
@@ -98,3 +88,19 @@ module _ {es left : List Kept} {n : ℕ} {x : Kept} (loses : Loses es left n x) 
   none-stood file place dir q m w same =
       let it : w.0 ≡ x = some-same (entry_of es n) w.0 x (subst (λ (k : ℕ). entry_of es k ≡ Some w.0) same w.1) loses.here in
       linked-marked x.place (number_of dir) q file (ap (λ (k : Kept). k.place) (sym it) ∙ w.2) place
+
+  -- what stands under a name is the one with this place, or another, which stands there without it too
+  pub stood-either : (parent : Number) (name : List ℕ) → x.place ≡ Linked parent name → (dir : ℕ) (q : List ℕ) (m : ℕ) → Stands es dir q m → ((m ≡ n) × ((dir ≡ parent.0) × (q ≡ name))) ⊎ Stands left dir q m
+  stood-either parent name place dir q m w = in_ (eq-or m n) where
+    in_ : (m ≡ n) ⊎ (m ≡ n → ⊥) → ((m ≡ n) × ((dir ≡ parent.0) × (q ≡ name))) ⊎ Stands left dir q m
+    in_ (inl same) = inl (same, one-place es n dir parent.0 q name (subst (λ (k : ℕ). Stands es dir q k) same w) (lost-stood parent name place))
+    in_ (inr other) = inr (stands-left dir q m other w)
+
+-- one more entry is one that the entries without it have lost
+pub added-loses : (es : List Kept) (next : ℕ) (x : Kept) → x.number.0 ≡ next → entry_of es next ≡ None → Loses (es ++ x ∷ []) es next x
+added-loses es next x is none = record {
+  here = append-same es next x is none;
+  others = λ m d. sym (append-other es m x (λ f. d (sym f ∙ is)));
+  nowhere = λ kept dir name e p. some-none (entry_of es next) kept e none;
+  kids = λ dir. kids-append dir es x;
+}

@@ -6,9 +6,10 @@ use Rattle.std.specs.Ordering.{nat_cmp}
 use Rattle.std.specs.BTreeMap.{is_at}
 use Rattle.std.specs.Option.{option_map}
 use Rattle.eden_base.specs.declared.number.FileId.{FileId}
+use Rattle.eden_base.specs.declared.number.Number.{Number}
 use Rattle.eden_base.specs.declared.place.Place.TheVariants.{Unlinked}
 use Rattle.eden_base.specs.First.{changed_where, without_where}
-use Rattle.entry_table.specs.Entries.{has_number, entry_of, marked, IsLinked}
+use Rattle.entry_table.specs.Entries.{has_number, entry_of, marked, moved_to, IsLinked}
 use Rattle.entry_table.specs.Inside.{IsTable}
 use Rattle.entry_table.specs.Slots.{kept_from, slot_at, all_beside, files_from, notes_from, spare_of, AreSlots, IsIndexOf}
 use Rattle.entry_table.specs.Table.{TableState, kept_of}
@@ -92,6 +93,19 @@ marked-loses t n file x here = record {
       let same : kept ≡ marked file x = some-same (entry_of (changed_where (has_number n) (marked file) (kept_from t.slots.items)) n) kept (marked file x) e there in
       linked-marked kept.place dir name file p (ap (λ (k : Kept). k.place) same);
   kids = λ dir. let less = kids-changed_one dir (has_number n) (marked file) (kept_from t.slots.items) x here in omega arith;
+}
+
+-- an entry moves: the entries without it have lost its new place, too
+pub moved-loses : (t : Inside) (n : ℕ) (parent : Number) (name : List ℕ) (x : Kept) → IsTable t → entry_of (kept_from t.slots.items) n ≡ Some x →
+    Loses (changed_where (has_number n) (moved_to parent name) (kept_from t.slots.items)) (without_where (has_number n) (kept_from t.slots.items)) n (moved_to parent name x)
+moved-loses t n parent name x is here = record {
+  here = changed-same (kept_from t.slots.items) n (moved_to parent name) (λ y. refl) ∙ ap (option_map (moved_to parent name)) here;
+  others = λ m d. without-other (kept_from t.slots.items) n m d ∙ sym (changed-other (kept_from t.slots.items) n m (moved_to parent name) (λ y. refl) d);
+  nowhere = (without-loses t n x is here).nowhere;
+  kids = λ dir.
+      let less = kids-without dir (has_number n) (kept_from t.slots.items) x here in
+      let more = kids-changed_one dir (has_number n) (moved_to parent name) (kept_from t.slots.items) x here in
+      omega arith;
 }
 
 -- whether the next number is reserved

@@ -127,6 +127,10 @@ IsLinked entries n =
 abbrev pub marked : FileId → Kept → Kept
 marked file kept = record kept { place = Unlinked file }
 
+-- the entry after it moved to a name in a directory
+abbrev pub moved_to : Number → List ℕ → Kept → Kept
+moved_to dir name kept = record kept { place = Linked dir name }
+
 -- each linked entry is the one that is found at its place, so that no two stand at one place
 abbrev pub AreApart : List Kept → Type 0
 AreApart entries = (n : ℕ) (kept : Kept) (dir : Number) (name : List ℕ) →

@@ -4,9 +4,12 @@ use Rattle.std.specs.Prelude.{◌≡◌, ℕ, ◌+◌, ◌*◌, ◌-◌, ◌%◌
 use Rattle.std.specs.Option.{option_and_then, option_map_or}
 use Rattle.std.specs.Ordering.{nat_cmp}
 use Rattle.std.specs.Cmp.Lexicographic.{pointwise, slice_cmp}
-use Rattle.std.specs.BTreeMap.{BTreeMap, get}
+use Rattle.std.specs.BTreeMap.{get}
 use Rattle.std.specs.HashMap.{HashMap}
 use Rattle.std.specs.HashMap as hash
+use Rattle.key_map.specs.Keys as keys
+pub use Rattle.key_map.specs.Keys.{key_of}
+use Rattle.key_map.specs.declared.key_map.KeyMap.{KeyMap}
 use Rattle.entry_table.specs.declared.index.Index.{Index}
 use Rattle.entry_table.specs.declared.index.Link.{Link}
 use Rattle.entry_table.specs.declared.maps.Directory.{Directory}
@@ -16,25 +19,16 @@ use Rattle.entry_table.specs.declared.maps.Maps.{Maps}
 abbrev pub is_link : ℕ → List ℕ → ℕ → List ℕ → Bool
 is_link dir q parent name = dir == parent && pointwise nat_eq q name
 
--- the key that follows from a key and one more byte
-abbrev pub key_with : ℕ → ℕ → ℕ
-key_with key byte = ((key * 11400714819323198485) % 2 ^ 64 + byte) % 2 ^ 64
-
--- the key that follows from a key and more bytes; from the number of a directory and a name, the key of that place
-abbrev pub key_of : ℕ → List ℕ → ℕ
-key_of key [] = key
-key_of key (byte ∷ bytes) = key_of (key_with key byte) bytes
-
 -- the number at a key, if there is one
-abbrev pub at_key : BTreeMap ℕ ℕ → ℕ → Option ℕ
-at_key numbers key = get nat_cmp numbers key
+abbrev pub at_key : KeyMap → ℕ → Option ℕ
+at_key numbers key = keys.at_key numbers key
 
 -- whether number `n` is at the key
-abbrev pub is_at_key : BTreeMap ℕ ℕ → ℕ → ℕ → Bool
+abbrev pub is_at_key : KeyMap → ℕ → ℕ → Bool
 is_at_key numbers key n = option_map_or (λ (m : ℕ). m == n) (at_key numbers key) false
 
 -- whether a number is at the key
-abbrev pub is_taken : BTreeMap ℕ ℕ → ℕ → Bool
+abbrev pub is_taken : KeyMap → ℕ → Bool
 is_taken numbers key = is_some (at_key numbers key)
 
 -- the number that a directory has for the name `q`, if there is one

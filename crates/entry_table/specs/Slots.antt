@@ -104,7 +104,7 @@ IsFiled index dir name n =
     (is_latest index.latest n ≡ true)
     ⊎ ((at_key index.maps.numbers (key_of dir name) ≡ Some n) ⊎ (written index.maps.others dir name ≡ Some n))
 
--- the link is that of an entry: the entry has its number and stands in its directory, at a place with its key
+-- the link is that of an entry: it has the entry's number, and the directory and the key of the entry's place
 abbrev pub IsLinkOf : List Kept → Link → Type 0
 IsLinkOf entries link =
     (name : List ℕ) × Stands entries link.parent name link.number × (link.key ≡ key_of link.parent name)

@@ -1,6 +1,7 @@
 //! The numbers that were given, by number and by place: where each file stands, and how often the kernel holds it.
 #![tactic(auto)]
 
+mod dense;
 mod index;
 mod kept;
 mod maps;

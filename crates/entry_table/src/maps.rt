@@ -3,6 +3,7 @@ ghost use Rattle.std.specs.Prelude.{◌≡◌, ℕ, ◌+◌, ◌-◌, ◌<◌, �
 ghost use Rattle.entry_table.specs.Links.{is_link, at_key, is_at_key, is_taken, written, counted, one_in, key_of, Files, Drops, AreAlike};
 
 use eden_base::{Name, NoMemory};
+use key_map::KeyMap;
 use std::alloc::Global;
 use std::collections::{BTreeMap, HashMap};
 
@@ -13,11 +14,10 @@ pub(crate) struct Directory {
 }
 
 /// The links of entries, by the keys of their places. Each key has at most one number. A link whose key is taken stands
-/// in `others`, under its name. The keys are ordered, not hashed once more, so that no choice of names makes a search
-/// long.
+/// in `others`, under its name. No choice of names makes a search long, whatever their keys are.
 #[derive(Drop)]
 pub(crate) struct Maps {
-    numbers: BTreeMap<u64, u64>,
+    numbers: KeyMap,
     others: HashMap<u64, Directory>,
     /// How many names each directory has.
     counts: HashMap<u64, u64>,
@@ -31,7 +31,7 @@ impl Maps {
         ensures counts { (dir : ℕ) → counted result.counts dir ≡ 0 }
     {
         Maps {
-            numbers: BTreeMap::new(alloc),
+            numbers: KeyMap::new(alloc),
             others: HashMap::new(alloc),
             counts: HashMap::new(alloc),
         }
@@ -41,7 +41,7 @@ impl Maps {
     pub fn at_key(&self, key: u64) -> Option<u64>
         ensures { result ≡ at_key self.now.numbers key }
     {
-        self.numbers.get(&key).copied()
+        self.numbers.get(key)
     }
 
     /// Returns the number that `others` has for `name` in the directory `parent`: its key was taken.
@@ -108,22 +108,16 @@ impl Maps {
     }
 }
 
-/// Returns the key of a place: a polynomial in a large odd number, so that two places rarely share a key.
+/// Returns the key of a place.
 pub(crate) fn key_of(parent: u64, name: &Name) -> u64
     ensures { result ≡ key_of parent name.now }
 {
-    let mut key = parent;
-    for byte in name.bytes() {
-        key = key
-            .wrapping_mul(0x9E37_79B9_7F4A_7C15)
-            .wrapping_add(u64::from(*byte));
-    }
-    key
+    key_map::key_of(parent, name.bytes())
 }
 
 /// Puts `number` at `key`, or under `name` in the directory `parent` if the key is taken.
 fn place(
-    numbers: &mut BTreeMap<u64, u64>,
+    numbers: &mut KeyMap,
     others: &mut HashMap<u64, Directory>,
     alloc: Global,
     parent: u64,
@@ -138,26 +132,26 @@ fn place(
         ≡ (if is_ok result && (is_link dir q parent name.now && is_taken numbers.old key)
         then Some number else written others.old dir q) }
 {
-    if numbers.contains_key(&key) {
+    if numbers.get(key).is_some() {
         let name = name.copy(alloc)?;
         return insert(others, alloc, parent, name, number);
     }
-    numbers.insert(key, number)?;
+    numbers.insert(alloc, key, number)?;
     Ok(())
 }
 
 /// Removes `number` from `key`, if it is there.
-fn take_key(numbers: &mut BTreeMap<u64, u64>, key: u64, number: u64)
+fn take_key(numbers: &mut KeyMap, key: u64, number: u64)
     ensures { (k : ℕ) → at_key numbers.new k
         ≡ (if k == key && is_at_key numbers.old key number then None else at_key numbers.old k) }
 {
-    let Some(there) = numbers.get(&key) else {
+    let Some(there) = numbers.get(key) else {
         return;
     };
-    if *there != number {
+    if there != number {
         return;
     }
-    numbers.remove(&key);
+    numbers.remove(key);
 }
 
 /// Takes one name off the count of the directory `parent`, and removes the count of a directory with its last name.

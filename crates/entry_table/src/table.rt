@@ -13,6 +13,9 @@ ghost use Rattle.entry_table.specs.Entries.{has_number, entry_of, entry_at, is_k
 ghost use Rattle.entry_table.specs.Slots.{slot_of, slots_of, slot_at, kept_from, files_from, notes_from, first_number, held_in, AreSlots, IsSlots, IsIndexOf};
 ghost use Rattle.entry_table.specs.Table.{IsIn, kept_of, without_entry, AreOfKept, file_number, note_of, noted};
 
+mod moves;
+
+use crate::dense::dense_index_of;
 use crate::index::Index;
 use crate::kept::{Entry, Kept};
 use crate::way::locate;
@@ -205,8 +208,7 @@ impl Table {
         true
     }
 
-    /// Counts `number` fewer times, by `k`, and returns the count that is left. A bad item changes nothing, and returns
-    /// none.
+    /// Lowers the count of `number` by `k`, and returns what is left. A bad item changes nothing, and returns none.
     pub fn lower(&mut self, number: Number, k: u64) -> Option<u64>
         ensures bad { IfNone result (is_bad_item self.old.entries number.0 k ≡ true) }
         ensures good { OnSome result (is_bad_item self.old.entries number.0 k ≡ false) }
@@ -426,6 +428,9 @@ fn index_of(slots: &[Slot], number: Number) -> Option<usize>
     ensures index { IfSome result (IsIndexOf slots.now number.0) }
     ensures none { IfNone result (slot_at slots.now number.0 ≡ None) }
 {
+    if let Some(index) = dense_index_of(slots, number) {
+        return Some(index);
+    }
     let index = up_to(slots, number).checked_sub(1)?;
     if slots[index].0 == number.0 {
         Some(index)

@@ -3,6 +3,7 @@ pub mod Giving
 pub mod Keeping
 pub mod Loading
 pub mod Lowering
+pub mod Moving
 pub mod Naming
 pub mod Pruning
 pub mod Striking

@@ -124,7 +124,7 @@ pub struck-left : (es : List Kept) (next n : ℕ) → AreNumbers 2 next es → A
 struck-left es next n are useful = let s = struck-keeps (λ xs. Unit {0}) 2 next (λ xs m numbers useless here. tt) (length es) (Some n) es (omega arith) are useful tt in record { numbers = s.numbers; of_use = s.of_use }
 
 -- a test that the changed member fails
-any-changed_other : (es : List Kept) (p q : Kept → Bool) (change : Kept → Kept) → ((x : Kept) → first_where p es ≡ Some x → q x ≡ false) → list_any q es ≡ true → list_any q (changed_where p change es) ≡ true
+pub any-changed_other : (es : List Kept) (p q : Kept → Bool) (change : Kept → Kept) → ((x : Kept) → first_where p es ≡ Some x → q x ≡ false) → list_any q es ≡ true → list_any q (changed_where p change es) ≡ true
 any-changed_other [] p q change fails h = h
 any-changed_other (y ∷ es) p q change fails h = in_ (p y) (q y) refl fails h (λ f t. any-changed_other es p q change f t) where
   in_ : (b c : Bool) → q y ≡ c → ((x : Kept) → cond b (Some y) (first_where p es) ≡ Some x → q x ≡ false) → (c || list_any q es) ≡ true →

@@ -2,14 +2,14 @@
 -- of that number stands, and its count, with libfuse's rules for lookup counts (`fuse_lowlevel.h`).
 use Rattle.std.specs.Prelude.{◌≡◌, ℕ, suc, zero, ◌+◌, ◌-◌, ◌^◌, min, Bool, false, take, ◌==◌, nat_le, not, List, [], ◌∷◌, ◌++◌, length, Option, Some, None, is_some, if◌then◌else◌}
 use Rattle.std.specs.Option.{option_map, option_map_or}
-use Rattle.std.specs.List.{filter}
+use Rattle.std.specs.List.{filter, list_any}
 use Rattle.eden_base.specs.declared.number.Number.{Number}
 use Rattle.eden_base.specs.declared.number.FileId.{FileId}
 use Rattle.eden_base.specs.declared.attr.Attr.{Attr}
 use Rattle.eden_base.specs.First.{first_where, changed_where, without_where}
 use Rattle.eden_base.specs.Limits.{greatest_count, end_of_numbers}
 use Rattle.entry_table.specs.declared.kept.Kept.{Kept}
-use Rattle.entry_table.specs.Entries.{has_number, number_of_kept, entry_of, is_kept, stands_at, entry_at, is_of_use, once_more, new_entry, is_bad_item, lowered, marked}
+use Rattle.entry_table.specs.Entries.{has_number, number_of_kept, entry_of, is_kept, stands_at, entry_at, is_of_use, is_kid_of, once_more, new_entry, is_bad_item, lowered, marked, moved_to}
 use Rattle.inode_map.specs.declared.loaded.LoadedAttr.{LoadedAttr}
 use Rattle.inode_map.specs.declared.inode_map.GiveFault.{GiveFault}
 use Rattle.inode_map.specs.declared.inode_map.GiveFault.TheVariants.{NoNumber, TooMany, NoMemory}
@@ -28,22 +28,22 @@ pub record MapState : Type 0 where
   pub spare : ℕ
   pub remembered : List (ℕ × FileId)
 
--- the number has an entry, which is of no use
+-- the number has an entry with count 0 and no children
 abbrev pub is_useless : List Kept → ℕ → Bool
 is_useless entries n = option_map_or (λ (kept : Kept). not (is_of_use entries kept)) (entry_of entries n) false
 
--- the entries without those of no use
+-- the entries without those that have count 0 and no children
 abbrev pub struck_once : List Kept → List Kept
 struck_once entries = filter (is_of_use entries) entries
 
--- the entries after this many rounds, each of which strikes all entries of no use; a directory may be of no use after
--- what stood in it was struck
+-- the entries after this many rounds, each of which strikes all entries with count 0 and no children; what is struck
+-- may leave its directory without children, for the next round
 abbrev pub struck : ℕ → List Kept → List Kept
 struck zero entries = entries
 struck (suc rounds) entries = struck rounds (struck_once entries)
 
--- the entries after all of no use were struck; as many rounds as entries are enough, since each round but the last
--- strikes at least one entry
+-- the entries after rounds until none has count 0 and no children. As many rounds as there are entries are enough,
+-- since each round but the last strikes at least one.
 abbrev pub left_of_use : List Kept → List Kept
 left_of_use entries = struck (length entries) entries
 
@@ -113,13 +113,13 @@ attr_in loaded = loaded.attr
 abbrev pub attr_of : List LoadedAttr → ℕ → Option Attr
 attr_of loaded n = option_map attr_in (first_where (is_loaded_of n) loaded)
 
--- the loaded attributes after those of a number were used: these are the most recent, if they are loaded
+-- the loaded attributes after those of `n` were used: they become the most recent, if they are loaded
 abbrev pub used : List LoadedAttr → ℕ → List LoadedAttr
 used loaded n =
     option_map_or (λ (found : LoadedAttr). found ∷ without_where (is_loaded_of n) loaded)
     (first_where (is_loaded_of n) loaded) loaded
 
--- the loaded attributes after more were loaded: these are the most recent, and at the limit the oldest are dropped
+-- the loaded attributes after those of `number` were loaded: they become the most recent; at the limit the oldest leave
 abbrev pub load : ℕ → List LoadedAttr → Number → Attr → List LoadedAttr
 load limit loaded number attr = record { number = number; attr = attr } ∷ take (limit - 1) loaded
 
@@ -127,10 +127,35 @@ load limit loaded number attr = record { number = number; attr = attr } ∷ take
 abbrev pub without_oldest : List LoadedAttr → List LoadedAttr
 without_oldest loaded = take (length loaded - 1) loaded
 
--- the map after a number lost its name; its directory is struck if it is of no use, and so is each directory above it
--- that is then of no use
+-- the map after a number lost its name; its directory is struck if it has count 0 and no children, and so is then each
+-- directory above it that is left so
 abbrev pub unlinked : MapState → ℕ → FileId → MapState
 unlinked map n file = left_with (left_of_use (changed_where (has_number n) (marked file) map.entries)) map
+
+-- the entries after another file took a name in a directory from this file; an entry that stood under the name has the
+-- mark of its file
+abbrev pub displaced : List Kept → ℕ → List ℕ → Option FileId → List Kept
+displaced entries parent name (Some file) = changed_where (stands_at parent name) (marked file) entries
+displaced entries parent name None = entries
+
+-- the entries after a number moved to a name in a directory, which this file lost
+abbrev pub moved : List Kept → ℕ → Number → List ℕ → Option FileId → List Kept
+moved entries n parent name file =
+    changed_where (has_number n) (moved_to parent name) (displaced entries parent.0 name file)
+
+-- the map after a number moved to a name in a directory, which this file lost. Only then is the directory that the
+-- number left struck if it is of no use, and each directory above it. The room for a new number is used up.
+abbrev pub relinked : MapState → ℕ → Number → List ℕ → Option FileId → MapState
+relinked map n parent name file =
+    record (left_with (left_of_use (moved map.entries n parent name file)) map) { spare = 0 }
+
+-- the entry at a place, if there is one, may give way to that of number `n`: it is another, nothing stands in its
+-- directory, and its file is given
+abbrev pub MayGiveWay : List Kept → ℕ → Option FileId → Option Kept → Type 0
+MayGiveWay entries n (Some file) (Some kept) =
+    (kept.number.0 ≡ n → ⊥) × (list_any (is_kid_of kept.number.0) entries ≡ false)
+MayGiveWay entries n None (Some kept) = ⊥
+MayGiveWay entries n file None = Unit {0}
 
 -- a map with these entries, of which nothing is loaded or remembered
 abbrev pub map_of : List Kept → ℕ → ℕ → MapState

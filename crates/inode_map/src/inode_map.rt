@@ -1,6 +1,6 @@
 //! What a daemon remembers for the kernel.
-ghost use Rattle.std.specs.Prelude.{◌≡◌, ℕ, ◌+◌, ◌<◌, ◌≤◌, ◌^◌, None, Some, IsSome, false, true, nat_lt, length, MatchOption, IfOk, IfErr, OnOk, OnErr};
-ghost use Rattle.std.specs.List.{AllByRecursion, filter, list_any};
+ghost use Rattle.std.specs.Prelude.{◌≡◌, ℕ, ◌+◌, ◌<◌, ◌≤◌, ◌^◌, None, Some, IsSome, true, nat_lt, length, MatchOption, IfOk, IfErr, OnOk, OnErr};
+ghost use Rattle.std.specs.List.{AllByRecursion, filter};
 ghost use Rattle.std.specs.Option.{option_map, option_copied, IfSome};
 ghost use Rattle.eden_base.specs.Limits.{end_of_numbers};
 ghost use Rattle.eden_base.specs.declared.number.FileId.{FileId};
@@ -8,11 +8,13 @@ ghost use Rattle.eden_base.specs.declared.number.Number.{Number};
 ghost use Rattle.inode_map.specs.declared.loaded.LoadedAttr.{LoadedAttr};
 ghost use Rattle.inode_map.specs.Words.{forgot_name};
 ghost use Rattle.entry_table.specs.EntryPlaces.{AreOfUseBut, IsNamedEntry, is_linked_entry};
-ghost use Rattle.entry_table.specs.Entries.{entry_of, entry_at, count_of, number_after, number_of_kept, place_of_kept, is_known, is_kid_of, is_bad_item, lowered, IsLinked, IsFileOf, AreNumbers, AreEntries, file_remembered, remembered};
-ghost use Rattle.inode_map.specs.InodeMap.{new_map, map_of, give_fault, number_given, given, IsGiveRefusal, forgot, forgotten, unlinked, is_useless, attr_of, used, load, without_oldest, loaded_number, left_of_use};
+ghost use Rattle.entry_table.specs.Entries.{entry_of, entry_at, count_of, number_after, number_of_kept, place_of_kept, is_known, is_bad_item, lowered, IsFileOf, AreNumbers, AreEntries, file_remembered, remembered};
+ghost use Rattle.inode_map.specs.InodeMap.{new_map, map_of, give_fault, number_given, given, IsGiveRefusal, forgot, forgotten, is_useless, attr_of, used, load, without_oldest, loaded_number, left_of_use};
 ghost use Rattle.entry_table.specs.Table.{AreOfKept, file_number};
 ghost use Rattle.inode_map.specs.Loaded.{attrs_in, AreNamed};
 ghost use Rattle.inode_map.specs.Pruned.{of_kept, pruned};
+
+mod places;
 
 use crate::loaded::{LoadedAttr, attr_at, load_attr, nodes_of, strike, unload_oldest};
 use checkout::Tree;
@@ -306,8 +308,8 @@ impl InodeMap {
         Forgot::Dropped
     }
 
-    /// Lowers the count of `number` by `k`. If the entry of `number` is then of no use (count 0 and no child), it is
-    /// removed, and so is each entry above it that is then of no use.
+    /// Lowers the count of `number` by `k`. Removes its entry if that is left with count 0 and no children, and then
+    /// each parent that is left so.
     pub fn forget(&mut self, number: Number, k: u64) -> Forgot
         ensures forgot { result ≡ forgot self.old number.0 k }
         ensures forgotten { self.new ≡ forgotten self.old number.0 k }
@@ -327,17 +329,6 @@ impl InodeMap {
         }
         drop_upwards(&mut self.table, &mut self.loaded, number);
         Forgot::Dropped
-    }
-
-    /// Takes the name of `number` away: from then on a mark says that the number names `file`. Removes the entry of its
-    /// directory if that then has count 0 and no child, and then each such entry above it.
-    pub fn unlink(&mut self, number: Number, file: FileId)
-        requires linked { IsLinked self.old.entries number.0 }
-        requires no_kids { list_any (is_kid_of number.0) self.old.entries ≡ false }
-        ensures unlinked { self.new ≡ unlinked self.old number.0 file }
-    {
-        let dir = self.table.unlink(number, file);
-        prune(&mut self.table, &mut self.loaded, dir);
     }
 
     /// Returns the loaded attributes of `number`, if any, and makes them the most recent.

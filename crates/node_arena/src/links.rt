@@ -48,7 +48,7 @@ impl<N> Model for Stride<N> {
 unsafe impl<N> Send for Stride<N> {}
 
 impl<N> Stride<N> {
-    /// Makes the stride of `N`.
+    /// Makes the value that stands for the size of an `N`.
     pub(crate) fn new() -> Stride<N>
         ensures { result.bytes ≡ type_size N.row }
     {

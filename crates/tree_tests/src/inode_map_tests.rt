@@ -1,6 +1,8 @@
 //! The numbers that an inode map gives, and what each call says of them.
 pub(crate) mod deeds;
 mod deep_tests;
+mod move_tests;
+mod moves;
 mod one_entry_tests;
 mod sequence_tests;
 

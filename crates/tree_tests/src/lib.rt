@@ -1,4 +1,4 @@
-//! Tests of `manifest`, `checkout` and `inode_map` by their public calls.
+//! Tests of `key_map`, `manifest`, `checkout` and `inode_map` by their public calls.
 #![tactic(auto)]
 
 #[cfg(test)]
@@ -7,6 +7,8 @@ mod again;
 mod checkout_tests;
 #[cfg(test)]
 mod inode_map_tests;
+#[cfg(test)]
+mod key_map_tests;
 #[cfg(test)]
 mod manifest_tests;
 #[cfg(test)]

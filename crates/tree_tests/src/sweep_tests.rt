@@ -9,7 +9,7 @@ use crate::sweep_tests::texts::{are_names_read, is_each_count_read};
 use crate::sweep_tests::trees::{are_made, are_names_made};
 use std::alloc::Global;
 
-/// What a sweep makes in many sizes.
+/// What one test makes, in sizes up to a limit.
 #[derive(Clone, Copy)]
 enum Sweep {
     /// Manifests, each with one line more than the one before.

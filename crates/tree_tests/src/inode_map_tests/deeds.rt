@@ -1,8 +1,9 @@
 //! Calls on an inode map with their expected answers, as data. A test is a table of such calls.
 ghost use Rattle.std.specs.Prelude.{◌≤◌};
 
+use super::moves::moved;
 use crate::again::parsed;
-use eden_base::{Attr, Kind, Name, NoMemory, Number, Perm, Place};
+use eden_base::{Attr, FileId, Kind, Name, NoMemory, Number, Perm, Place};
 use inode_map::{Forgot, GiveFault, InodeMap, Kept};
 use std::alloc::Global;
 
@@ -30,6 +31,10 @@ pub enum Deed {
     Know(u64, bool),
     /// The next number, and how many forgets were bad.
     At(u64, u64),
+    /// Moves a number to a name in the directory of another, from the file of this id, or 0 if none stands there.
+    Move(u64, u64, &'static [u8], u64),
+    /// The file in the mark of a number, or 0.
+    Mark(u64, u64),
     /// Loads attributes for a number, with the number as their size.
     Load(u64),
     /// The size in the loaded attributes of a number, or 0 if none are loaded.
@@ -165,6 +170,24 @@ fn parent_of(map: &InodeMap, number: u64) -> u64 {
     }
 }
 
+/// Returns the file in the mark of `number`, or 0.
+fn mark_of(map: &InodeMap, number: u64) -> u64 {
+    match map.entry(Number(number)) {
+        Some(Place::Unlinked { file }) => file.0,
+        _ => 0,
+    }
+}
+
+/// Moves `number` to the directory and the name in `place`, and returns whether it moved. For no file stands 0.
+fn moves(alloc: Global, map: &mut InodeMap, number: u64, place: (u64, &[u8]), file: u64) -> bool {
+    let (parent, name) = place;
+    let file = if file == 0 { None } else { Some(FileId(file)) };
+    match parsed(alloc, name) {
+        Some(name) => moved(alloc, map, Number(number), Number(parent), name, file),
+        None => false,
+    }
+}
+
 /// Returns the entries of `map`, and asks for them once more if memory was refused.
 pub(crate) fn entries_of(alloc: Global, map: &InodeMap) -> Result<Vec<Kept>, NoMemory> {
     match map.to_entries(alloc) {
@@ -220,6 +243,8 @@ fn goes_so(alloc: Global, map: &mut InodeMap, deed: Deed) -> bool {
         Deed::Parent(number, parent) => parent_of(map, number) == parent,
         Deed::Know(number, known) => map.known(Number(number)) == known,
         Deed::At(next, bad) => map.next() == next && map.bad_items() == bad,
+        Deed::Move(number, parent, name, file) => moves(alloc, map, number, (parent, name), file),
+        Deed::Mark(number, file) => mark_of(map, number) == file,
         Deed::Load(number) => {
             load(map, Number(number));
             true

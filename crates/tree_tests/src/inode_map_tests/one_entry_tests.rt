@@ -65,22 +65,30 @@ fn map_of_one(alloc: Global, number: Number, spot: Spot, count: u64) -> Option<I
 }
 
 /// Calls on a map of one entry: the last number, under `src` in the root, with the greatest count less one.
-static AT_THE_ENDS: [Deed; 9] = [
+static AT_THE_ENDS: [Deed; 12] = [
     Deed::At(9223372036854775807, 0),
+    Deed::Give(1, b"src", 9223372036854775806),
+    Deed::Refuse(1, b"src", GiveFault::TooMany),
+    Deed::Forget(9223372036854775806, 1, Forgot::Lowered),
     Deed::Give(1, b"src", 9223372036854775806),
     Deed::Refuse(1, b"src", GiveFault::TooMany),
     Deed::Refuse(1, b"README", GiveFault::NoNumber),
     Deed::Refuse(9223372036854775806, b"src", GiveFault::NoNumber),
-    Deed::Count(9223372036854775806, 4294967295),
+    Deed::Count(9223372036854775806, 9223372036854775807),
     Deed::At(9223372036854775807, 0),
-    Deed::Forget(9223372036854775806, 4294967295, Forgot::Dropped),
+    Deed::Forget(9223372036854775806, 9223372036854775807, Forgot::Dropped),
     Deed::Know(9223372036854775806, false),
 ];
 
 /// Makes the map of `AT_THE_ENDS`. Returns whether each call on the map goes as its row says.
 fn gives_up_at_the_ends(alloc: Global) -> bool {
     let spot = Spot::Named(b"src");
-    match map_of_one(alloc, Number(9223372036854775806), spot, 4294967294) {
+    match map_of_one(
+        alloc,
+        Number(9223372036854775806),
+        spot,
+        9223372036854775806,
+    ) {
         Some(map) => {
             let mut map = map;
             let goes_so = each_goes_so(alloc, &mut map, &AT_THE_ENDS);

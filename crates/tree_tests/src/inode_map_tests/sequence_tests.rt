@@ -1,4 +1,5 @@
 //! A long sequence of calls, made on a map and on a plain list that should have the same entries.
+use super::moves::moved;
 use eden_base::{FileId, Name, NameFault, NoMemory, Number, Place};
 use inode_map::{Forgot, GiveFault, InodeMap};
 use std::alloc::{AllocError, Global};
@@ -12,12 +13,13 @@ struct Listed {
     count: u64,
 }
 
-/// The plain list: the entries by rising number, the next number, and how many forgets were bad.
+/// The plain list: the entries by rising number, the next number, how many forgets were bad, and how many numbers moved.
 #[derive(Drop)]
 struct Plain {
     entries: Vec<Listed>,
     next: u64,
     bad_items: u64,
+    moves: u64,
 }
 
 impl Plain {
@@ -38,6 +40,24 @@ impl Plain {
         self.entries
             .iter()
             .any(|entry| entry.number == number && entry.parent > 0)
+    }
+
+    fn parent(&self, number: u64) -> u64 {
+        for entry in &self.entries {
+            if entry.number == number {
+                return entry.parent;
+            }
+        }
+        0
+    }
+
+    fn at(&self, parent: u64, name: u8) -> u64 {
+        for entry in &self.entries {
+            if entry.parent == parent && entry.name == name {
+                return entry.number;
+            }
+        }
+        0
     }
 
     fn change(&mut self, number: u64, parent: Option<u64>, count: u64) {
@@ -106,6 +126,33 @@ impl Plain {
         self.change(number, Some(0), self.count(number));
         self.strike();
     }
+
+    fn is_at_or_below(&self, number: u64, above: u64) -> bool {
+        let mut at = number;
+        for _level in 0..self.entries.len() {
+            if at == above {
+                return true;
+            }
+            at = self.parent(at);
+        }
+        false
+    }
+
+    fn relink(&mut self, number: u64, parent: u64, name: u8) {
+        for entry in &mut self.entries {
+            if entry.parent == parent && entry.name == name {
+                entry.parent = 0;
+            }
+        }
+        for entry in &mut self.entries {
+            if entry.number == number {
+                entry.parent = parent;
+                entry.name = name;
+            }
+        }
+        self.moves = self.moves.wrapping_add(1);
+        self.strike();
+    }
 }
 
 /// Returns whether `map` has `entry` with its count and its name. An unlinked entry must have the mark of the file
@@ -147,6 +194,32 @@ fn unlink(map: &mut InodeMap, plain: &mut Plain, number: u64) {
     };
     map.unlink(Number(number), FileId(number));
     plain.unlink(number);
+}
+
+/// Moves `number` to the name `byte` in `parent`, in `map` and in `plain`, if `parent` isn't below it and the map allows
+/// the move. The file of a number is the one whose id is the number.
+fn relink(
+    alloc: Global,
+    map: &mut InodeMap,
+    plain: &mut Plain,
+    number: u64,
+    parent: u64,
+    byte: u8,
+) -> Result<(), NameFault> {
+    if plain.is_at_or_below(parent, number) {
+        return Ok(());
+    }
+    let name = Name::parse(alloc, &[byte])?;
+    let there = plain.at(parent, byte);
+    let file = if there == 0 && byte % 2 == 0 {
+        None
+    } else {
+        Some(FileId(there))
+    };
+    if moved(alloc, map, Number(number), Number(parent), name, file) {
+        plain.relink(number, parent, byte);
+    }
+    Ok(())
 }
 
 /// Gives a number to `name` in `parent`. If `is_reserved`, makes room first and gives the number there.
@@ -205,6 +278,19 @@ fn step(
             unlink(map, plain, number);
             Ok(true)
         }
+        5 => {
+            let dir = plain.next.wrapping_sub(dice / 512 % 16);
+            let parent = if plain.is_linked(dir) { dir } else { 1 };
+            relink(
+                alloc,
+                map,
+                plain,
+                number,
+                parent,
+                97u8.wrapping_add(other as u8),
+            )?;
+            Ok(true)
+        }
         _ => Ok(map.forget(Number(number), other) == plain.forget(number, other)),
     }
 }
@@ -225,15 +311,19 @@ fn agree_for_long(alloc: Global, map: &mut InodeMap, plain: &mut Plain) -> Resul
 }
 
 /// Calls `agree_for_long` with an empty list. Returns whether both agree, the next number is above 200, more than 50
-/// forgets were bad, and more than 10 entries are left.
+/// forgets were bad, more than 50 numbers moved, and more than 10 entries are left.
 fn agree_on_much(alloc: Global, map: &mut InodeMap) -> bool {
     let mut plain = Plain {
         entries: Vec::new(alloc),
         next: 2,
         bad_items: 0,
+        moves: 0,
     };
     let agreed = agree_for_long(alloc, map, &mut plain);
-    let is_much = plain.next > 200 && plain.bad_items > 50 && plain.entries.len() > 10;
+    let is_much = plain.next > 200
+        && plain.bad_items > 50
+        && plain.moves > 50
+        && plain.entries.len() > 10;
     drop(plain);
     agreed == Ok(true) && is_much
 }

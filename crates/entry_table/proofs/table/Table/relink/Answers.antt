@@ -1,0 +1,94 @@
+-- An entry gets another place in its slot, and its link one beside the maps.
+use Rattle.std.proofs.Common.{◌≡◌, ℕ, List, Option, Some, None, refl, sym, ap, ◌∙◌, subst, arith}
+use Rattle.std.specs.Prelude.{slice_set}
+use Rattle.eden_base.specs.First.{changed_where}
+use Rattle.eden_base.specs.declared.place.Place.TheVariants.{Linked}
+use Rattle.entry_table.specs.Entries.{has_number, entry_of, entry_at, moved_to}
+use Rattle.entry_table.specs.Slots.{kept_from, slot_at, file_beside, note_beside, IsIndexed, IsIndexOf}
+use Rattle.entry_table.specs.Table.{TableState, kept_of}
+use Rattle.entry_table.specs.declared.index.Index.{Index}
+use Rattle.entry_table.specs.declared.kept.Kept.{Kept}
+use Rattle.entry_table.specs.declared.kept.Entry.{Entry}
+use Rattle.entry_table.proofs.IndexedChanges.{none-latest, indexed-gained}
+use Rattle.entry_table.proofs.IndexedLosses.{indexed-lost, still-ready}
+use Rattle.entry_table.proofs.SlotLemmas.{files-kept}
+use Rattle.entry_table.proofs.Standing.{none-stands, left-stood}
+use Rattle.entry_table.proofs.TableLemmas.{never-none, never-empty, slot-entry, found-in, found-held, written-slots, written-kept, written-beside, without-loses, moved-loses, reserved, way-room, linked-some, linked-place}
+use Rattle.entry_table.proofs.table.Table.relink.Goals as goal
+
+pub unreachable-requires : goal.unreachable-requires
+unreachable-requires c =
+    never-none c.self.inside c.args.self.now c.args.number.0 c.self.view_is c.self.invariant (linked-some c.args.self.now.entries c.args.number.0 c.requires.linked)
+    (sym (subst (λ (es : List (ℕ × Option Entry)). slot_at es c.args.number.0 ≡ None) c.as_slice.ensures.value c.in_default.ensures.none))
+
+pub unreachable-requires-in_default-take : goal.unreachable-requires-in_default-take
+unreachable-requires-in_default-take c =
+    let t = c.self.inside in
+    let n = c.args.number.0 in
+    let there = subst (λ (es : List (ℕ × Option Entry)). IsIndexOf es n c.in-Some.index) c.as_slice.ensures.value c.in-Some.ensures.index in
+    never-empty t c.args.self.now n c.self.view_is c.self.invariant (linked-some c.args.self.now.entries n c.requires.linked)
+    (sym (found-in t n c.in-Some.index c.index_mut-slot.result.now c.self.invariant there c.index_mut-slot.ensures.value ∙ ap Some (sym c.take.ensures.value ∙ c.in_default-take.is)))
+
+pub unreachable-requires-in_default-place : goal.unreachable-requires-in_default-place
+unreachable-requires-in_default-place c =
+    let t = c.self.inside in
+    let n = c.args.number.0 in
+    let h = c.in-Some-take.entry in
+    let there = subst (λ (es : List (ℕ × Option Entry)). IsIndexOf es n c.in-Some.index) c.as_slice.ensures.value c.in-Some.ensures.index in
+    linked-place t c.args.self.now n h c.in_default-place.field-0 c.self.view_is c.self.invariant c.requires.linked
+    (found-held t n c.in-Some.index c.index_mut-slot.result.now c.self.invariant there c.index_mut-slot.ensures.value h h (sym c.take.ensures.value ∙ c.in-Some-take.is)) c.in_default-place.is
+
+pub invariant_of-self : goal.invariant_of-self
+invariant_of-self c =
+    let t = c.self.inside in
+    let n = c.args.number.0 in
+    let slot = c.index_mut-slot.result.now in
+    let h = c.in-Some-take.entry in
+    let there = subst (λ (es : List (ℕ × Option Entry)). IsIndexOf es n c.in-Some.index) c.as_slice.ensures.value c.in-Some.ensures.index in
+    let here = sym c.take.ensures.value ∙ c.in-Some-take.is in
+    let now : Entry = record { place = Linked c.args.parent c.args.name; count = h.count; file = h.file; note = h.note } in
+    let entry = slot-entry t n h c.self.invariant (found-held t n c.in-Some.index slot c.self.invariant there c.index_mut-slot.ensures.value h now here) in
+    let loses = without-loses t n (kept_of n h) c.self.invariant entry in
+    let free : entry_at (kept_from t.slots.items) c.args.parent.0 c.args.name ≡ None = subst (λ (s : TableState). entry_at s.entries c.args.parent.0 c.args.name ≡ None) (sym c.self.view_is) c.requires.is_free in
+    let unlinked : Index = c.remove.new.self in
+    let ready = still-ready t.index unlinked c.in-Linked.dir.0 c.in-Linked.left n c.remove.ensures (c.self.invariant.ready (reserved t c.args.self.now c.self.view_is c.requires.reserved)) in
+    record {
+      slots = written-slots t n c.in-Some.index slot c.self.invariant there c.index_mut-slot.ensures.value (Some now);
+      indexed = subst (λ (es : List Kept). IsIndexed es c.add.new.self) (sym (written-kept t n c.in-Some.index slot c.self.invariant there c.index_mut-slot.ensures.value h now here (moved_to c.args.parent c.args.name) refl))
+          (subst (λ (index : Index). IsIndexed (changed_where (has_number n) (moved_to c.args.parent c.args.name) (kept_from t.slots.items)) index) (sym c.add.ensures)
+          (indexed-gained (moved-loses t n c.args.parent c.args.name (kept_of n h) c.self.invariant entry) c.args.parent c.args.name refl
+          (λ m w. none-stands (kept_from t.slots.items) c.args.parent.0 c.args.name m free (left-stood loses c.args.parent.0 c.args.name m w).1)
+          unlinked (none-latest unlinked ready)
+          (indexed-lost loses c.in-Linked.dir c.in-Linked.left c.in-Linked.is t.index unlinked c.remove.ensures c.self.invariant.indexed)));
+      ready = λ is. let none : ⊥ = cc in absurd none;
+      free = λ is. let none : ⊥ = cc in absurd none;
+      room = let few = way-room t.is_reserved _ _ c.self.invariant.room in omega (arith, few);
+    }
+
+pub returns-clause-moved : goal.returns-clause-moved
+returns-clause-moved c =
+    let t = c.self.inside in
+    let n = c.args.number.0 in
+    let slot = c.index_mut-slot.result.now in
+    let h = c.in-Some-take.entry in
+    let there = subst (λ (es : List (ℕ × Option Entry)). IsIndexOf es n c.in-Some.index) c.as_slice.ensures.value c.in-Some.ensures.index in
+    let here = sym c.take.ensures.value ∙ c.in-Some-take.is in
+    let now : Entry = record { place = Linked c.args.parent c.args.name; count = h.count; file = h.file; note = h.note } in
+    rw (← c.self.view_is, written-kept t n c.in-Some.index slot c.self.invariant there c.index_mut-slot.ensures.value h now here (moved_to c.args.parent c.args.name) refl, written-beside t n c.in-Some.index slot c.self.invariant there c.index_mut-slot.ensures.value h now here file_beside refl, written-beside t n c.in-Some.index slot c.self.invariant there c.index_mut-slot.ensures.value h now here note_beside refl) refl
+
+pub returns-clause-dir : goal.returns-clause-dir
+returns-clause-dir c =
+    let t = c.self.inside in
+    let n = c.args.number.0 in
+    let slot = c.index_mut-slot.result.now in
+    let h = c.in-Some-take.entry in
+    let there = subst (λ (es : List (ℕ × Option Entry)). IsIndexOf es n c.in-Some.index) c.as_slice.ensures.value c.in-Some.ensures.index in
+    let here = sym c.take.ensures.value ∙ c.in-Some-take.is in
+    let entry = slot-entry t n h c.self.invariant (found-held t n c.in-Some.index slot c.self.invariant there c.index_mut-slot.ensures.value h h here) in
+    (kept_of n h, c.in-Linked.left, ap (λ (s : TableState). entry_of s.entries n) (sym c.self.view_is) ∙ entry, c.in-Linked.is)
+
+pub returns-clause-kept : goal.returns-clause-kept
+returns-clause-kept c =
+    let h = c.in-Some-take.entry in
+    let now : Entry = record { place = Linked c.args.parent c.args.name; count = h.count; file = h.file; note = h.note } in
+    files-kept (slice_set c.self.inside.slots.items c.in-Some.index (c.index_mut-slot.result.now.0, Some now))
