@@ -19,7 +19,7 @@ use Rattle.map_codec.specs.declared.fault.RaiseFault.{RaiseFault}
 use Rattle.map_codec.specs.declared.fault.RaiseFault.TheVariants.{OtherCommit, BadChange, NoParent, NoLink, TwoNumbers, NumberTooHigh, NoMemory}
 use Rattle.map_image.specs.declared.image.Image.{Image}
 
--- the tree that an image tells over a manifest
+-- the tree of a manifest with the changes that an image has
 abbrev pub tree_told : Manifest → Image → Tree
 tree_told m image = changed m image.changes
 

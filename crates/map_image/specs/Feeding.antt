@@ -206,7 +206,8 @@ abbrev pub StopsIn : {X : Type 0} → Member X → List X → ℕ → List ℕ �
 StopsIn member old count bytes NoMemory = Unit {0}
 StopsIn member old count bytes fault = IsRefusedIn member old count bytes fault
 
--- members were read as far as they are whole; how many are left, and the rest, are seen by `view`
+-- Members were read up to the first that isn't whole. `view` tells how many are left to read, and the bytes that were
+-- not read.
 abbrev pub ReadsIn : {X R : Type 0} → (R → ℕ × List ℕ) → Member X → List X → ℕ → List ℕ → List X
     → Result R ImageFault → Type 0
 ReadsIn view member old count bytes new (Ok x) = GoesOnIn member old count bytes new (view x).0 (view x).1

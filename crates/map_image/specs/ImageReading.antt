@@ -48,7 +48,7 @@ last_of xs = slice_get xs (length xs - 1)
 
 -- ---- marks and names
 
--- whether a mark, which is 0 or 1, is 1; and the rest
+-- a mark, one byte of value 0 or 1, as false or true; and the bytes after it
 unfoldable pub mark_at : List ℕ → Result (Bool × List ℕ) ImageFault
 mark_at bytes = do
   mark ← byte_at Short bytes
@@ -166,7 +166,7 @@ members_at member last (suc n) bytes = do
   others ← members_at member (Some first.0) n first.1
   Ok (first.0 ∷ others.0, others.1)
 
--- a list: how many members there are, and each in turn; and the rest
+-- a list: how many members there are, and then each of them; and the rest
 unfoldable pub list_at : {X : Type 0} → (Option X → List ℕ → Result (X × List ℕ) ImageFault) → List ℕ
     → Result (List X × List ℕ) ImageFault
 list_at member bytes = do

@@ -63,7 +63,7 @@ made_text made =
 abbrev pub link_text : LinkChange → List ℕ
 link_text link = number_bytes w64 link.dir.0 ++ (name_text link.name ++ target_text link.target)
 
--- a list: how many members there are, and each in turn
+-- a list: how many members there are, and then each of them
 abbrev pub list_text : {X : Type 0} → (X → List ℕ) → List X → List ℕ
 list_text text xs = number_bytes length_width (length xs) ++ flat_map text xs
 

@@ -39,11 +39,16 @@ first_form = record { count_width = Four; greatest_count = 2 ^ 32 - 1; longest =
 abbrev pub second_form : VersionForm
 second_form = record first_form { longest = 268435456; sending = Parts }
 
+-- the form of version 3: counts of eight bytes, each of which the kernel may hold; the rest is as in version 2
+abbrev pub third_form : VersionForm
+third_form = record second_form { count_width = Eight; greatest_count = greatest_held }
+
 -- the form of a version, if there is such a version: a row for each
 abbrev pub form_of : ℕ → Option VersionForm
 form_of version =
     if version == 1 then Some first_form
     else if version == 2 then Some second_form
+    else if version == 3 then Some third_form
     else None
 
 -- ---- the same in each version

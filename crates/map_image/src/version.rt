@@ -3,6 +3,8 @@ ghost use Rattle.std.specs.Prelude.{◌≡◌, ◌≤◌, ℕ, IfSome, is_some, 
 ghost use Rattle.byte_codec.specs.Field.{number_bytes};
 ghost use Rattle.map_image.specs.Versions.{form_of, width_of, IsForm};
 
+use eden_base::GREATEST_COUNT;
+
 /// How many bytes a count takes.
 #[derive(Clone, Copy)]
 pub enum CountWidth {
@@ -45,6 +47,13 @@ const SECOND: VersionForm = VersionForm {
     ..FIRST
 };
 
+/// The form of version 3: wider counts, up to the greatest that the kernel may hold.
+const THIRD: VersionForm = VersionForm {
+    count_width: CountWidth::Eight,
+    greatest_count: GREATEST_COUNT,
+    ..SECOND
+};
+
 /// Returns the form of `version`, if there is such a version.
 pub fn form_of(version: u16) -> Option<VersionForm>
     ensures row { result ≡ form_of version }
@@ -53,6 +62,7 @@ pub fn form_of(version: u16) -> Option<VersionForm>
     match version {
         1 => Some(FIRST),
         2 => Some(SECOND),
+        3 => Some(THIRD),
         _ => None,
     }
 }
