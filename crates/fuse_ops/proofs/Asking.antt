@@ -1,5 +1,5 @@
 -- When the backing is asked, and that what is known of it beforehand shows in the answer.
-use Rattle.std.proofs.Common.{◌≡◌, ℕ, ◌<◌, Bool, true, false, List, Option, Some, None, Result, Ok, Err, refl, sym, ap, ◌∙◌, subst, inl, inr, arith}
+use Rattle.std.proofs.Common.{◌≡◌, ℕ, ◌<◌, Bool, true, false, List, [], Option, Some, None, Result, Ok, Err, refl, sym, ap, ◌∙◌, subst, inl, inr, arith}
 use Rattle.std.proofs.lemmas.Bool.Decides.{nat_tests}
 use Rattle.std.specs.Option.{option_map_or}
 use Rattle.std.specs.Prelude.{◌≤◌, nat_le, OnErr, if◌then◌else◌}
@@ -15,19 +15,19 @@ use Rattle.fuse_wire.specs.Request.{is_ask}
 use Rattle.fuse_wire.specs.declared.request.Request.{Request}
 use Rattle.fuse_wire.specs.declared.request.Request.TheVariants.{Lookup, Getattr}
 use Rattle.fuse_wire.specs.declared.reply.Answer.{Answer}
-use Rattle.fuse_wire.specs.declared.reply.Answer.TheVariants.{Entry, Attrs, Error}
+use Rattle.fuse_wire.specs.declared.reply.Answer.TheVariants.{Error}
 use Rattle.entry_table.proofs.FileLemmas.{IsFileOf-same}
 use Rattle.entry_table.specs.Entries.{entry_at, IsFileOf}
 use Rattle.entry_table.specs.declared.kept.Kept.{Kept}
 use Rattle.inode_map.specs.InodeMap.{give_fault, give_fault_at}
 use Rattle.inode_map.specs.declared.inode_map.GiveFault.{GiveFault}
 use Rattle.inode_map.specs.declared.inode_map.GiveFault.TheVariants.{NoNumber, TooMany, NoMemory}
-use Rattle.fuse_ops.specs.Answers.{IsBacked, Deed, find_name, show_file, deed_of, found_in, found_in_dir}
+use Rattle.fuse_ops.specs.Answers.{IsBacked, Deed, find_name, show_file, deed_of, looked_at, found_in, found_in_dir}
 use Rattle.fuse_ops.specs.Loading.{FindsUnloaded, ShowsUnloaded, AsksFor, AsksBacking, AsksAs}
 use Rattle.fuse_ops.specs.Served.{ServedState, IsLocated, IsUnloaded}
 use Rattle.fuse_ops.specs.Work.{errno_of, Finds, GivesEntry, GivesFound, IsAsKnown, LooksUp, Shows, ShowsFile}
 use Rattle.fuse_ops.specs.declared.served.Found.{Found}
-use Rattle.fuse_ops.proofs.Shapes.{find-goes, show-goes}
+use Rattle.fuse_ops.proofs.Looking.{looks-ask}
 
 -- no answer is both
 pub not-both : false ≡ true → ⊥
@@ -168,6 +168,6 @@ shows-asks old node answer will s known = record {
 pub asks-ask : (served : ServedState) (request : Request) → AsksBacking served request → is_ask request ≡ true
 asks-ask served request asks = by_deed (deed_of request) refl asks where
   by_deed : (deed : Deed) → deed_of request ≡ deed → AsksFor served deed → is_ask request ≡ true
-  by_deed (find_name dir name) is a = (find-goes request dir name is).ask
-  by_deed (show_file node) is a = (show-goes request node is).ask
+  by_deed (find_name dir name) is a = looks-ask request dir [] (ap looked_at is)
+  by_deed (show_file node) is a = looks-ask request node [] (ap looked_at is)
   by_deed deed is a = absurd a

@@ -121,7 +121,7 @@ entry_kept es m k = in_ (entry_of es m) refl k where
   in_ None e h = absurd (let none : ⊥ = cc in none)
   in_ (Some kept) e h = (kept, e)
 
-left_with-loaded : (old new : ServedState) (es : List Kept) → HasFiles new.tree old.tree → new.map.entries ≡ es → new.map.loaded ≡ filter (λ (l : LoadedAttr). is_kept es (loaded_number l)) old.map.loaded →
+pub left_with-loaded : (old new : ServedState) (es : List Kept) → HasFiles new.tree old.tree → new.map.entries ≡ es → new.map.loaded ≡ filter (λ (l : LoadedAttr). is_kept es (loaded_number l)) old.map.loaded →
     IsSound new → ((m : ℕ) (f : FileId) → Names new m f → Names old m f) → AreLoaded old → AreLoaded new
 left_with-loaded old new es files e l sound names right = loaded-on old new files (λ m a h.
     let was = left-loaded es old.map.loaded m a (ap (λ (xs : List LoadedAttr). attr_of xs m) (sym l) ∙ h) in

@@ -151,7 +151,7 @@ left-file es files m f h = in_ (entry_of es m) refl where
   in_ None e = absurd (let gone = same None e in let none : ⊥ = cc (gone, h) in none)
   in_ (Some kept) e = (sym (same (Some kept) e) ∙ h, inr (kept, e))
 
-left_with-remembers : (old new : ServedState) (es : List Kept) → new.map.entries ≡ es → new.map.remembered ≡ filter (λ (x : ℕ × FileId). is_kept es x.0) old.map.remembered →
+pub left_with-remembers : (old new : ServedState) (es : List Kept) → new.map.entries ≡ es → new.map.remembered ≡ filter (λ (x : ℕ × FileId). is_kept es x.0) old.map.remembered →
     IsSound new → ((m : ℕ) (f : FileId) → Names new m f → Names old m f) → AreRemembered old → AreRemembered new
 left_with-remembers old new es e r sound names right = left-remembers old new sound names (λ m f h.
     let was = left-file es old.map.remembered m f (ap (λ (files : List (ℕ × FileId)). file_remembered files m) (sym r) ∙ h) in

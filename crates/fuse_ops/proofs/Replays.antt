@@ -1,12 +1,12 @@
 -- What `apply` does is a step of the replay.
-use Rattle.std.proofs.Common.{◌≡◌, ℕ, ◌<◌, true, false, List, Option, Some, None, Result, Ok, Err, refl, sym, ap, ◌∙◌, subst, inl, inr, arith}
-use Rattle.std.specs.Prelude.{Contains}
+use Rattle.std.proofs.Common.{◌≡◌, ℕ, ◌<◌, Bool, true, false, List, [], ◌∷◌, Option, Some, None, Result, Ok, Err, refl, sym, ap, ◌∙◌, subst, inl, inr, arith}
+use Rattle.std.specs.Prelude.{Contains, ◌==◌, if◌then◌else◌}
 use Rattle.std.specs.List.{AllByRecursion}
 use Rattle.eden_base.specs.declared.attr.Attr.{Attr}
 use Rattle.eden_base.specs.declared.attr.Kind.{Kind}
 use Rattle.eden_base.specs.declared.attr.Perm.{Perm}
 use Rattle.eden_base.specs.declared.errno.Errno.{Errno}
-use Rattle.eden_base.specs.declared.errno.Errno.TheVariants.{ENOSYS, ESTALE, EIO}
+use Rattle.eden_base.specs.declared.errno.Errno.TheVariants.{ENOSYS, ESTALE, EIO, ENOMEM}
 use Rattle.eden_base.specs.declared.number.FileId.{FileId}
 use Rattle.eden_base.specs.declared.number.Number.{Number}
 use Rattle.manifest.specs.Tree.{Tree, IsTree}
@@ -19,14 +19,18 @@ use Rattle.fuse_wire.specs.declared.reply.Answer.TheVariants.{Entry, Opened, Att
 use Rattle.inode_map.specs.InodeMap.{IsGiveRefusal, give_fault, given, number_given}
 use Rattle.inode_map.specs.declared.inode_map.GiveFault.{GiveFault}
 use Rattle.inode_map.specs.declared.inode_map.GiveFault.TheVariants.{NoNumber, TooMany, NoMemory}
-use Rattle.fuse_ops.specs.Answers.{none_left, at_greatest, Effect, find_name, make_file, take_name, show_file, unserved, deed_of, looked_at, done_to, comes_to, found_in, free_in, enters, shows, makes, takes, takes_from, unless, against_taking, told_as, telling, Answers, AnswersFile}
+use Rattle.fuse_ops.specs.Answers.{none_left, at_greatest, none_lost, one_lost, one_moved, Effect, Deed, find_name, make_file, take_name, move_name, show_file, unserved, deed_of, looked_at, done_to, found_in, free_in, enters, shows, makes, takes, takes_from, moves_between, unless, against_taking, told_as, telling, Answers, AnswersFile}
 use Rattle.checkout.proofs.CreateLaws.{created-IsTree}
 use Rattle.checkout.proofs.RemoveLaws.{removed-IsTree}
+use Rattle.eden_base.proofs.NumberTests.{eq-true, true-eq}
+use Rattle.entry_table.proofs.FileLemmas.{IsFileOf-same}
 use Rattle.fuse_ops.proofs.Keeping.{found-child}
 use Rattle.fuse_ops.proofs.Making.{free-place}
-use Rattle.fuse_ops.specs.Served.{ServedState, PlainState, plain, IsLocated, IsUnloaded, numbers_at, number_fault, place_entered, place_left, place_told, served_after, Replay}
-use Rattle.fuse_ops.specs.Work.{errno_of, GivesEntry, GivesFound, LooksUp, Shows, ShowsFile, IsSamePlainly, MakesIn, Makes, TakesName, Takes}
-use Rattle.fuse_ops.proofs.Shapes.{GoesTo, TellsEntry, TakesPlace, find-form, show-form, find-goes, make-goes, take-goes, show-goes, entered, shown, find-tells, make-tells, take-takes, take-frees, unless-found, error-after, entry-after, shown-after, done-after, given-bad_items, taken-bad_items}
+use Rattle.fuse_ops.specs.Served.{ServedState, PlainState, plain, IsLocated, IsUnloaded, names_changed, numbers_at, number_fault, place_entered, place_told, served_after, Replay}
+use Rattle.fuse_ops.specs.Work.{errno_of, GivesEntry, GivesFound, LooksUp, Shows, ShowsFile, IsSamePlainly, MakesIn, Makes, TakesName, Takes, MovesName, Moves}
+use Rattle.fuse_ops.proofs.Looking.{looks-ask, looks-nodes}
+use Rattle.fuse_ops.proofs.Movable.{by-move, movable-not_above}
+use Rattle.fuse_ops.proofs.Shapes.{TellsEntry, TakesPlace, MovesPlace, move-moves, moved-after, moved-bad_items, find-form, show-form, entered, shown, find-tells, make-tells, take-takes, take-frees, unless-found, error-after, entry-after, shown-after, done-after, given-bad_items, taken-bad_items}
 
 -- an answer that the table has for what a request comes to, and what it makes
 record Legally (old : ServedState) (request : Request) (result : Result Effect Errno) (answer : Answer) (new : ServedState) : Type 0 where
@@ -35,21 +39,20 @@ record Legally (old : ServedState) (request : Request) (result : Result Effect E
   bad_items : new.map.bad_items ≡ old.map.bad_items
   keeps_tree : IsTree old.tree → IsTree new.tree
 
--- the whole of it, where a request goes to a number
-replays : (old : ServedState) (request : Request) (dir : Number) (comes : Tree → Option FileId → Result Effect Errno) (above : Option FileId) (answer : Answer) (new : ServedState) →
-    GoesTo request dir comes → IsLocated old dir.0 above → Legally old request (comes old.tree above) answer new → Replay old request (Some answer) new
-replays old request dir comes above answer new goes at l =
-    let came : comes_to old.tree (λ n. above) request ≡ comes old.tree above = goes.comes old.tree (λ n. above) in (
-      goes.ask,
-      record {
-        files = λ n. above;
-        locates = subst (λ (nodes : List Number). AllByRecursion (λ (node : Number). IsLocated old node.0 above) nodes) (sym goes.looks) (at, tt);
-        answers = subst (λ (r : Result Effect Errno). Answers (numbers_at old (place_told request)) request r answer) (sym came) l.answers;
-        makes = l.makes ∙ ap (λ (r : Result Effect Errno). plain (served_after old request r answer)) (sym came);
-        bad_items = l.bad_items;
-        keeps_tree = l.keeps_tree;
-      },
-    )
+-- the whole of it, by the deed
+replays : (old : ServedState) (request : Request) (deed : Deed) (files : ℕ → Option FileId) (answer : Answer) (new : ServedState) → deed_of request ≡ deed → is_ask request ≡ true →
+    AllByRecursion (λ (node : Number). IsLocated old node.0 (files node.0)) (looked_at deed) → Legally old request (done_to old.tree files deed) answer new → Replay old request (Some answer) new
+replays old request deed files answer new does ask at l = (
+  ask,
+  record {
+    files = files;
+    locates = subst (λ (d : Deed). AllByRecursion (λ (node : Number). IsLocated old node.0 (files node.0)) (looked_at d)) (sym does) at;
+    answers = subst (λ (d : Deed). Answers (numbers_at old (place_told request)) request (done_to old.tree files d) answer) (sym does) l.answers;
+    makes = l.makes ∙ ap (λ (d : Deed). plain (served_after old request (done_to old.tree files d) answer)) (sym does);
+    bad_items = l.bad_items;
+    keeps_tree = l.keeps_tree;
+  },
+)
 
 -- the tree is another's
 tree-same : (old new : ServedState) → plain new ≡ plain old → IsTree old.tree → IsTree new.tree
@@ -70,7 +73,7 @@ entry-legally : (old : ServedState) (request : Request) (dir : Number) (name : L
     give_fault old.map dir.0 name ≡ None → number ≡ number_given old.map dir.0 name → attr_of tree file ≡ Some attr → (IsTree old.tree → IsTree tree) → IsSamePlainly (record { map = given old.map dir name; tree = tree }) new →
     Legally old request (Ok (entered tree file)) (telling request number attr) new
 entry-legally old request dir name tree file number attr new tells clear is is_attr stays same = record {
-  answers = subst (λ (p : Option (Number × List ℕ)). AnswersFile (numbers_at old p) request tree (Some file) true (telling request number attr)) (sym tells.told)
+  answers = subst (λ (p : Option (Number × List ℕ)). AnswersFile (numbers_at old p) request tree (Some file) true none_lost (telling request number attr)) (sym tells.told)
       (None, sym (ap number_fault clear), inl (record { number = number; attr = attr; is = refl; is_number = ap (λ (n : Number). n.0) is; is_attr = is_attr }));
   makes = same.plainly ∙ sym (ap plain (entry-after old request dir name (entered tree file) (telling request number attr) number tells (tells.gives number attr)));
   bad_items = same.bad_items ∙ given-bad_items old.map dir name;
@@ -78,20 +81,20 @@ entry-legally old request dir name tree file number attr new tells clear is is_a
 }
 
 refused_in : (old : ServedState) (request : Request) (dir : Number) (name : List ℕ) (tree : Tree) (file : FileId) (errno : Errno) (fault : GiveFault) → IsGiveRefusal old.map dir.0 name fault → errno ≡ errno_of fault →
-    AnswersFile (numbers_at old (Some (dir, name))) request tree (Some file) true (Error errno)
+    AnswersFile (numbers_at old (Some (dir, name))) request tree (Some file) true none_lost (Error errno)
 refused_in old request dir name tree file errno NoNumber refusal e = (Some none_left, sym (ap number_fault refusal), ap Error e)
 refused_in old request dir name tree file errno TooMany refusal e = (Some at_greatest, sym (ap number_fault refusal), ap Error e)
 refused_in old request dir name tree file errno NoMemory refusal e = (None, sym (ap number_fault refusal.1), inr (inr (ap Error e, refusal.0)))
 
 -- nothing stands against its number, and the backing failed
 backed_in : (old : ServedState) (request : Request) (dir : Number) (name : List ℕ) (tree : Tree) (file : FileId) (errno : Errno) → errno ≡ EIO → give_fault old.map dir.0 name ≡ None → IsUnloaded old file →
-    AnswersFile (numbers_at old (Some (dir, name))) request tree (Some file) true (Error errno)
+    AnswersFile (numbers_at old (Some (dir, name))) request tree (Some file) true none_lost (Error errno)
 backed_in old request dir name tree file errno e clear is = (None, sym (ap number_fault clear), inr (inl (ap Error e, is)))
 
 unentered-legally : (old : ServedState) (request : Request) (dir : Number) (name : List ℕ) (tree : Tree) (file : FileId) (errno : Errno) (new : ServedState) → TellsEntry request dir name →
-    AnswersFile (numbers_at old (Some (dir, name))) request tree (Some file) true (Error errno) → IsSamePlainly old new → Legally old request (Ok (entered tree file)) (Error errno) new
+    AnswersFile (numbers_at old (Some (dir, name))) request tree (Some file) true none_lost (Error errno) → IsSamePlainly old new → Legally old request (Ok (entered tree file)) (Error errno) new
 unentered-legally old request dir name tree file errno new tells refusal same = record {
-  answers = subst (λ (p : Option (Number × List ℕ)). AnswersFile (numbers_at old p) request tree (Some file) true (Error errno)) (sym tells.told) refusal;
+  answers = subst (λ (p : Option (Number × List ℕ)). AnswersFile (numbers_at old p) request tree (Some file) true none_lost (Error errno)) (sym tells.told) refusal;
   makes = same.plainly ∙ sym (ap plain (error-after old request (Ok (entered tree file)) errno));
   bad_items = same.bad_items;
   keeps_tree = tree-same old new same.plainly;
@@ -122,7 +125,7 @@ module _ (old : ServedState) (request : Request) (dir : Number) (name : List ℕ
   -- a name that is found is a legal step
   pub find-replay : (answer : Answer) (new : ServedState) → LooksUp old dir name answer new → Replay old request (Some answer) new
   find-replay answer new l =
-      replays old request dir (λ tree above. enters tree (found_in tree above name)) l.dir_file answer new (find-goes request dir name does) l.located (gives_found (found_in old.tree l.dir_file name) answer new l.gives)
+      replays old request (find_name dir name) (λ n. l.dir_file) answer new does (looks-ask request dir [] (ap looked_at does)) (l.located, tt) (gives_found (found_in old.tree l.dir_file name) answer new l.gives)
 
 -- ---- a file that is made
 
@@ -145,7 +148,7 @@ makes_in old request dir name kind perm (Ok above) (Err errno) new tells free ((
 pub make-replay : (old : ServedState) (request : Request) (dir : Number) (name : List ℕ) (kind : Kind) (perm : Perm) (told : Result (Number × Attr) Errno) (new : ServedState) → deed_of request ≡ make_file dir name kind perm → Makes old dir name kind perm told new →
     Replay old request (Some (made_answer request told)) new
 make-replay old request dir name kind perm told new does m =
-    replays old request dir _ m.dir_file _ new (make-goes request dir name kind perm does) m.located (makes_in old request dir name kind perm (free_in old.tree m.dir_file name) told new (make-tells request dir name kind perm does) (m.dir_file, refl) m.makes)
+    replays old request (make_file dir name kind perm) (λ n. m.dir_file) _ new does (looks-ask request dir [] (ap looked_at does)) (m.located, tt) (makes_in old request dir name kind perm (free_in old.tree m.dir_file name) told new (make-tells request dir name kind perm does) (m.dir_file, refl) m.makes)
 
 -- ---- a name that is taken away
 
@@ -165,29 +168,69 @@ takes_in old request dir name against (Some above) answer new place frees h = in
     keeps_tree = λ was. subst (λ (s : ServedState). IsTree s.tree) (sym made) (removed-IsTree old.tree above name file was (found-child old.tree above file name (unless-found against found file r).0) (frees file (unless-found against found file r).1));
   }) where
     effect : Effect
-    effect = record { tree = removed old.tree above name; file = None; counts = false; unnamed = Some file }
+    effect = record { tree = removed old.tree above name; file = None; counts = false; names = one_lost file }
 
 -- taking a name away is a legal step
 pub take-replay : (old : ServedState) (request : Request) (dir : Number) (name : List ℕ) (kind : Kind) (answer : Answer) (new : ServedState) → deed_of request ≡ take_name dir name kind → Takes old dir name (against_taking kind old.tree) answer new → Replay old request (Some answer) new
 take-replay old request dir name kind answer new does t =
-    replays old request dir (λ tree above. takes_from tree (against_taking kind tree) above name) t.dir_file answer new (take-goes request dir name kind does) t.located
+    replays old request (take_name dir name kind) (λ n. t.dir_file) answer new does (looks-ask request dir [] (ap looked_at does)) (t.located, tt)
     (takes_in old request dir name (against_taking kind old.tree) t.dir_file answer new (take-takes request dir name kind does) (take-frees kind old.tree) t.takes)
+
+-- ---- a name that moves
+
+moves_in : (old : ServedState) (request : Request) (dir : Number) (name : List ℕ) (to_dir : Number) (to_name : List ℕ) (o p : Option FileId) (answer : Answer) (new : ServedState) → MovesPlace request dir name to_dir to_name →
+    MovesName old dir name to_dir to_name (moves_between old.tree o name p to_name) answer new → Legally old request (moves_between old.tree o name p to_name) answer new
+moves_in old request dir name to_dir to_name o p answer new place h = in_ (moves_between old.tree o name p to_name) refl h where
+  Answered : Effect → Answer → Type 0
+  Answered effect a = Answers (numbers_at old (place_told request)) request (Ok effect) a
+
+  in_ : (r : Result Effect Errno) → moves_between old.tree o name p to_name ≡ r → MovesName old dir name to_dir to_name r answer new → Legally old request r answer new
+  in_ (Err errno) is (e, same) = subst (λ (a : Answer). Legally old request (Err errno) a new) (sym e) (error-legally old request errno new same)
+  in_ (Ok effect) is (inr (e, replaced, moved, same)) = subst (λ (a : Answer). Legally old request (Ok effect) a new) (sym e) (record {
+    answers = by-move old.tree o name p to_name effect is (λ (x : Effect). x.names ≡ one_moved replaced → Answered x (Error ENOMEM)) (λ k. absurd (let none : ⊥ = cc in none)) (λ from to g k. inr refl) moved;
+    makes = same.plainly ∙ sym (ap plain (error-after old request (Ok effect) ENOMEM));
+    bad_items = same.bad_items;
+    keeps_tree = tree-same old new same.plainly;
+  })
+  in_ (Ok effect) is (inl (e, is_tree, same)) = subst (λ (a : Answer). Legally old request (Ok effect) a new) (sym e) (record {
+    answers = by-move old.tree o name p to_name effect is (λ (x : Effect). Answered x Done) refl (λ from to g. inl refl);
+    makes = same.plainly ∙ sym (ap plain (moved-after old request dir name to_dir to_name effect place));
+    bad_items = same.bad_items ∙ moved-bad_items old.map dir name to_dir to_name effect.names;
+    keeps_tree = λ was. tree-same (record { map = names_changed old.map (move_name dir name to_dir to_name) effect.names; tree = effect.tree }) new same.plainly is_tree;
+  })
+
+-- which file a number names is one
+located-same : (served : ServedState) (n : ℕ) (o p : Option FileId) → IsLocated served n o → IsLocated served n p → o ≡ p
+located-same served n None None nobody none = refl
+located-same served n None (Some file) nobody at = absurd (nobody file at)
+located-same served n (Some file) None at nobody = absurd (nobody file at)
+located-same served n (Some file) (Some other) at there = ap (λ (f : FileId). Some f) (IsFileOf-same served.tree served.map.entries n file other at there)
+
+-- moving a name is a legal step
+pub move-replay : (old : ServedState) (request : Request) (dir : Number) (name : List ℕ) (to_dir : Number) (to_name : List ℕ) (answer : Answer) (new : ServedState) → deed_of request ≡ move_name dir name to_dir to_name →
+    Moves old dir name to_dir to_name answer new → Replay old request (Some answer) new
+move-replay old request dir name to_dir to_name answer new does m =
+    replays old request (move_name dir name to_dir to_name) files answer new does (looks-ask request dir (to_dir ∷ []) (ap looked_at does))
+    (subst (IsLocated old dir.0) (sym here) m.located, (subst (IsLocated old to_dir.0) (sym there) m.to_located, tt))
+    (subst (λ (r : Result Effect Errno). Legally old request r answer new) (sym (ap (λ (o : Option FileId). moves_between old.tree o name (files to_dir.0) to_name) here ∙ ap (λ (o : Option FileId). moves_between old.tree m.dir_file name o to_name) there))
+    (moves_in old request dir name to_dir to_name m.dir_file m.to_file answer new (move-moves request dir name to_dir to_name does) m.moves)) where
+      files : ℕ → Option FileId
+      files n = if n == dir.0 then m.dir_file else m.to_file
+
+      here : files dir.0 ≡ m.dir_file
+      here = ap (λ (b : Bool). if b then m.dir_file else m.to_file) (eq-true dir.0 dir.0 refl)
+
+      there : files to_dir.0 ≡ m.to_file
+      there = in_ (to_dir.0 == dir.0) refl where
+        in_ : (b : Bool) → (to_dir.0 == dir.0) ≡ b → (if b then m.dir_file else m.to_file) ≡ m.to_file
+        in_ false e = refl
+        in_ true e = located-same old to_dir.0 m.dir_file m.to_file (subst (λ (n : ℕ). IsLocated old n m.dir_file) (sym (true-eq to_dir.0 dir.0 e)) m.located) m.to_located
 
 -- ---- the others
 
 -- a request that is served by none is answered so, and changes nothing
 pub unserved-replay : (old : ServedState) (request : Request) → is_ask request ≡ true → deed_of request ≡ unserved → Replay old request (Some (Error ENOSYS)) old
-unserved-replay old request ask does = (
-  ask,
-  record {
-    files = λ n. None;
-    locates = subst (λ (nodes : List Number). AllByRecursion (λ (node : Number). IsLocated old node.0 None) nodes) (sym (ap looked_at does)) tt;
-    answers = subst (λ (r : Result Effect Errno). Answers (numbers_at old (place_told request)) request r (Error ENOSYS)) (sym (ap (done_to old.tree (λ n. None)) does)) refl;
-    makes = sym (ap plain (error-after old request (comes_to old.tree (λ n. None) request) ENOSYS));
-    bad_items = refl;
-    keeps_tree = λ was. was;
-  },
-)
+unserved-replay old request ask does = replays old request unserved (λ n. None) (Error ENOSYS) old does ask tt (error-legally old request ENOSYS old (same_of old old refl))
 
 -- what is shown, where a number names this file or none
 shows_in : (old : ServedState) (request : Request) (node : Number) (o : Option FileId) (answer : Answer) (new : ServedState) → deed_of request ≡ show_file node → ShowsFile old node o answer → IsSamePlainly old new →
@@ -204,10 +247,10 @@ shows_in old request node (Some file) answer new does (inl (attr, is_attr, e)) s
     number = node;
     attr = attr;
     is = sym (ap (λ (f : Form). told_as f node attr) (show-form request node does));
-    is_number = subst (λ (nodes : List Number). Contains nodes node) (sym (show-goes request node does).nodes) (0, (let low : 0 < 1 = omega arith in low), refl);
+    is_number = subst (λ (nodes : List Number). Contains nodes node) (sym (looks-nodes request node [] (ap looked_at does))) (0, (let low : 0 < 1 = omega arith in low), refl);
     is_attr = is_attr;
   });
-  makes = same.plainly ∙ sym (ap plain (shown-after old request (shown old.tree file) (Attrs node attr) (ap place_entered does) (ap place_left does) refl));
+  makes = same.plainly ∙ sym (ap plain (shown-after old request node (shown old.tree file) (Attrs node attr) does refl));
   bad_items = same.bad_items;
   keeps_tree = tree-same old new same.plainly;
 })
@@ -215,4 +258,4 @@ shows_in old request node (Some file) answer new does (inl (attr, is_attr, e)) s
 -- a file that is shown is a legal step, after which there is plainly what there was
 pub show-replay : (old : ServedState) (request : Request) (node : Number) (answer : Answer) (new : ServedState) → deed_of request ≡ show_file node → Shows old node answer → IsSamePlainly old new → Replay old request (Some answer) new
 show-replay old request node answer new does s same =
-    replays old request node shows s.file answer new (show-goes request node does) s.located (shows_in old request node s.file answer new does s.shows same)
+    replays old request (show_file node) (λ n. s.file) answer new does (looks-ask request node [] (ap looked_at does)) (s.located, tt) (shows_in old request node s.file answer new does s.shows same)

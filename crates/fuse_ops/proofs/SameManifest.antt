@@ -1,14 +1,15 @@
 -- The tree stays one of its manifest, whatever a daemon is asked.
-use Rattle.std.proofs.Common.{◌≡◌, ℕ, List, Option, Some, None, Result, Ok, Err, refl, ap, ◌∙◌}
+use Rattle.std.proofs.Common.{◌≡◌, ℕ, Bool, true, false, List, Option, Some, None, Result, Ok, Err, refl, ap, ◌∙◌}
+use Rattle.std.specs.Prelude.{if◌then◌else◌}
 use Rattle.eden_base.specs.declared.attr.Kind.{Kind}
 use Rattle.eden_base.specs.declared.attr.Perm.{Perm}
 use Rattle.eden_base.specs.declared.errno.Errno.{Errno}
 use Rattle.eden_base.specs.declared.number.FileId.{FileId}
-use Rattle.manifest.specs.Tree.{Tree}
+use Rattle.manifest.specs.Tree.{Tree, child_of}
 use Rattle.fuse_wire.specs.declared.request.Request.{Request}
 use Rattle.fuse_wire.specs.declared.reply.Answer.{Answer}
 use Rattle.fuse_wire.specs.declared.reply.Answer.TheVariants.{Entry, Opened, Attrs, Done, Error}
-use Rattle.fuse_ops.specs.Answers.{Effect, Deed, find_name, make_file, take_name, show_file, unserved, deed_of, done_to, comes_to, found_in, free_in, enters, shows, makes, takes, takes_from, unless, against_taking, tree_after}
+use Rattle.fuse_ops.specs.Answers.{none_lost, Effect, Deed, find_name, make_file, take_name, move_name, show_file, unserved, deed_of, done_to, comes_to, found_in, free_in, enters, shows, makes, takes, takes_from, movable, against_replacing, is_there, moves, moves_to, moves_between, unless, against_taking, tree_after}
 use Rattle.fuse_ops.specs.Served.{ServedState, PlainState, Replay}
 
 -- a success is over a tree of the same manifest
@@ -36,10 +37,24 @@ takes_from-over : (tree : Tree) (against : FileId → Option Errno) (o : Option 
 takes_from-over tree against (Some dir) name = takes-over tree dir name (unless against (found_in tree (Some dir) name))
 takes_from-over tree against None name = tt
 
+moves_to-over : (tree : Tree) (dir : FileId) (name : List ℕ) (to_dir : FileId) (to_name : List ℕ) (r : Result FileId Errno) → IsOver tree (moves_to tree dir name to_dir to_name r)
+moves_to-over tree dir name to_dir to_name (Err errno) = tt
+moves_to-over tree dir name to_dir to_name (Ok file) = in_ (is_there (child_of tree to_dir to_name) file) (against_replacing tree file (child_of tree to_dir to_name)) where
+  in_ : (b : Bool) (o : Option Errno) → IsOver tree (if b then Ok (record { tree = tree; file = None; counts = false; names = none_lost }) else moves tree dir name to_dir to_name o)
+  in_ true o = refl
+  in_ false None = refl
+  in_ false (Some errno) = tt
+
+moves_between-over : (tree : Tree) (o : Option FileId) (name : List ℕ) (p : Option FileId) (to_name : List ℕ) → IsOver tree (moves_between tree o name p to_name)
+moves_between-over tree (Some dir) name (Some to_dir) to_name = moves_to-over tree dir name to_dir to_name (movable tree dir name to_dir)
+moves_between-over tree (Some dir) name None to_name = tt
+moves_between-over tree None name p to_name = tt
+
 done-over : (tree : Tree) (files : ℕ → Option FileId) (deed : Deed) → IsOver tree (done_to tree files deed)
 done-over tree files (find_name dir name) = enters-over tree (found_in tree (files dir.0) name)
 done-over tree files (make_file dir name kind perm) = makes-over tree name kind perm (free_in tree (files dir.0) name)
 done-over tree files (take_name dir name kind) = takes_from-over tree (against_taking kind tree) (files dir.0) name
+done-over tree files (move_name dir name to_dir to_name) = moves_between-over tree (files dir.0) name (files to_dir.0) to_name
 done-over tree files (show_file node) = shows-over tree (files node.0)
 done-over tree files unserved = tt
 

@@ -1,5 +1,5 @@
--- Requests by their deeds: what becomes of a name by them, and which number they go to. A kind of request more whose
--- deed is one of these needs no line here.
+-- Requests by their deeds: what becomes of a name by them. A kind of request more whose deed is one of these needs no
+-- line here.
 use Rattle.std.proofs.Common.{◌≡◌, ℕ, ◌+◌, Bool, true, false, ◌&&◌, List, [], ◌∷◌, ◌++◌, Option, Some, None, is_some, Result, Ok, Err, refl, sym, ap, ◌∙◌}
 use Rattle.std.specs.Prelude.{if◌then◌else◌}
 use Rattle.eden_base.specs.First.{changed_where}
@@ -9,12 +9,12 @@ use Rattle.eden_base.specs.declared.attr.Kind.{Kind}
 use Rattle.eden_base.specs.declared.attr.Kind.TheVariants.{Dir, File}
 use Rattle.eden_base.specs.declared.attr.Perm.{Perm}
 use Rattle.eden_base.specs.declared.errno.Errno.{Errno}
-use Rattle.eden_base.specs.declared.errno.Errno.TheVariants.{EISDIR, ENOTDIR, ENOTEMPTY, ESTALE}
+use Rattle.eden_base.specs.declared.errno.Errno.TheVariants.{EISDIR, ENOTDIR, ENOTEMPTY}
 use Rattle.eden_base.specs.declared.number.FileId.{FileId}
 use Rattle.eden_base.specs.declared.number.Number.{Number}
 use Rattle.manifest.specs.Tree.{Tree, kind_of, is_dir}
 use Rattle.checkout.specs.ChangedTree.{has_links, is_full_dir}
-use Rattle.fuse_wire.specs.Request.{is_ask, nodes, form_of}
+use Rattle.fuse_wire.specs.Request.{form_of}
 use Rattle.fuse_wire.specs.Given.{given_out}
 use Rattle.fuse_wire.specs.declared.request.Request.{Request}
 use Rattle.fuse_wire.specs.declared.request.Request.TheVariants.{Other}
@@ -22,48 +22,36 @@ use Rattle.fuse_wire.specs.declared.form.Form.TheVariants.{AnEntry, Attributes, 
 use Rattle.fuse_wire.specs.declared.reply.Answer.{Answer}
 use Rattle.fuse_wire.specs.declared.reply.Answer.TheVariants.{Entry, Opened, Attrs, Done, Error}
 use Rattle.entry_table.specs.Entries.{entry_at, stands_at, once_more, new_entry}
-use Rattle.inode_map.specs.InodeMap.{MapState, given, unlinked}
+use Rattle.inode_map.specs.InodeMap.{MapState, given, unlinked, relinked}
 use Rattle.entry_table.specs.declared.kept.Kept.{Kept}
-use Rattle.fuse_ops.specs.Answers.{Effect, find_name, make_file, take_name, show_file, deed_of, looked_at, done_to, looks_at, comes_to, found_in, free_in, enters, shows, makes, takes_from, unless, against_unlink, against_rmdir, against_taking, telling, tree_after, file_unnamed}
-use Rattle.fuse_ops.specs.Served.{ServedState, place_entered, place_left, place_told, place_taken, name_taken, map_after, map_without, served_after}
-
--- the request goes to a number, and comes to something by what that number names
-pub record GoesTo (request : Request) (node : Number) (effect : Tree → Option FileId → Result Effect Errno) : Type 0 where
-  pub ask : is_ask request ≡ true
-  pub looks : looks_at request ≡ node ∷ []
-  pub nodes : nodes request ≡ node ∷ []
-  pub comes : (tree : Tree) (files : ℕ → Option FileId) → comes_to tree files request ≡ effect tree (files node.0)
-  pub stale : (tree : Tree) → effect tree None ≡ Err ESTALE
+use Rattle.fuse_ops.specs.Answers.{NameChange, none_lost, one_lost, one_moved, Effect, Deed, find_name, make_file, take_name, move_name, show_file, deed_of, unless, against_unlink, against_rmdir, against_taking, telling, tree_after, name_change}
+use Rattle.fuse_ops.specs.Served.{ServedState, place_entered, place_told, name_taken, map_after, names_changed, served_after}
 
 -- the success of this request tells the entry of this name
 pub record TellsEntry (request : Request) (dir : Number) (name : List ℕ) : Type 0 where
   pub told : place_told request ≡ Some (dir, name)
-  pub taken : place_taken request ≡ None
+  pub stays : (map : MapState) (change : NameChange) → names_changed map (deed_of request) change ≡ map
   pub gives : (number : Number) (attr : Attr) → given_out (telling request number attr) ≡ Some number
 
 -- the success of this request takes this name away
 pub record TakesPlace (request : Request) (dir : Number) (name : List ℕ) : Type 0 where
   pub told : place_told request ≡ None
-  pub taken : place_taken request ≡ Some (dir, name)
+  pub takes : (map : MapState) (file : FileId) → names_changed map (deed_of request) (one_lost file) ≡ name_taken map dir name file
+
+-- the success of this request moves a name from one place to another, or takes none away
+pub record MovesPlace (request : Request) (dir : Number) (name : List ℕ) (to_dir : Number) (to_name : List ℕ) : Type 0 where
+  pub told : place_told request ≡ None
+  pub moves : (map : MapState) (change : NameChange) → names_changed map (deed_of request) change ≡ names_changed map (move_name dir name to_dir to_name) change
 
 -- a file of a tree, whose number is held once more
 abbrev pub entered : Tree → FileId → Effect
-entered tree file = record { tree = tree; file = Some file; counts = true; unnamed = None }
+entered tree file = record { tree = tree; file = Some file; counts = true; names = none_lost }
 
 -- a file of a tree that stays as it is, whose number is held as often as before
 abbrev pub shown : Tree → FileId → Effect
-shown tree file = record { tree = tree; file = Some file; counts = false; unnamed = None }
+shown tree file = record { tree = tree; file = Some file; counts = false; names = none_lost }
 
 -- ---- the requests
-
--- what looks at a number is answered, and goes to that number
-looks-ask : (request : Request) (node : Number) → looks_at request ≡ node ∷ [] → is_ask request ≡ true
-looks-ask (Other opcode other) node e = refl
-looks-ask request node e = cc
-
-looks-nodes : (request : Request) (node : Number) → looks_at request ≡ node ∷ [] → nodes request ≡ node ∷ []
-looks-nodes (Other opcode other) node e = absurd (let none : ⊥ = cc in none)
-looks-nodes request node e = e
 
 -- what tells an entry gives its number out
 entry-gives : (request : Request) (dir : Number) (name : List ℕ) → place_told request ≡ Some (dir, name) → (number : Number) (attr : Attr) → given_out (telling request number attr) ≡ Some number
@@ -83,50 +71,21 @@ pub take-form : (request : Request) (dir : Number) (name : List ℕ) (kind : Kin
 take-form (Other opcode node) dir name kind e = absurd (let none : ⊥ = cc in none)
 take-form request dir name kind e = cc
 
-pub find-goes : (request : Request) (dir : Number) (name : List ℕ) → deed_of request ≡ find_name dir name → GoesTo request dir (λ tree above. enters tree (found_in tree above name))
-find-goes request dir name e = record {
-  ask = looks-ask request dir (ap looked_at e);
-  looks = ap looked_at e;
-  nodes = looks-nodes request dir (ap looked_at e);
-  comes = λ tree files. ap (done_to tree files) e;
-  stale = λ tree. refl;
-}
-
-pub make-goes : (request : Request) (dir : Number) (name : List ℕ) (kind : Kind) (perm : Perm) → deed_of request ≡ make_file dir name kind perm → GoesTo request dir (λ tree above. makes tree name kind perm (free_in tree above name))
-make-goes request dir name kind perm e = record {
-  ask = looks-ask request dir (ap looked_at e);
-  looks = ap looked_at e;
-  nodes = looks-nodes request dir (ap looked_at e);
-  comes = λ tree files. ap (done_to tree files) e;
-  stale = λ tree. refl;
-}
-
-pub take-goes : (request : Request) (dir : Number) (name : List ℕ) (kind : Kind) → deed_of request ≡ take_name dir name kind → GoesTo request dir (λ tree above. takes_from tree (against_taking kind tree) above name)
-take-goes request dir name kind e = record {
-  ask = looks-ask request dir (ap looked_at e);
-  looks = ap looked_at e;
-  nodes = looks-nodes request dir (ap looked_at e);
-  comes = λ tree files. ap (done_to tree files) e;
-  stale = λ tree. refl;
-}
-
-pub show-goes : (request : Request) (node : Number) → deed_of request ≡ show_file node → GoesTo request node shows
-show-goes request node e = record {
-  ask = looks-ask request node (ap looked_at e);
-  looks = ap looked_at e;
-  nodes = looks-nodes request node (ap looked_at e);
-  comes = λ tree files. ap (done_to tree files) e;
-  stale = λ tree. refl;
-}
+pub move-form : (request : Request) (dir : Number) (name : List ℕ) (to_dir : Number) (to_name : List ℕ) → deed_of request ≡ move_name dir name to_dir to_name → form_of request ≡ NoValue
+move-form (Other opcode node) dir name to_dir to_name e = absurd (let none : ⊥ = cc in none)
+move-form request dir name to_dir to_name e = cc
 
 pub find-tells : (request : Request) (dir : Number) (name : List ℕ) → deed_of request ≡ find_name dir name → TellsEntry request dir name
-find-tells request dir name e = record { told = ap place_entered e; taken = ap place_left e; gives = entry-gives request dir name (ap place_entered e) }
+find-tells request dir name e = record { told = ap place_entered e; stays = λ map change. ap (λ (d : Deed). names_changed map d change) e; gives = entry-gives request dir name (ap place_entered e) }
 
 pub make-tells : (request : Request) (dir : Number) (name : List ℕ) (kind : Kind) (perm : Perm) → deed_of request ≡ make_file dir name kind perm → TellsEntry request dir name
-make-tells request dir name kind perm e = record { told = ap place_entered e; taken = ap place_left e; gives = entry-gives request dir name (ap place_entered e) }
+make-tells request dir name kind perm e = record { told = ap place_entered e; stays = λ map change. ap (λ (d : Deed). names_changed map d change) e; gives = entry-gives request dir name (ap place_entered e) }
 
 pub take-takes : (request : Request) (dir : Number) (name : List ℕ) (kind : Kind) → deed_of request ≡ take_name dir name kind → TakesPlace request dir name
-take-takes request dir name kind e = record { told = ap place_entered e; taken = ap place_left e }
+take-takes request dir name kind e = record { told = ap place_entered e; takes = λ map file. ap (λ (d : Deed). names_changed map d (one_lost file)) e }
+
+pub move-moves : (request : Request) (dir : Number) (name : List ℕ) (to_dir : Number) (to_name : List ℕ) → deed_of request ≡ move_name dir name to_dir to_name → MovesPlace request dir name to_dir to_name
+move-moves request dir name to_dir to_name e = record { told = ap place_entered e; moves = λ map change. ap (λ (d : Deed). names_changed map d change) e }
 
 -- ---- what stood against a name that is taken
 
@@ -161,16 +120,18 @@ unless-found against (Ok f) file e = in_ (against f) refl e where
 
 -- ---- what is known after an answer
 
+-- where no file lost its name the map stays
+none-changed : (map : MapState) (deed : Deed) → names_changed map deed none_lost ≡ map
+none-changed map (take_name dir name kind) = refl
+none-changed map (move_name dir name to_dir to_name) = refl
+none-changed map deed = refl
+
 -- an error changes nothing
 pub error-after : (old : ServedState) (request : Request) (result : Result Effect Errno) (errno : Errno) → served_after old request result (Error errno) ≡ old
-error-after old request result errno = ap (λ (m : MapState). record old { map = m }) (no_loss (map_after old.map (place_told request) None) (place_taken request) ∙ no_gift old.map (place_told request)) where
+error-after old request result errno = ap (λ (m : MapState). record old { map = m }) (none-changed (map_after old.map (place_told request) None) (deed_of request) ∙ no_gift old.map (place_told request)) where
   no_gift : (map : MapState) (place : Option (Number × List ℕ)) → map_after map place None ≡ map
   no_gift map None = refl
   no_gift map (Some place) = refl
-
-  no_loss : (map : MapState) (place : Option (Number × List ℕ)) → map_without map place None ≡ map
-  no_loss map None = refl
-  no_loss map (Some place) = refl
 
 -- what gives a number out is a success, whose tree is the tree after it
 pub gift-tree : (tree : Tree) (effect : Effect) (answer : Answer) (number : Number) → given_out answer ≡ Some number → tree_after tree (Ok effect) answer ≡ effect.tree
@@ -184,28 +145,34 @@ gift-tree tree effect (Error errno) number e = absurd (let none : ⊥ = cc in no
 pub entry-after : (old : ServedState) (request : Request) (dir : Number) (name : List ℕ) (effect : Effect) (answer : Answer) (number : Number) → TellsEntry request dir name → given_out answer ≡ Some number →
     served_after old request (Ok effect) answer ≡ record { map = given old.map dir name; tree = effect.tree }
 entry-after old request dir name effect answer number tells e = λ i. record { map = map_is i; tree = gift-tree old.tree effect answer number e i } where
-  map_is : map_without (map_after old.map (place_told request) (given_out answer)) (place_taken request) (file_unnamed (Ok effect) answer) ≡ given old.map dir name
-  map_is = ap (λ (p : Option (Number × List ℕ)). map_without (map_after old.map (place_told request) (given_out answer)) p (file_unnamed (Ok effect) answer)) tells.taken
+  map_is : names_changed (map_after old.map (place_told request) (given_out answer)) (deed_of request) (name_change (Ok effect) answer) ≡ given old.map dir name
+  map_is = tells.stays (map_after old.map (place_told request) (given_out answer)) (name_change (Ok effect) answer)
       ∙ ap (λ (p : Option (Number × List ℕ)). map_after old.map p (given_out answer)) tells.told
       ∙ ap (λ (o : Option Number). map_after old.map (Some (dir, name)) o) e
 
--- attributes that are shown change nothing
-pub shown-after : (old : ServedState) (request : Request) (effect : Effect) (answer : Answer) → place_told request ≡ None → place_taken request ≡ None → (tree_after old.tree (Ok effect) answer ≡ old.tree) → served_after old request (Ok effect) answer ≡ old
-shown-after old request effect answer told taken stays = λ i. record { map = map_is i; tree = stays i } where
-  map_is : map_without (map_after old.map (place_told request) (given_out answer)) (place_taken request) (file_unnamed (Ok effect) answer) ≡ old.map
-  map_is = ap (λ (p : Option (Number × List ℕ)). map_without (map_after old.map (place_told request) (given_out answer)) p (file_unnamed (Ok effect) answer)) taken
-      ∙ ap (λ (p : Option (Number × List ℕ)). map_after old.map p (given_out answer)) told
+-- a file that is shown changes nothing
+pub shown-after : (old : ServedState) (request : Request) (node : Number) (effect : Effect) (answer : Answer) → deed_of request ≡ show_file node → (tree_after old.tree (Ok effect) answer ≡ old.tree) → served_after old request (Ok effect) answer ≡ old
+shown-after old request node effect answer does stays = λ i. record { map = map_is i; tree = stays i } where
+  map_is : names_changed (map_after old.map (place_told request) (given_out answer)) (deed_of request) (name_change (Ok effect) answer) ≡ old.map
+  map_is = ap (λ (d : Deed). names_changed (map_after old.map (place_entered d) (given_out answer)) d (name_change (Ok effect) answer)) does
 
 -- the name of the file is taken
-pub done-after : (old : ServedState) (request : Request) (dir : Number) (name : List ℕ) (effect : Effect) (file : FileId) → TakesPlace request dir name → effect.unnamed ≡ Some file →
+pub done-after : (old : ServedState) (request : Request) (dir : Number) (name : List ℕ) (effect : Effect) (file : FileId) → TakesPlace request dir name → effect.names ≡ one_lost file →
     served_after old request (Ok effect) Done ≡ record { map = name_taken old.map dir name file; tree = effect.tree }
 done-after old request dir name effect file takes e = λ i. record { map = map_is i; tree = effect.tree } where
-  map_is : map_without (map_after old.map (place_told request) None) (place_taken request) effect.unnamed ≡ name_taken old.map dir name file
-  map_is = ap (λ (p : Option (Number × List ℕ)). map_without (map_after old.map p None) (place_taken request) effect.unnamed) takes.told
-      ∙ ap (λ (p : Option (Number × List ℕ)). map_without old.map p effect.unnamed) takes.taken
-      ∙ ap (λ (o : Option FileId). map_without old.map (Some (dir, name)) o) e
+  map_is : names_changed (map_after old.map (place_told request) None) (deed_of request) effect.names ≡ name_taken old.map dir name file
+  map_is = ap (λ (p : Option (Number × List ℕ)). names_changed (map_after old.map p None) (deed_of request) effect.names) takes.told
+      ∙ ap (names_changed old.map (deed_of request)) e
+      ∙ takes.takes old.map file
 
--- neither counts a bad forget
+-- the name moved, or stayed
+pub moved-after : (old : ServedState) (request : Request) (dir : Number) (name : List ℕ) (to_dir : Number) (to_name : List ℕ) (effect : Effect) → MovesPlace request dir name to_dir to_name →
+    served_after old request (Ok effect) Done ≡ record { map = names_changed old.map (move_name dir name to_dir to_name) effect.names; tree = effect.tree }
+moved-after old request dir name to_dir to_name effect place = λ i. record { map = map_is i; tree = effect.tree } where
+  map_is : names_changed (map_after old.map (place_told request) None) (deed_of request) effect.names ≡ names_changed old.map (move_name dir name to_dir to_name) effect.names
+  map_is = ap (λ (p : Option (Number × List ℕ)). names_changed (map_after old.map p None) (deed_of request) effect.names) place.told ∙ place.moves old.map effect.names
+
+-- none counts a bad forget
 pub given-bad_items : (map : MapState) (dir : Number) (name : List ℕ) → (given map dir name).bad_items ≡ map.bad_items
 given-bad_items map dir name = in_ (is_some (entry_at map.entries dir.0 name)) where
   in_ : (b : Bool) → (if b then record map { entries = changed_where (stands_at dir.0 name) once_more map.entries } else record map { entries = map.entries ++ new_entry map.next dir name ∷ []; next = map.next + 1; spare = 0 }).bad_items ≡ map.bad_items
@@ -217,3 +184,12 @@ taken-bad_items map dir name file = in_ (entry_at map.entries dir.0 name) where
   in_ : (o : Option Kept) → (option_map_or (λ (kept : Kept). unlinked map kept.number.0 file) o map).bad_items ≡ map.bad_items
   in_ None = refl
   in_ (Some kept) = refl
+
+pub moved-bad_items : (map : MapState) (dir : Number) (name : List ℕ) (to_dir : Number) (to_name : List ℕ) (change : NameChange) → (names_changed map (move_name dir name to_dir to_name) change).bad_items ≡ map.bad_items
+moved-bad_items map dir name to_dir to_name none_lost = refl
+moved-bad_items map dir name to_dir to_name (one_lost file) = refl
+moved-bad_items map dir name to_dir to_name (one_moved replaced) = in_ (entry_at map.entries dir.0 name) replaced where
+  in_ : (o : Option Kept) (r : Option FileId) → (option_map_or (λ (kept : Kept). relinked map kept.number.0 to_dir to_name r) o (option_map_or (name_taken map to_dir to_name) r map)).bad_items ≡ map.bad_items
+  in_ (Some kept) r = refl
+  in_ None None = refl
+  in_ None (Some file) = taken-bad_items map to_dir to_name file

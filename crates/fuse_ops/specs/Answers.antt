@@ -1,7 +1,7 @@
 -- How each request is answered, as a table: first what it comes to in the tree, then what forbids to give a number,
 -- then what may fail. The world's moves and the contract of `apply` use the same rows. The requests are those of
 -- `linux/fuse.h`; which errors there are, and in which order they come, is this project's own.
-use Rattle.std.specs.Prelude.{◌≡◌, ℕ, ◌+◌, ◌<◌, ◌⊎◌, Bool, true, false, nat_le, List, [], ◌∷◌, length, Contains, Option, Some, None, is_some, Result, Ok, Err, if◌then◌else◌}
+use Rattle.std.specs.Prelude.{◌≡◌, ℕ, ◌+◌, ◌<◌, ◌⊎◌, Bool, true, false, ◌==◌, ◌&&◌, nat_le, List, [], ◌∷◌, length, Contains, Option, Some, None, is_some, Result, Ok, Err, if◌then◌else◌}
 use Rattle.std.specs.Option.{option_map_or}
 use Rattle.eden_base.specs.Limits.{end_of_files}
 use Rattle.eden_base.specs.declared.attr.Attr.{Attr}
@@ -9,28 +9,39 @@ use Rattle.eden_base.specs.declared.attr.Kind.{Kind}
 use Rattle.eden_base.specs.declared.attr.Kind.TheVariants.{Dir, File}
 use Rattle.eden_base.specs.declared.attr.Perm.{Perm}
 use Rattle.eden_base.specs.declared.errno.Errno.{Errno}
-use Rattle.eden_base.specs.declared.errno.Errno.TheVariants.{ESTALE, ENOTDIR, EISDIR, ENOENT, EEXIST, ENOTEMPTY, ENOSPC, EOVERFLOW, EIO, ENOMEM, ENOSYS}
+use Rattle.eden_base.specs.declared.errno.Errno.TheVariants.{ESTALE, ENOTDIR, EISDIR, ENOENT, EEXIST, EINVAL, ENOTEMPTY, ENOSPC, EOVERFLOW, EIO, ENOMEM, ENOSYS}
 use Rattle.eden_base.specs.declared.number.FileId.{FileId}
 use Rattle.eden_base.specs.declared.number.Number.{Number}
 use Rattle.manifest.specs.Tree.{Tree, kind_of, child_of, is_dir}
 use Rattle.checkout.specs.ChangedTree.{attr_of, has_links, is_unlinked, next_file, created, removed}
+use Rattle.checkout.specs.RenamedTree.{renamed}
 use Rattle.fuse_wire.specs.Request.{nodes, form_of}
 use Rattle.fuse_wire.specs.declared.request.Request.{Request}
-use Rattle.fuse_wire.specs.declared.request.Request.TheVariants.{Lookup, Getattr, Create, Mkdir, Unlink, Rmdir}
+use Rattle.fuse_wire.specs.declared.request.Request.TheVariants.{Lookup, Getattr, Create, Mkdir, Unlink, Rmdir, Rename}
 use Rattle.fuse_wire.specs.declared.form.Form.{Form}
 use Rattle.fuse_wire.specs.declared.form.Form.TheVariants.{AnEntry, AnOpenEntry, Attributes}
 use Rattle.fuse_wire.specs.declared.reply.Answer.{Answer}
 use Rattle.fuse_wire.specs.declared.reply.Answer.TheVariants.{Entry, Opened, Attrs, Done, Error}
+use Rattle.fuse_ops.specs.Above.{is_at_or_above}
 
 -- ---- by the tree
 
+-- what became of the names that there were
+pub data NameChange : Type 0 where
+  -- each file kept its name
+  none_lost : NameChange
+  -- this file lost its name
+  one_lost : (file : FileId) → NameChange
+  -- a file moved to another name, which this file lost, if one had it
+  one_moved : (replaced : Option FileId) → NameChange
+
 -- a success: the tree after it; the file of that tree that the answer tells, if any; whether that file's number is
--- counted once more; and the file that lost its name, if any
+-- counted once more; and what became of the names that there were
 pub record Effect : Type 0 where
   pub tree : Tree
   pub file : Option FileId
   pub counts : Bool
-  pub unnamed : Option FileId
+  pub names : NameChange
 
 -- the file under a name in `dir`, which has this kind, or the error if there is no such file
 abbrev pub found_in_dir : Tree → FileId → List ℕ → Option Kind → Result FileId Errno
@@ -46,12 +57,12 @@ found_in tree None name = Err ESTALE
 
 -- a success that answers with an entry for this file and leaves the tree unchanged, or the error
 abbrev pub enters : Tree → Result FileId Errno → Result Effect Errno
-enters tree (Ok file) = Ok (record { tree = tree; file = Some file; counts = true; unnamed = None })
+enters tree (Ok file) = Ok (record { tree = tree; file = Some file; counts = true; names = none_lost })
 enters tree (Err errno) = Err errno
 
 -- a success that answers with the attributes of the file that a number names, if it names one, or the error
 abbrev pub shows : Tree → Option FileId → Result Effect Errno
-shows tree (Some file) = Ok (record { tree = tree; file = Some file; counts = false; unnamed = None })
+shows tree (Some file) = Ok (record { tree = tree; file = Some file; counts = false; names = none_lost })
 shows tree None = Err ESTALE
 
 -- `dir`, which has this kind, if it is a directory in which a new file may get this name, else the error
@@ -75,7 +86,7 @@ makes tree name kind perm (Ok dir) = Ok (record {
   tree = created tree dir name kind perm;
   file = Some (next_file tree);
   counts = true;
-  unnamed = None;
+  names = none_lost;
 })
 makes tree name kind perm (Err errno) = Err errno
 
@@ -96,7 +107,7 @@ unless against (Err errno) = Err errno
 -- a success that takes this name out of a directory, or the error
 abbrev pub takes : Tree → FileId → List ℕ → Result FileId Errno → Result Effect Errno
 takes tree dir name (Ok file) =
-    Ok (record { tree = removed tree dir name; file = None; counts = false; unnamed = Some file })
+    Ok (record { tree = removed tree dir name; file = None; counts = false; names = one_lost file })
 takes tree dir name (Err errno) = Err errno
 
 -- a success that takes a name out of the directory that a number names, if it names one, or the error
@@ -109,12 +120,66 @@ abbrev pub against_taking : Kind → Tree → FileId → Option Errno
 against_taking File = against_unlink
 against_taking Dir = against_rmdir
 
--- what is done for a request: a name in the directory of a number is found, is given to a file that is made, or is
--- taken from its file; or the file of a number is shown
+-- ---- a move
+
+-- the file, if it may move into this directory, which it may not if it is the directory or stands above it; or the error
+abbrev pub movable_into : Tree → FileId → FileId → Result FileId Errno
+movable_into tree to_dir file =
+    if is_unlinked tree to_dir then Err ENOENT
+    else if is_dir (kind_of tree file) && is_at_or_above tree file to_dir then Err EINVAL
+    else Ok file
+
+-- the file under a name in `dir`, if it may move from there into another directory, or the error
+abbrev pub movable : Tree → FileId → List ℕ → FileId → Result FileId Errno
+movable tree dir name to_dir =
+    if is_dir (kind_of tree dir) && is_dir (kind_of tree to_dir)
+    then option_map_or (movable_into tree to_dir) (child_of tree dir name) (Err ENOENT)
+    else Err ENOTDIR
+
+-- why a file may not take the name of another, if there is another: a directory takes that of an empty directory, and
+-- any other file that of a file that is no directory
+abbrev pub against_replacing : Tree → FileId → Option FileId → Option Errno
+against_replacing tree file None = None
+against_replacing tree file (Some other) =
+    if is_dir (kind_of tree file) then against_rmdir tree other else against_unlink tree other
+
+-- whether this file is the one that stands under a name
+abbrev pub is_there : Option FileId → FileId → Bool
+is_there there file = option_map_or (λ (other : FileId). other.0 == file.0) there false
+
+-- a success that moves the file under a name to another name, unless something stands against it
+abbrev pub moves : Tree → FileId → List ℕ → FileId → List ℕ → Option Errno → Result Effect Errno
+moves tree dir name to_dir to_name None = Ok (record {
+  tree = renamed tree dir name to_dir to_name;
+  file = None;
+  counts = false;
+  names = one_moved (child_of tree to_dir to_name);
+})
+moves tree dir name to_dir to_name (Some errno) = Err errno
+
+-- a success that moves a file to a name in a directory, and changes nothing if the file is there already; or the error
+abbrev pub moves_to : Tree → FileId → List ℕ → FileId → List ℕ → Result FileId Errno → Result Effect Errno
+moves_to tree dir name to_dir to_name (Ok file) =
+    if is_there (child_of tree to_dir to_name) file
+    then Ok (record { tree = tree; file = None; counts = false; names = none_lost })
+    else moves tree dir name to_dir to_name (against_replacing tree file (child_of tree to_dir to_name))
+moves_to tree dir name to_dir to_name (Err errno) = Err errno
+
+-- a success that moves a file between the directories that two numbers name, if both name one, or the error
+abbrev pub moves_between : Tree → Option FileId → List ℕ → Option FileId → List ℕ → Result Effect Errno
+moves_between tree (Some dir) name (Some to_dir) to_name =
+    moves_to tree dir name to_dir to_name (movable tree dir name to_dir)
+moves_between tree dir name to_dir to_name = Err ESTALE
+
+-- ---- what is done
+
+-- what is done for a request: a name in the directory of a number is found, is given to a file that is made, is taken
+-- from its file, or moves to another name; or the file of a number is shown
 pub data Deed : Type 0 where
   find_name : (dir : Number) (name : List ℕ) → Deed
   make_file : (dir : Number) (name : List ℕ) (kind : Kind) (perm : Perm) → Deed
   take_name : (dir : Number) (name : List ℕ) (kind : Kind) → Deed
+  move_name : (dir : Number) (name : List ℕ) (to_dir : Number) (to_name : List ℕ) → Deed
   show_file : (node : Number) → Deed
   -- nothing: the request is not served
   unserved : Deed
@@ -127,6 +192,7 @@ deed_of (Create dir name perm) = make_file dir name File perm
 deed_of (Mkdir dir name perm) = make_file dir name Dir perm
 deed_of (Unlink dir name) = take_name dir name File
 deed_of (Rmdir dir name) = take_name dir name Dir
+deed_of (Rename dir name to_dir to_name) = move_name dir name to_dir to_name
 deed_of request = unserved
 
 -- the numbers whose files are looked at for a deed
@@ -134,6 +200,7 @@ abbrev pub looked_at : Deed → List Number
 looked_at (find_name dir name) = dir ∷ []
 looked_at (make_file dir name kind perm) = dir ∷ []
 looked_at (take_name dir name kind) = dir ∷ []
+looked_at (move_name dir name to_dir to_name) = dir ∷ to_dir ∷ []
 looked_at (show_file node) = node ∷ []
 looked_at unserved = []
 
@@ -142,6 +209,8 @@ abbrev pub done_to : Tree → (ℕ → Option FileId) → Deed → Result Effect
 done_to tree files (find_name dir name) = enters tree (found_in tree (files dir.0) name)
 done_to tree files (make_file dir name kind perm) = makes tree name kind perm (free_in tree (files dir.0) name)
 done_to tree files (take_name dir name kind) = takes_from tree (against_taking kind tree) (files dir.0) name
+done_to tree files (move_name dir name to_dir to_name) =
+    moves_between tree (files dir.0) name (files to_dir.0) to_name
 done_to tree files (show_file node) = shows tree (files node.0)
 done_to tree files unserved = Err ENOSYS
 
@@ -171,7 +240,7 @@ pub data NumberFault : Type 0 where
   none_left : NumberFault
   at_greatest : NumberFault
 
--- the error for such a cause
+-- the error that a request is answered for this cause
 abbrev pub number_errno : NumberFault → Errno
 number_errno none_left = ENOSPC
 number_errno at_greatest = EOVERFLOW
@@ -207,16 +276,23 @@ AnswersShown numbers request tree file answer =
     Tells request tree file (λ n. Contains (nodes request) (record { 0 = n })) answer
     ⊎ ((answer ≡ Error EIO) × numbers.MayFail file)
 
--- this is an answer to a success, by the file that is told and whether its number is to be counted once more
-abbrev pub AnswersFile : Numbers → Request → Tree → Option FileId → Bool → Answer → Type 0
-AnswersFile numbers request tree (Some file) true answer =
+-- this is an answer to a success that tells no file, by what becomes of names; for a move memory may be refused
+abbrev pub AnswersNone : NameChange → Answer → Type 0
+AnswersNone (one_moved replaced) answer = (answer ≡ Done) ⊎ (answer ≡ Error ENOMEM)
+AnswersNone names answer = answer ≡ Done
+
+-- this is an answer to a success, by the file that is told, whether its number is to be counted once more, and what
+-- becomes of names
+abbrev pub AnswersFile : Numbers → Request → Tree → Option FileId → Bool → NameChange → Answer → Type 0
+AnswersFile numbers request tree (Some file) true names answer =
     (fault : Option NumberFault) × numbers.IsAgainst file fault × AnswersCounted numbers request tree file fault answer
-AnswersFile numbers request tree (Some file) false answer = AnswersShown numbers request tree file answer
-AnswersFile numbers request tree None counts answer = answer ≡ Done
+AnswersFile numbers request tree (Some file) false names answer = AnswersShown numbers request tree file answer
+AnswersFile numbers request tree None counts names answer = AnswersNone names answer
 
 -- this is an answer to a request, by what the request comes to
 abbrev pub Answers : Numbers → Request → Result Effect Errno → Answer → Type 0
-Answers numbers request (Ok effect) answer = AnswersFile numbers request effect.tree effect.file effect.counts answer
+Answers numbers request (Ok effect) answer =
+    AnswersFile numbers request effect.tree effect.file effect.counts effect.names answer
 Answers numbers request (Err errno) answer = answer ≡ Error errno
 
 -- a regular file of the manifest; the backing is asked for such files only
@@ -231,11 +307,11 @@ tree_after tree result (Error errno) = tree
 tree_after tree (Ok effect) answer = effect.tree
 tree_after tree (Err errno) answer = tree
 
--- the file that lost its name by an answer, if one did
-abbrev pub file_unnamed : Result Effect Errno → Answer → Option FileId
-file_unnamed result (Error errno) = None
-file_unnamed (Ok effect) answer = effect.unnamed
-file_unnamed (Err errno) answer = None
+-- what became of the names that there were by an answer; an error leaves them
+abbrev pub name_change : Result Effect Errno → Answer → NameChange
+name_change result (Error errno) = none_lost
+name_change (Ok effect) answer = effect.names
+name_change (Err errno) answer = none_lost
 
 -- the file that a success tells, if any
 abbrev pub file_told : Result Effect Errno → Option FileId

@@ -1,3 +1,4 @@
+pub mod Above
 pub mod Answers
 pub mod Changes
 pub mod Gifts

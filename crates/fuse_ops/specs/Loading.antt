@@ -1,6 +1,6 @@
 -- Where the attributes of a file come from, and which of them stay loaded. (EdenFS's inodes and backing stores; which
 -- number a request loads is this project's own.)
-use Rattle.std.specs.Prelude.{◌≡◌, ◌≢◌, ℕ, ◌<◌, ◌==◌, Bool, true, false, List, Option, Some, None, is_some, Ok, if◌then◌else◌}
+use Rattle.std.specs.Prelude.{◌≡◌, ◌≢◌, ℕ, ◌<◌, ◌==◌, ◌⊎◌, Bool, true, false, List, Option, Some, None, is_some, Ok, if◌then◌else◌}
 use Rattle.eden_base.specs.declared.attr.Attr.{Attr}
 use Rattle.eden_base.specs.declared.attr.Kind.TheVariants.{File}
 use Rattle.eden_base.specs.declared.errno.Errno.TheVariants.{EIO}
@@ -15,8 +15,8 @@ use Rattle.fuse_wire.specs.declared.reply.Answer.TheVariants.{Entry, Opened, Att
 use Rattle.entry_table.specs.Entries.{IsFileOf}
 use Rattle.inode_map.specs.InodeMap.{MapState, attr_of, give_fault, load, used}
 use Rattle.inode_map.specs.declared.loaded.LoadedAttr.{LoadedAttr}
-use Rattle.fuse_ops.specs.Answers.{Deed, find_name, show_file, deed_of, found_in}
-use Rattle.fuse_ops.specs.Served.{ServedState, IsUnloaded, place_taken, map_without, forgotten_all}
+use Rattle.fuse_ops.specs.Answers.{Deed, find_name, take_name, move_name, show_file, deed_of, found_in}
+use Rattle.fuse_ops.specs.Served.{ServedState, IsUnloaded, name_taken, name_moved, forgotten_all}
 
 -- ---- the backing
 
@@ -86,12 +86,19 @@ pub record LoadsNone (old new : MapState) : Type 0 where
   pub loaded : new.loaded ≡ old.loaded
   pub limit : new.limit ≡ old.limit
 
+-- how a deed that is answered Done changes the map, with what is loaded
+abbrev pub LoadsDone : MapState → Deed → MapState → Type 0
+LoadsDone old (take_name dir name kind) new = (file : FileId) × (new ≡ name_taken old dir name file)
+LoadsDone old (move_name dir name to_dir to_name) new =
+    (new ≡ old) ⊎ ((replaced : Option FileId) × (new ≡ name_moved old dir name to_dir to_name replaced))
+LoadsDone old deed new = new ≡ old
+
 -- How a request changes what is loaded, by its answer. Attributes that are told with a number are loaded, and an error
 -- loads none. When a number is dropped, its loaded attributes are, too.
 abbrev pub Loads : MapState → Request → Option Answer → MapState → Type 0
 Loads old request (Some (Entry number attr)) new = LoadsTold old number attr new
 Loads old request (Some (Opened number attr)) new = LoadsTold old number attr new
 Loads old request (Some (Attrs number attr)) new = LoadsTold old number attr new
-Loads old request (Some Done) new = (file : FileId) × (new ≡ map_without old (place_taken request) (Some file))
+Loads old request (Some Done) new = LoadsDone old (deed_of request) new
 Loads old request (Some (Error errno)) new = LoadsNone old new
 Loads old request None new = new ≡ forgotten_all old (items_of request)

@@ -14,11 +14,11 @@ use Rattle.fuse_wire.specs.declared.item.Item.{Item}
 use Rattle.fuse_wire.specs.declared.reply.Answer.{Answer}
 use Rattle.eden_base.specs.declared.errno.Errno.{Errno}
 use Rattle.entry_table.specs.Entries.{IsFileOf, entry_at}
-use Rattle.inode_map.specs.InodeMap.{MapState, map_of, new_map, attr_of, give_fault, given, number_given, forgotten, unlinked}
+use Rattle.inode_map.specs.InodeMap.{MapState, map_of, new_map, attr_of, give_fault, given, number_given, forgotten, unlinked, relinked}
 use Rattle.entry_table.specs.declared.kept.Kept.{Kept}
 use Rattle.inode_map.specs.declared.inode_map.GiveFault.{GiveFault}
 use Rattle.inode_map.specs.declared.inode_map.GiveFault.TheVariants.{NoNumber, TooMany, NoMemory}
-use Rattle.fuse_ops.specs.Answers.{NumberFault, none_left, at_greatest, Numbers, Effect, IsBacked, Deed, find_name, make_file, take_name, deed_of, looks_at, comes_to, Answers, tree_after, file_unnamed}
+use Rattle.fuse_ops.specs.Answers.{NumberFault, none_left, at_greatest, NameChange, one_lost, one_moved, Numbers, Effect, IsBacked, Deed, find_name, make_file, take_name, move_name, deed_of, looks_at, comes_to, Answers, tree_after, name_change}
 
 -- the numbers that a daemon gave, and the tree of its checkout
 pub record ServedState : Type 0 where
@@ -61,18 +61,9 @@ place_entered (find_name dir name) = Some (dir, name)
 place_entered (make_file dir name kind perm) = Some (dir, name)
 place_entered deed = None
 
--- the directory and the name that a deed takes away when it succeeds, if it takes one
-abbrev pub place_left : Deed → Option (Number × List ℕ)
-place_left (take_name dir name kind) = Some (dir, name)
-place_left deed = None
-
 -- the directory and the name whose number a request gives out when it succeeds, if it is answered with an entry
 abbrev pub place_told : Request → Option (Number × List ℕ)
 place_told request = place_entered (deed_of request)
-
--- the directory and the name that a request takes away when it succeeds, if it takes one
-abbrev pub place_taken : Request → Option (Number × List ℕ)
-place_taken request = place_left (deed_of request)
 
 -- the table's word for the cause why a number is not given; none for a lack of memory
 abbrev pub number_fault : Option GiveFault → Option NumberFault
@@ -113,16 +104,26 @@ abbrev pub name_taken : MapState → Number → List ℕ → FileId → MapState
 name_taken map dir name file =
     option_map_or (λ (kept : Kept). unlinked map kept.number.0 file) (entry_at map.entries dir.0 name) map
 
--- the map after an answer by which a file lost its name, if one did
-abbrev pub map_without : MapState → Option (Number × List ℕ) → Option FileId → MapState
-map_without map (Some (dir, name)) (Some file) = name_taken map dir name file
-map_without map place file = map
+-- the map after a file moved from a name in a directory to another name, which this file lost, if one did: the number of
+-- the first name, if it has one, has the new name, and that of the file that lost it names this file by a mark
+abbrev pub name_moved : MapState → Number → List ℕ → Number → List ℕ → Option FileId → MapState
+name_moved map dir name to_dir to_name file =
+    option_map_or (λ (kept : Kept). relinked map kept.number.0 to_dir to_name file)
+    (entry_at map.entries dir.0 name)
+    (option_map_or (name_taken map to_dir to_name) file map)
+
+-- the map after a deed by which this became of the names that there were
+abbrev pub names_changed : MapState → Deed → NameChange → MapState
+names_changed map (take_name dir name kind) (one_lost file) = name_taken map dir name file
+names_changed map (move_name dir name to_dir to_name) (one_moved replaced) =
+    name_moved map dir name to_dir to_name replaced
+names_changed map deed change = map
 
 -- what the daemon knows after an answer
 abbrev pub served_after : ServedState → Request → Result Effect Errno → Answer → ServedState
 served_after old request result answer = record {
-  map = map_without (map_after old.map (place_told request) (given_out answer))
-      (place_taken request) (file_unnamed result answer);
+  map = names_changed (map_after old.map (place_told request) (given_out answer)) (deed_of request)
+      (name_change result answer);
   tree = tree_after old.tree result answer;
 }
 

@@ -1,5 +1,6 @@
--- What the contracts inside the code of a served state say.
-use Rattle.std.specs.Prelude.{◌≡◌, ◌≢◌, ℕ, ◌<◌, ◌≤◌, ◌⊎◌, Bool, true, false, IsSome, List, Option, Some, None, Result, Ok, Err}
+-- What the private functions that answer a request promise: how each of them changes what a daemon knows.
+use Rattle.std.specs.Prelude.{◌≡◌, ◌≢◌, ℕ, ◌<◌, ◌≤◌, ◌⊎◌, Bool, true, false, IsSome, List, Option, Some, None, Result, Ok, Err, if◌then◌else◌}
+use Rattle.std.specs.Option.{option_map}
 use Rattle.eden_base.specs.Limits.{end_of_numbers}
 use Rattle.eden_base.specs.Name.{IsNameText}
 use Rattle.eden_base.specs.declared.attr.Kind.{Kind}
@@ -9,18 +10,21 @@ use Rattle.eden_base.specs.declared.errno.Errno.{Errno}
 use Rattle.eden_base.specs.declared.errno.Errno.TheVariants.{ESTALE, ENOSPC, EOVERFLOW, EIO, ENOMEM}
 use Rattle.eden_base.specs.declared.number.FileId.{FileId}
 use Rattle.eden_base.specs.declared.number.Number.{Number}
-use Rattle.manifest.specs.Tree.{Tree, child_of, file_of}
+use Rattle.manifest.specs.Tree.{Tree, IsTree, child_of, file_of}
 use Rattle.checkout.specs.ChangedTree.{attr_of, next_file, created, removed}
 use Rattle.fuse_wire.specs.declared.reply.Answer.{Answer}
 use Rattle.fuse_wire.specs.declared.reply.Answer.TheVariants.{Entry, Attrs, Done, Error}
 use Rattle.inode_map.specs.InodeMap.{IsGiveRefusal, give_fault, given, number_given}
 use Rattle.inode_map.specs.declared.inode_map.GiveFault.{GiveFault}
 use Rattle.inode_map.specs.declared.inode_map.GiveFault.TheVariants.{NoNumber, TooMany, NoMemory}
-use Rattle.fuse_ops.specs.Answers.{found_in, free_in, unless}
-use Rattle.fuse_ops.specs.Served.{ServedState, IsLocated, IsUnloaded, plain, name_taken}
+use Rattle.checkout.specs.RenamedTree.{renamed}
+use Rattle.entry_table.specs.Entries.{IsFileOf}
+use Rattle.fuse_ops.specs.Answers.{one_moved, Effect, found_in, free_in, unless, movable, against_replacing, is_there, moves_between, move_name}
+use Rattle.fuse_ops.specs.Served.{ServedState, IsLocated, IsUnloaded, plain, name_taken, name_moved, names_changed}
 use Rattle.fuse_ops.specs.declared.served.Found.{Found}
 use Rattle.fuse_ops.specs.declared.served.Linkage.{Linkage}
 use Rattle.fuse_ops.specs.declared.served.Linkage.TheVariants.{Linked, Unlinked}
+use Rattle.fuse_ops.specs.declared.served.moves.Movable.{Movable}
 
 -- this is the directory that a number names, with the file under a name in it, or the error if there is no such file
 abbrev pub IsFoundAs : Tree → Option FileId → List ℕ → Result Found Errno → Type 0
@@ -101,8 +105,8 @@ abbrev pub IsNextRefusal : ℕ → Errno → Type 0
 IsNextRefusal next errno =
     ((errno ≡ ENOSPC) × (end_of_numbers ≤ next)) ⊎ ((errno ≡ ENOMEM) × (next < end_of_numbers))
 
--- this is the number and the attributes of a file that was made under a free name, or the error for which it was not
--- made; and what the daemon knows after it
+-- A file is made under a free name: its number and attributes are returned, and the daemon knows them. Or the error is
+-- returned for which it isn't made, and what the daemon knows stays.
 abbrev pub MakesFile : ServedState → Number → List ℕ → FileId → Tree → Result (Number × Attr) Errno → ServedState →
     Type 0
 MakesFile old dir name file tree (Ok (number, attr)) new =
@@ -147,9 +151,70 @@ TakesName old dir (Some above) name (Ok file) answer new =
 TakesName old dir None name (Ok file) answer new = ⊥
 TakesName old dir above name (Err errno) answer new = (answer ≡ Error errno) × (new ≡ old)
 
+-- this is the answer to a move of a name, by what the move comes to, and what the daemon knows after it; for a lack of
+-- memory nothing changes
+abbrev pub MovesName : ServedState → Number → List ℕ → Number → List ℕ → Result Effect Errno → Answer → ServedState →
+    Type 0
+MovesName old dir name to_dir to_name (Ok effect) answer new =
+    ((answer ≡ Done) × IsTree effect.tree
+    × IsSamePlainly
+    (record { map = names_changed old.map (move_name dir name to_dir to_name) effect.names; tree = effect.tree }) new)
+    ⊎ ((answer ≡ Error ENOMEM) × (replaced : Option FileId) × (effect.names ≡ one_moved replaced)
+    × IsSamePlainly old new)
+MovesName old dir name to_dir to_name (Err errno) answer new = (answer ≡ Error errno) × IsSamePlainly old new
+
+-- a name moves to another name in the directory of this or another number, or this error is answered
+pub record Moves (old : ServedState) (dir : Number) (name : List ℕ) (to_dir : Number) (to_name : List ℕ)
+    (answer : Answer) (new : ServedState) : Type 0 where
+  pub dir_file : Option FileId
+  pub to_file : Option FileId
+  pub located : IsLocated old dir.0 dir_file
+  pub to_located : IsLocated old to_dir.0 to_file
+  pub moves : MovesName old dir name to_dir to_name (moves_between old.tree dir_file name to_file to_name) answer new
+
 -- a name is taken away from its file, if nothing forbids that, or this error is answered
 pub record Takes (old : ServedState) (dir : Number) (name : List ℕ) (against : FileId → Option Errno)
     (answer : Answer) (new : ServedState) : Type 0 where
   pub dir_file : Option FileId
   pub located : IsLocated old dir.0 dir_file
   pub takes : TakesName old dir dir_file name (unless against (found_in old.tree dir_file name)) answer new
+
+-- these are the directories that two numbers name, with the file under a name in the first, if it may move into the
+-- second; or the error, whatever name it would get there
+abbrev pub IsMovableAs : Tree → Option FileId → List ℕ → Option FileId → Result Movable Errno → Type 0
+IsMovableAs tree dir name to_dir (Ok found) =
+    (dir ≡ Some found.dir) × (to_dir ≡ Some found.to_dir) × (movable tree found.dir name found.to_dir ≡ Ok found.file)
+IsMovableAs tree dir name to_dir (Err errno) =
+    (to_name : List ℕ) → moves_between tree dir name to_dir to_name ≡ Err errno
+
+-- this was found: two directories and a file that may move from the first into the second, or the error
+pub record FindsMovable (served : ServedState) (dir : ℕ) (name : List ℕ) (to_dir : ℕ)
+    (told : Result Movable Errno) : Type 0 where
+  pub dir_file : Option FileId
+  pub to_file : Option FileId
+  pub located : IsLocated served dir dir_file
+  pub to_located : IsLocated served to_dir to_file
+  pub found : IsMovableAs served.tree dir_file name to_file told
+
+-- the answer to a move for which nothing has to be done: the file is there already, or may not take the name of what is
+abbrev pub at_once : Tree → Movable → List ℕ → Option Answer
+at_once tree found to_name =
+    if is_there (child_of tree found.to_dir to_name) found.file then Some Done
+    else option_map (λ (errno : Errno). Error errno)
+    (against_replacing tree found.file (child_of tree found.to_dir to_name))
+
+-- two numbers name directories, and a file may move from a name in the first to a name in the second
+pub record MayTakeName (served : ServedState) (dir : Number) (found : Movable) (name : List ℕ) (to_dir : Number)
+    (to_name : List ℕ) : Type 0 where
+  pub at : IsFileOf served.tree served.map.entries dir.0 found.dir
+  pub to_at : IsFileOf served.tree served.map.entries to_dir.0 found.to_dir
+  pub movable : movable served.tree found.dir name found.to_dir ≡ Ok found.file
+  pub waits : at_once served.tree found to_name ≡ None
+
+-- a file moved from a name in the directory of a number to a name in that of another
+abbrev pub NameIsMoved : ServedState → Number → Movable → List ℕ → Number → List ℕ → ServedState → Type 0
+NameIsMoved old dir found name to_dir to_name new =
+    new ≡ record {
+      map = name_moved old.map dir name to_dir to_name (child_of old.tree found.to_dir to_name);
+      tree = renamed old.tree found.dir name found.to_dir to_name;
+    }

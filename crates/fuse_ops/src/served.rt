@@ -15,6 +15,7 @@ ghost use Rattle.fuse_ops.specs.Soundness.{IsSound, AreRemembered, AreLoaded};
 ghost use Rattle.fuse_ops.specs.Work.{Finds, Takes, lacks_name};
 
 mod lookup;
+mod moves;
 mod names;
 
 use checkout::{Backing, Tree};
@@ -176,6 +177,12 @@ impl Served {
                 self.forget_all(items.as_slice());
                 None
             }
+            Request::Rename {
+                dir,
+                name,
+                to_dir,
+                to_name,
+            } => Some(self.rename(alloc, *dir, name, *to_dir, to_name)),
             Request::Other { .. } => Some(Answer::Error(Errno::ENOSYS)),
         }
     }

@@ -2,6 +2,7 @@
 mod backing_tests;
 mod deeds;
 mod hosted;
+mod moves_tests;
 
 use crate::fuse_ops_tests::deeds::{Asks, Deed, Is, all_go_so};
 use eden_base::{Errno, Number};

@@ -373,7 +373,7 @@ fn writes_ask(alloc: Global, len: usize, fault: Option<FrameFault>, written: usi
     told == fault && writer.len() == written
 }
 
-/// Returns whether an Ask of the longest body is written, and nothing is written of an Ask with one byte more.
+/// Returns whether an Ask of the longest body is written, and no byte of an Ask that is one byte longer.
 fn writes_long(alloc: Global) -> bool {
     writes_ask(alloc, 65_536, None, 65_541)
         && writes_ask(alloc, 65_537, Some(FrameFault::TooLong), 0)

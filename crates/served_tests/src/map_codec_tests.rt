@@ -1,6 +1,7 @@
 //! Images from outside, each of their cuts and changes, and limits. A call that was refused memory says so, and
 //! succeeds when it is made once more, as under `rt try --test --fail-alloc N`.
 mod asking;
+mod count_tests;
 mod damage_tests;
 mod deeds;
 mod deep_tests;
@@ -15,8 +16,8 @@ mod vectors;
 
 use crate::map_codec_tests::asking::{Asking, Asks};
 use crate::map_codec_tests::deeds::{Deed, all_go_so};
-use crate::map_codec_tests::images::{all, fault_of, is_written_again};
-use crate::map_codec_tests::vectors::{CHANGED, LOOKED_UP, MOVED, changed_with};
+use crate::map_codec_tests::images::{all, fault_of, is_written_again, is_written_as};
+use crate::map_codec_tests::vectors::{CHANGED, LOOKED_UP, MOVED, WIDE, changed_with, wide_with};
 use map_image::ImageFault;
 use std::alloc::{AllocError, Global};
 
@@ -24,6 +25,18 @@ use std::alloc::{AllocError, Global};
 fn writes_what_it_reads(rt: HostRuntime) {
     assert!(rt; is_written_again(rt.alloc(), &LOOKED_UP));
     assert!(rt; is_written_again(rt.alloc(), &CHANGED));
+}
+
+/// Returns whether `narrow`, of version 1, and `wide`, of version 3, are texts of one image.
+fn are_texts_of_one(alloc: Global, narrow: &[u8], wide: &[u8]) -> bool {
+    is_written_as(alloc, narrow, 3, wide)
+        && is_written_as(alloc, wide, 3, wide)
+        && is_written_as(alloc, wide, 1, narrow)
+}
+
+#[test]
+fn writes_counts_of_eight_bytes_in_version_3(rt: HostRuntime) {
+    assert!(rt; are_texts_of_one(rt.alloc(), &CHANGED, &WIDE));
 }
 
 /// Returns whether each shorter prefix of `bytes` is refused as `Short`.
@@ -70,6 +83,51 @@ fn are_told(alloc: Global, faults: &[(usize, u8, ImageFault)]) -> bool {
 #[test]
 fn tells_the_first_fault(rt: HostRuntime) {
     assert!(rt; are_told(rt.alloc(), &FIRST_FAULTS));
+}
+
+/// A count of `README` in version 3, and the fault of that text.
+static COUNTS: [(u64, Option<ImageFault>); 6] = [
+    (0, Some(ImageFault::ZeroUse)),
+    (4_294_967_295, None),
+    (4_294_967_296, None),
+    (9_223_372_036_854_775_807, None),
+    (9_223_372_036_854_775_808, Some(ImageFault::BadMark)),
+    (18_446_744_073_709_551_615, Some(ImageFault::BadMark)),
+];
+
+/// Returns whether `WIDE` with the count of each row has the fault of that row.
+fn are_counts_told(alloc: Global, counts: &[(u64, Option<ImageFault>)]) -> bool {
+    for (count, fault) in counts {
+        if fault_of(alloc, &wide_with(*count)) != *fault {
+            return false;
+        }
+    }
+    true
+}
+
+#[test]
+fn refuses_a_count_above_the_greatest(rt: HostRuntime) {
+    assert!(rt; are_counts_told(rt.alloc(), &COUNTS));
+}
+
+/// Returns the fault of `WIDE` with `count` for `README`, of which the first `len` bytes are read.
+fn fault_of_cut(alloc: Global, count: u64, len: usize) -> Option<ImageFault> {
+    let bytes = wide_with(count);
+    let (front, _) = bytes.split_at_checked(len)?;
+    fault_of(alloc, front)
+}
+
+/// Returns whether a count above the greatest is a bad mark as soon as its eighth byte, at the index 99, is there.
+fn is_told_once_whole(alloc: Global) -> bool {
+    let count = 9_223_372_036_854_775_808;
+    fault_of_cut(alloc, count, 99) == Some(ImageFault::Short)
+        && fault_of_cut(alloc, count, 100) == Some(ImageFault::BadMark)
+        && fault_of_cut(alloc, count - 1, 100) == Some(ImageFault::Short)
+}
+
+#[test]
+fn tells_a_bad_count_once_it_is_whole(rt: HostRuntime) {
+    assert!(rt; is_told_once_whole(rt.alloc()));
 }
 
 /// Returns whether the bytes of `parts`, joined, are refused with `fault`.

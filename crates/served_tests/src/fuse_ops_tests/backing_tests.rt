@@ -208,8 +208,8 @@ fn keeps_as_many_loaded_as_the_limit_says(rt: HostRuntime) {
 const LIMITED: &[u8] =
     b"commit 0123456789abcdef0123456789abcdef01234567\ndir src\nfile 0644 12 src/a\nfile 0755 0 src/b\nfile 0644 7 README\n";
 
-/// A directory's number and a name to look up, or a number to get attributes of and no name; then the number in the
-/// answer.
+/// A request and the number in its answer. With a name, it looks the name up in the directory of the first number. With
+/// an empty name, it asks for the attributes of the first number.
 type Asked = (u64, &'static [u8], u64);
 
 /// Each file is looked up, and then the attributes of two unloaded files are asked for. All rows but the one of `src`

@@ -67,6 +67,10 @@ pub enum Deed {
     /// A request with a directory's number and a name is answered with an entry of this number, for a file of this
     /// sort.
     Enter(Asks, u64, &'static [u8], u64, Is),
+    /// RENAME between two directories' numbers with a name in each is answered with Done.
+    Move(u64, &'static [u8], u64, &'static [u8]),
+    /// RENAME between two directories' numbers with a name in each is answered with this error.
+    RefuseMove(u64, &'static [u8], u64, &'static [u8], Errno),
     /// CREATE with a directory's number and a name is answered with this number.
     Create(u64, &'static [u8], u64),
     /// GETATTR of a number is answered with the attributes of this sort of file.
@@ -97,6 +101,36 @@ pub(crate) fn asked(alloc: Global, asks: Asks, dir: u64, name: &[u8]) -> Option<
             node: dir,
         },
     })
+}
+
+/// Makes a RENAME of the directory and name of `place` to those of `target`, or returns none if memory was refused.
+fn moved(alloc: Global, place: (u64, &[u8]), target: (u64, &[u8])) -> Option<Request> {
+    let name = name_of(alloc, place.1).ok()?;
+    let to_name = name_of(alloc, target.1).ok()?;
+    Some(Request::Rename {
+        dir: Number(place.0),
+        name,
+        to_dir: Number(target.0),
+        to_name,
+    })
+}
+
+/// Moves the name of `place` to that of `target`. Returns whether the answer is `expected`.
+fn is_moved(
+    alloc: Global,
+    served: &mut Hosted,
+    place: (u64, &[u8]),
+    target: (u64, &[u8]),
+    expected: Answer,
+) -> bool {
+    match moved(alloc, place, target) {
+        Some(request) => {
+            let answer = answer(alloc, served, &request);
+            drop(request);
+            answer == Some(expected)
+        }
+        None => false,
+    }
 }
 
 /// Makes a batch of `items`, and tries once more if memory was refused.
@@ -200,6 +234,13 @@ fn goes_so(alloc: Global, served: &mut Hosted, deed: Deed) -> bool {
         Deed::Take(asks, dir, name) => is_answered(alloc, served, asks, (dir, name), Answer::Done),
         Deed::Enter(asks, dir, name, number, is) => {
             is_answered(alloc, served, asks, (dir, name), entry_of(number, is))
+        }
+        Deed::Move(dir, name, to_dir, to_name) => {
+            is_moved(alloc, served, (dir, name), (to_dir, to_name), Answer::Done)
+        }
+        Deed::RefuseMove(dir, name, to_dir, to_name, errno) => {
+            let expected = Answer::Error(errno);
+            is_moved(alloc, served, (dir, name), (to_dir, to_name), expected)
         }
         Deed::Create(dir, name, number) => {
             let expected = opened_as(number);

@@ -2,7 +2,7 @@
 ghost use Rattle.std.specs.Prelude.{◌≡◌, IfOk};
 ghost use Rattle.map_image.specs.Fit.{IsFit};
 
-use super::images::has_text;
+use super::images::has_text_in;
 use crate::again::{answer_to, name_of, served_of};
 use eden_base::{NameFault, NoMemory, Number, Perm};
 use fuse_ops::Served;
@@ -66,16 +66,21 @@ fn image_taken(alloc: Global, served: &Served) -> Result<Image, NoMemory>
     }
 }
 
-/// Returns whether the image of `served` is written as `bytes`.
-pub fn is_spelled(alloc: Global, served: &Served, bytes: &[u8]) -> bool {
+/// Returns whether the image of `served` is written in `version` as `bytes`.
+pub fn is_spelled_in(alloc: Global, served: &Served, version: u16, bytes: &[u8]) -> bool {
     match image_taken(alloc, served) {
         Ok(image) => {
-            let so = has_text(alloc, &image, bytes);
+            let so = has_text_in(alloc, &image, version, bytes);
             drop(image);
             so
         }
         Err(NoMemory) => false,
     }
+}
+
+/// Calls `is_spelled_in` with version 1.
+pub fn is_spelled(alloc: Global, served: &Served, bytes: &[u8]) -> bool {
+    is_spelled_in(alloc, served, 1, bytes)
 }
 
 /// Answers the requests of `askings`, and returns whether the image of `served` is written as `bytes` then.

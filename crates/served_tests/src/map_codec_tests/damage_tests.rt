@@ -9,7 +9,7 @@ use super::feeding_tests::{image_of_each, image_of_two};
 use super::handing_tests::{handed_in, taken};
 use super::images::{has_text_in, image_of_bytes};
 use super::raise_tests::raised;
-use super::vectors::changed_with;
+use super::vectors::{WIDE, changed_with};
 use crate::again::answer_to;
 use eden_base::Number;
 use fuse_ops::Served;
@@ -21,13 +21,11 @@ use std::alloc::Global;
 /// What is done to a byte: the bits that are kept, and then the bits that are flipped.
 static TURNS: [(u8, u8); 3] = [(0x00, 0x00), (0x00, 0xff), (0xff, 0x01)];
 
-/// Returns the changed image in `version`, with the byte at `at` damaged by `turn`.
-fn damaged(version: u8, at: usize, turn: (u8, u8)) -> [u8; 147] {
-    let mut bytes = changed_with(5, version);
+/// Damages the byte of `bytes` at `at` by `turn`.
+fn damage(bytes: &mut [u8], at: usize, turn: (u8, u8)) {
     if let Some(place) = bytes.get_mut(at) {
         *place = (*place & turn.0) ^ turn.1;
     }
-    bytes
 }
 
 /// Returns whether `image` is written as just `bytes` in `version`, or the fault with which it was refused.
@@ -118,12 +116,22 @@ fn is_refused_or_sound(alloc: Global, manifest: &Manifest, version: u16, bytes: 
     }
 }
 
-/// Damages the byte at `at`, and returns whether the image reads the same in pieces, and is refused or sound.
+/// Returns whether `bytes`, damaged at `at`, read the same in pieces, and are refused or sound.
+fn is_told_of(alloc: Global, manifest: &Manifest, version: u16, bytes: &[u8], at: usize) -> bool {
+    is_alike_in_pieces(alloc, version, bytes, at)
+        && is_refused_or_sound(alloc, manifest, version, bytes)
+}
+
+/// Calls `is_told_of` with the changed image in `version`, damaged at `at` by `turn`.
 fn is_told(alloc: Global, manifest: &Manifest, version: u8, at: usize, turn: (u8, u8)) -> bool {
-    let bytes = damaged(version, at, turn);
-    let number = u16::from(version);
-    is_alike_in_pieces(alloc, number, &bytes, at)
-        && is_refused_or_sound(alloc, manifest, number, &bytes)
+    if version == 3 {
+        let mut wide = WIDE;
+        damage(&mut wide, at, turn);
+        return is_told_of(alloc, manifest, 3, &wide, at);
+    }
+    let mut bytes = changed_with(5, version);
+    damage(&mut bytes, at, turn);
+    is_told_of(alloc, manifest, u16::from(version), &bytes, at)
 }
 
 /// Calls `is_told` with each element of `TURNS`, and returns whether all calls return true.
@@ -138,7 +146,8 @@ fn is_told_by_each(alloc: Global, manifest: &Manifest, version: u8, at: usize) -
 
 /// Calls `is_told_by_each` with each byte of the image, and returns whether all calls return true.
 pub(crate) fn is_told_everywhere(alloc: Global, manifest: &Manifest, version: u8) -> bool {
-    for at in 0..147 {
+    let len = if version == 3 { 159 } else { 147 };
+    for at in 0..len {
         if !is_told_by_each(alloc, manifest, version, at) {
             return false;
         }
@@ -146,7 +155,7 @@ pub(crate) fn is_told_everywhere(alloc: Global, manifest: &Manifest, version: u8
     true
 }
 
-static DAMAGED: [Deed; 2] = [Deed::Damage(1), Deed::Damage(2)];
+static DAMAGED: [Deed; 3] = [Deed::Damage(1), Deed::Damage(2), Deed::Damage(3)];
 
 #[test]
 fn refuses_a_damaged_byte_or_spells_it_so(rt: HostRuntime) {

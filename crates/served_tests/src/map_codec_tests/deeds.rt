@@ -1,5 +1,6 @@
 //! Checks of images over one manifest, with their expected outcomes, as data. A test is a table of such checks.
 use super::asking::{Asking, is_spelled_after};
+use super::count_tests::{Row, counts_so};
 use super::damage_tests::is_told_everywhere;
 use super::deep_tests::{is_chain_handed, is_chain_raised, is_circle_refused};
 use super::handing_tests::{is_not_taken_with, is_rest_not_taken};
@@ -45,6 +46,9 @@ pub enum Deed {
     RefuseCircle(u32),
     /// The changed image in this version, with any byte damaged, is refused or sound.
     Damage(u8),
+    /// The wide image with this count of `README` is restored, and these rows come out as they say. The last field is
+    /// the count with which the image is written then, if it has no other change.
+    Counted(u64, &'static [Row], Option<u64>),
 }
 
 /// Makes the check of `deed`, and returns whether its outcome is the expected one.
@@ -63,6 +67,7 @@ fn goes_so(alloc: Global, manifest: &Manifest, deed: Deed) -> bool {
         Deed::RaiseChain(count) => is_chain_raised(alloc, manifest, count),
         Deed::RefuseCircle(count) => is_circle_refused(alloc, manifest, count),
         Deed::Damage(version) => is_told_everywhere(alloc, manifest, version),
+        Deed::Counted(first, rows, last) => counts_so(alloc, manifest, first, rows, last),
     }
 }
 

@@ -2,8 +2,8 @@
 ghost use Rattle.std.specs.Prelude.{IfOk};
 ghost use Rattle.map_image.specs.Fit.{IsFit};
 
-use super::images::{all, fault_of, has_text};
-use super::vectors::{CHANGED, LOOKED_UP, MOVED, changed_with};
+use super::images::{all, fault_of, has_text_in};
+use super::vectors::{CHANGED, LOOKED_UP, MOVED, WIDE, changed_with, wide_with};
 use eden_base::NoMemory;
 use map_image::{Image, ImageFault, ImageReader};
 use std::alloc::{AllocError, Global};
@@ -68,13 +68,14 @@ pub(crate) fn image_of_each(alloc: Global, bytes: &[u8]) -> Result<Image, ImageF
     reader.finish()
 }
 
-/// Returns whether `image` is an image that is written as `bytes`.
+/// Returns whether `image` is an image that is written as `bytes`, in the version that they say.
 fn is_spelled(alloc: Global, image: Result<Image, ImageFault>, bytes: &[u8]) -> bool
     requires fit { IfOk image IsFit }
 {
+    let version = bytes.get(5).copied().unwrap_or(0);
     match image {
         Ok(image) => {
-            let so = has_text(alloc, &image, bytes);
+            let so = has_text_in(alloc, &image, u16::from(version), bytes);
             drop(image);
             so
         }
@@ -113,6 +114,7 @@ fn reads_an_image_in_every_cut(rt: HostRuntime) {
     assert!(rt; is_read_in_each_cut(rt.alloc(), &LOOKED_UP));
     assert!(rt; is_read_in_each_cut(rt.alloc(), &CHANGED));
     assert!(rt; is_read_in_each_cut(rt.alloc(), &MOVED));
+    assert!(rt; is_read_in_each_cut(rt.alloc(), &WIDE));
 }
 
 #[test]
@@ -120,6 +122,7 @@ fn reads_an_image_byte_by_byte(rt: HostRuntime) {
     assert!(rt; is_read_in_bytes(rt.alloc(), &LOOKED_UP));
     assert!(rt; is_read_in_bytes(rt.alloc(), &CHANGED));
     assert!(rt; is_read_in_bytes(rt.alloc(), &MOVED));
+    assert!(rt; is_read_in_bytes(rt.alloc(), &WIDE));
 }
 
 /// Returns whether `bytes` in each cut, and byte by byte, have the same fault as in one piece.
@@ -159,6 +162,11 @@ fn are_refused_in_each_cut(alloc: Global, changes: &[(usize, u8)]) -> bool {
     true
 }
 
+/// Calls `is_refused_in_each_cut` with `WIDE` and a count above the greatest.
+fn is_count_refused_in_each_cut(alloc: Global) -> bool {
+    is_refused_in_each_cut(alloc, &wide_with(9_223_372_036_854_775_808))
+}
+
 /// Calls `is_refused_in_each_cut` with `CHANGED` and a byte after it.
 fn is_more_refused_in_each_cut(alloc: Global) -> bool {
     match all(alloc, &[CHANGED.as_slice(), b"\0".as_slice()]) {
@@ -171,6 +179,7 @@ fn is_more_refused_in_each_cut(alloc: Global) -> bool {
 fn tells_the_same_fault_in_every_cut(rt: HostRuntime) {
     assert!(rt; are_refused_in_each_cut(rt.alloc(), &CHANGES));
     assert!(rt; is_more_refused_in_each_cut(rt.alloc()));
+    assert!(rt; is_count_refused_in_each_cut(rt.alloc()));
 }
 
 /// Feeds `first` and `second` to a new reader and ends it. Returns the fault of each of these three calls.

@@ -62,16 +62,28 @@ fn has_second_text(alloc: Global, image: &Image, bytes: &[u8]) -> bool
 }
 
 /// Reads the image in `bytes`. Returns whether version 1 writes that image as `bytes`, version 2 as the same bytes with
-/// another version, and version 3 not at all.
+/// another version, and version 4 not at all.
 pub(crate) fn is_written_again(alloc: Global, bytes: &[u8]) -> bool {
     match image_of_bytes(alloc, bytes) {
         Ok(image) => {
             let is_same = has_text(alloc, &image, bytes) && has_second_text(alloc, &image, bytes);
-            let third = text_of(alloc, &image, 3);
+            let fourth = text_of(alloc, &image, 4);
             drop(image);
-            let is_refused = matches!(third, Err(WriteFault::NoSuchVersion));
-            drop(third);
+            let is_refused = matches!(fourth, Err(WriteFault::NoSuchVersion));
+            drop(fourth);
             is_same && is_refused
+        }
+        Err(_) => false,
+    }
+}
+
+/// Returns whether the image in `bytes` is written in `version` as `expected`.
+pub(crate) fn is_written_as(alloc: Global, bytes: &[u8], version: u16, expected: &[u8]) -> bool {
+    match image_of_bytes(alloc, bytes) {
+        Ok(image) => {
+            let so = has_text_in(alloc, &image, version, expected);
+            drop(image);
+            so
         }
         Err(_) => false,
     }

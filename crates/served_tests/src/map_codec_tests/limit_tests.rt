@@ -1,4 +1,4 @@
-//! Answers of daemons that are restored with the greatest count, or with no number left.
+//! Answers of daemons that are restored with no number left.
 ghost use Rattle.std.specs.Prelude.{◌≡◌};
 
 use super::asking::{Asking, Asks, is_spelled, request_of};
@@ -105,24 +105,15 @@ pub(crate) fn is_limited(
     refuses(alloc, manifest, bytes.as_slice(), asking, errno)
 }
 
-/// Two limits, each set in `CHANGED`: the count of README is 2^32 - 1, and the next number is 2^63 - 1, which is never
-/// given.
-static LIMITS: [Deed; 2] = [
-    Deed::Limit(
-        88,
-        [0xff, 0xff, 0xff, 0xff, 0, 0, 0, 0],
-        (Asks::LookUp, 1, b"README"),
-        Errno::EOVERFLOW,
-    ),
-    Deed::Limit(
-        34,
-        [0x7f, 0xff, 0xff, 0xff, 0xff, 0xff, 0xff, 0xff],
-        (Asks::Create(0o600), 1, b"x"),
-        Errno::ENOSPC,
-    ),
-];
+/// `CHANGED` with the next number 2^63 - 1, which is never given.
+static LAST_NUMBER: Deed = Deed::Limit(
+    34,
+    [0x7f, 0xff, 0xff, 0xff, 0xff, 0xff, 0xff, 0xff],
+    (Asks::Create(0o600), 1, b"x"),
+    Errno::ENOSPC,
+);
 
 #[test]
-fn refuses_a_count_above_the_greatest_and_a_number_behind_the_last(rt: HostRuntime) {
-    assert!(rt; all_go_so(rt.alloc(), &LIMITS));
+fn refuses_a_number_behind_the_last(rt: HostRuntime) {
+    assert!(rt; all_go_so(rt.alloc(), &[LAST_NUMBER]));
 }

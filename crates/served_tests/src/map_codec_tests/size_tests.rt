@@ -1,5 +1,5 @@
-//! The longest text of an image in version 1, the parts of texts of version 2, and a count that is too large for a
-//! text.
+//! The longest text of an image in version 1, the parts of texts of version 2, and counts that are too large for a
+//! version.
 ghost use Rattle.std.specs.Prelude.{◌≤◌, length, IfOk, IsTrue};
 ghost use Rattle.map_image.specs.Fit.{IsFit};
 
@@ -165,39 +165,60 @@ fn is_fit(alloc: Global, image: &Image) -> Result<bool, NoMemory>
     }
 }
 
-/// Returns `image` with a count of 2^32, which has 33 bits, in its first entry.
-fn with_great_count(image: Image) -> Image {
+/// Returns `image` with `count` in its first entry.
+fn with_count(image: Image, count: u64) -> Image {
     let mut image = image;
     let mut kept = image.entries.into_vec();
     if let Some(first) = kept.get_mut(0) {
-        first.count = 1 << 32;
+        first.count = count;
     }
     image.entries = Entries::of(kept);
     image
 }
 
-/// Returns whether `image` is fit, but is refused for a count when it is written.
-fn is_count_refused(alloc: Global, image: &Image) -> bool {
+/// Returns whether `image` is fit, and is written in `version`, or is refused for a count if `is_refused`.
+fn is_count_written(alloc: Global, image: &Image, version: u16, is_refused: bool) -> bool {
     match is_fit(alloc, image) {
-        Ok(true) => matches!(text_of(alloc, image, 1), Err(WriteFault::CountTooLarge)),
+        Ok(true) => match text_of(alloc, image, version) {
+            Ok(text) => {
+                drop(text);
+                !is_refused
+            }
+            Err(fault) => is_refused && fault == WriteFault::CountTooLarge,
+        },
         _ => false,
     }
 }
 
-/// Calls `is_count_refused` with the image `CHANGED`, in which one count is 2^32.
-fn refuses_a_great_count(alloc: Global) -> bool {
-    match image_of_bytes(alloc, &CHANGED) {
-        Ok(image) => {
-            let great = with_great_count(image);
-            let so = is_count_refused(alloc, &great);
-            drop(great);
-            so
+/// A version, a count, and whether the image with that count is refused for it.
+static COUNTS: [(u16, u64, bool); 8] = [
+    (1, 4_294_967_295, false),
+    (1, 4_294_967_296, true),
+    (2, 4_294_967_295, false),
+    (2, 4_294_967_296, true),
+    (3, 4_294_967_296, false),
+    (3, 9_223_372_036_854_775_807, false),
+    (3, 9_223_372_036_854_775_808, true),
+    (3, 18_446_744_073_709_551_615, true),
+];
+
+/// Calls `is_count_written` with the image `CHANGED` and the count of each of `rows`.
+fn are_counts_written(alloc: Global, rows: &[(u16, u64, bool)]) -> bool {
+    for (version, count, is_refused) in rows {
+        let Ok(image) = image_of_bytes(alloc, &CHANGED) else {
+            return false;
+        };
+        let counted = with_count(image, *count);
+        let so = is_count_written(alloc, &counted, *version, *is_refused);
+        drop(counted);
+        if !so {
+            return false;
         }
-        Err(_) => false,
     }
+    true
 }
 
 #[test]
-fn refuses_a_count_of_33_bits(rt: HostRuntime) {
-    assert!(rt; refuses_a_great_count(rt.alloc()));
+fn refuses_a_count_above_the_greatest_of_the_version(rt: HostRuntime) {
+    assert!(rt; are_counts_written(rt.alloc(), &COUNTS));
 }

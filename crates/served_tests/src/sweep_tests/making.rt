@@ -9,7 +9,7 @@ use fuse_wire::{Answer, Request};
 use manifest::Manifest;
 use std::alloc::Global;
 
-/// What a sweep makes in many sizes.
+/// What a sweep's daemons make, and whether they are handed on.
 #[derive(Clone, Copy)]
 pub enum Making {
     /// The version, how often files are made, and how many each time. After each time all files so far are handed on.

@@ -8,8 +8,8 @@ use workers::Hook;
 /// How often a hook looks at a flag before it gives up. The looks are a millisecond apart.
 const LOOKS: u32 = 10_000;
 
-/// Lets the asks of unique 1 and 2 wait for each other, and that of unique 1 also until the reply to unique 2 was
-/// posted.
+/// A hook that holds the asks with uniques 1 and 2 until both have come. It holds ask 1 until the reply to ask 2 was
+/// posted, too.
 #[derive(Drop)]
 pub struct SecondFirst<'a, R: Clock> {
     clock: &'a R,
