@@ -25,7 +25,7 @@ pub(crate) struct Traffic {
     untaken: VecDeque<Ask>,
     /// The asks without a reply, of which the untaken ones are the last.
     unanswered: Unanswered,
-    /// Has room for a reply to each ask without one.
+    /// The replies that wait for the kernel. There is room here for a reply to each ask without one.
     posted: VecDeque<Reply>,
     forgets: Forgets,
     alloc: Global,

@@ -212,7 +212,7 @@ pub record Makes (made : Turn) (response : Response) (new : DeskState) : Type 0 
   pub told : told_by response ≡ made.told
   pub desk : new ≡ made.desk
 
--- Memory for the text of what is to be taken was refused: the peer is told Empty, and nothing is taken.
+-- Memory for the text of what is to be taken was refused: the peer is told Empty, and no ask is taken.
 pub record TakesLater (old : DeskState) (daemon : Option DaemonId) (frame : Frame) (response : Response)
     (new : DeskState) : Type 0 where
   pub taker : DaemonId

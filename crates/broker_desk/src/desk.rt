@@ -106,7 +106,7 @@ impl Desk {
     }
 
     /// Answers a frame of `peer`. An Attach that is granted makes `peer` a daemon or a worker. Only a Take takes
-    /// memory, for the text of what is taken: if that is refused, the answer is Empty, and nothing is taken.
+    /// memory, for the text of the ask: if that is refused, the answer is Empty, and the ask waits on.
     pub fn answer(&mut self, peer: &mut Peer, frame: &Frame) -> Response
         ensures answers { Answers self.old peer.old frame.now result self.new }
         ensures peer { peer.new ≡ peer_after self.old peer.old frame.now }

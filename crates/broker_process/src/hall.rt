@@ -24,10 +24,10 @@ use std::sync::{Condvar, Mutex, Wait};
 use std::thread;
 use std::time::{Duration, Instant};
 
-/// How long a Take that finds nothing is held while the kernel is busy, in milliseconds.
+/// For how many milliseconds a Take without an ask is held while the kernel is busy.
 const BUSY_HOLD: u64 = 1;
 
-/// How long a Take that finds nothing is held while the kernel is idle, in milliseconds.
+/// For how many milliseconds a Take without an ask is held while the kernel is idle.
 const IDLE_HOLD: u64 = 20;
 
 /// How long the kernel counts as busy after an ask, in milliseconds.

@@ -39,7 +39,7 @@ abbrev pub read_in : Phase → Option (List ℕ) → Option (List ℕ)
 read_in (Reading session generation version position count) read = read
 read_in phase read = None
 
--- the daemon after it turned to `node` as its part in takeovers, by a message or as it gave up
+-- the daemon with `node` as its part in takeovers, after it heard a message or gave up
 abbrev pub turned_to : DaemonState → NodeState → DaemonState
 turned_to daemon node =
     record { node = node; server = daemon.server; reading = read_in node.phase daemon.reading }

@@ -222,8 +222,8 @@ impl DaemonDesk {
         Some(lease)
     }
 
-    /// Takes `lease` back after a round that is settled, and serves it on. If nothing is lent, or is lent at another
-    /// generation, `lease` is dropped.
+    /// Takes `lease` back after a round that is settled, and serves it on. Drops `lease` if no lease is out, or one
+    /// of another generation.
     #[tactic(auto, using(crate::proofs::Lending::not_lent_at))]
     pub fn take_back(&mut self, lease: Lease)
         ensures returned { self.new ≡ returned self.old (lent_server lease) }

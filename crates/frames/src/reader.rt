@@ -82,8 +82,8 @@ impl FrameReader {
         }
     }
 
-    /// Takes the first frame off the unread bytes, or returns none if it is not whole. Does not move the bytes after
-    /// it.
+    /// Takes the first frame off the unread bytes. Returns none while only a part of it is there. Does not move the
+    /// bytes after it.
     pub fn next(&mut self) -> Result<Option<Frame>, FrameFault>
         ensures takes { TakesBeside self.old.fault self.old result self.new }
         ensures text { TakesText self.old.unread result self.new.unread }

@@ -8,8 +8,8 @@ use Rattle.frames.specs.Lacking.{lacking}
 use Rattle.frames.specs.Reading.{First, Faulty, NotYet, said}
 use Rattle.frames.specs.Says.{IsFirst}
 
--- Some bytes were read, and this holds of them. If it is known what a reader has left, the bytes were in front, and
--- what followed them is left. Of a socket nothing is known, but there were such bytes all the same.
+-- There are bytes that were read, and `Holds` holds of them. If it is known what a reader has left, `bytes` stood in
+-- front of that before, and the rest is left. Of a socket that is not known, and there are such bytes all the same.
 pub record Took (old new : Option (List ℕ)) (Holds : List ℕ → Type 0) : Type 0 where
   pub bytes : List ℕ
   pub taken : Consumes old new bytes
@@ -44,7 +44,7 @@ GivesFirst all left (Err Write) = ⊥
 GivesFirst all left (Err NoMemory) = ⊤
 GivesFirst all left (Err fault) = said all ≡ Faulty fault
 
--- the same, if it is known what the reader had
+-- as `GivesFirst`, if it is known which bytes the reader had; if not, nothing is said
 abbrev pub GivesKnown : Option (List ℕ) → Option (List ℕ) → Result (Option Frame) FrameFault → Type 0
 GivesKnown None new result = ⊤
 GivesKnown (Some all) None result = ⊥

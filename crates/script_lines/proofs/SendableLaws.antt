@@ -7,7 +7,7 @@ use Rattle.fuse_wire.specs.Request.{other_of, is_ask, IsSendable}
 use Rattle.fuse_wire.specs.declared.request.Request.{Request}
 use Rattle.fuse_wire.proofs.OtherLaws.{other-sendable}
 use Rattle.script_lines.specs.BrokerLine.{asked_by, ask_of, seat_of, forgets_of, broker_line_by, broker_line_of, IsSendableLine}
-use Rattle.script_lines.specs.EventLine.{named_of, made_of, pair_of, lookup_of, unlink_of, rmdir_of, create_of, mkdir_of, forget_of, getattr_of, other_in, other_said, nameless_by, request_by, request_of}
+use Rattle.script_lines.specs.EventLine.{named_of, made_of, pair_of, lookup_of, unlink_of, rmdir_of, rename_of, moved_between, moved_from, names_of, create_of, mkdir_of, forget_of, getattr_of, other_in, other_said, nameless_by, request_by, request_of}
 use Rattle.script_lines.specs.Number.{number_of}
 use Rattle.script_lines.specs.Words.{is_word}
 use Rattle.script_lines.specs.declared.broker_line.BrokerLine.TheVariants as says
@@ -31,6 +31,14 @@ either P false x y first second = second
 sendable-in : (n node : ℕ) → IfSome (other_in n node) IsSendable
 sendable-in n node = either IsSendable (nat_lt n (2 ^ 32)) (other_of n (record { 0 = node })) None (other-sendable n (record { 0 = node })) tt
 
+sendable-moved : (words : List ℕ) → IfSome (rename_of words) IsSendable
+sendable-moved words =
+    followed IsSendable _ (cut 32 words)
+    (λ parts. followed IsSendable _ (number_of parts.0)
+    (λ dir. followed IsSendable _ (cut 32 parts.1)
+    (λ others. followed IsSendable _ (number_of others.0)
+    (λ to_dir. mapped IsSendable _ (names_of others.1) (λ _. tt)))))
+
 sendable-nameless : (word rest : List ℕ) → IfSome (nameless_by word rest) IsSendable
 sendable-nameless word rest =
     either IsSendable (is_word word (codes "forget")) (forget_of rest) _ (mapped IsSendable _ (pair_of rest) (λ _. tt))
@@ -44,7 +52,8 @@ sendable-by word rest =
     (either IsSendable (is_word word (codes "mkdir")) (mkdir_of rest) _ (mapped IsSendable _ (made_of rest) (λ _. tt))
     (either IsSendable (is_word word (codes "unlink")) (unlink_of rest) _ (mapped IsSendable _ (named_of rest) (λ _. tt))
     (either IsSendable (is_word word (codes "rmdir")) (rmdir_of rest) _ (mapped IsSendable _ (named_of rest) (λ _. tt))
-    (sendable-nameless word rest)))))
+    (either IsSendable (is_word word (codes "rename")) (rename_of rest) _ (sendable-moved rest)
+    (sendable-nameless word rest))))))
 
 -- ---- lines
 

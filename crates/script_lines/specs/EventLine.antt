@@ -2,7 +2,7 @@
 -- word, and runs to the end of the line. (This project's own.)
 use Rattle.std.specs.Prelude.{ℕ, ◌^◌, Bool, true, false, nat_lt, List, [], ◌∷◌, ◌++◌, length, Option, Some, None, codes, option_map, option_and_then, is_none, if◌then◌else◌}
 use Rattle.fuse_wire.specs.declared.request.Request.{Request}
-use Rattle.fuse_wire.specs.declared.request.Request.TheVariants.{Lookup, Getattr, Create, Mkdir, Unlink, Rmdir, Forget}
+use Rattle.fuse_wire.specs.declared.request.Request.TheVariants.{Lookup, Getattr, Create, Mkdir, Unlink, Rmdir, Rename, Forget}
 use Rattle.fuse_wire.specs.Request.{other_of}
 use Rattle.world.specs.declared.event.Event.{Event}
 use Rattle.world.specs.declared.event.Event.TheVariants.{Start, Mount, Issue, Take, Work, Post, Deliver, Hear, Drained, GiveUp, Claim, Crash, Do, Show}
@@ -60,6 +60,36 @@ unlink_of words = option_map (λ (named : Number × List ℕ). Unlink named.0 na
 abbrev pub rmdir_of : List ℕ → Option Request
 rmdir_of words = option_map (λ (named : Number × List ℕ). Rmdir named.0 named.1) (named_of words)
 
+-- two names, if both are there
+abbrev pub both_names : Option (List ℕ) → Option (List ℕ) → Option (List ℕ × List ℕ)
+both_names (Some old) (Some new) = Some (old, new)
+both_names _ _ = None
+
+-- the two names of which these bytes are the `OLD/NEW`, if both are names: a name has no slash
+abbrev pub names_of : List ℕ → Option (List ℕ × List ℕ)
+names_of bytes =
+    option_and_then (λ (parts : List ℕ × List ℕ). both_names (name_of parts.0) (name_of parts.1)) (cut 47 bytes)
+
+-- the request to move a file between these directories, of whose names these bytes are the `OLD/NEW`
+abbrev pub moved_between : ℕ → ℕ → List ℕ → Option Request
+moved_between dir to_dir bytes =
+    option_map
+    (λ (names : List ℕ × List ℕ). Rename (record { 0 = dir }) names.0 (record { 0 = to_dir }) names.1)
+    (names_of bytes)
+
+-- the request to move a file out of this directory, of which these words are the `NEWDIR OLD/NEW`
+abbrev pub moved_from : ℕ → List ℕ → Option Request
+moved_from dir words =
+    option_and_then
+    (λ (parts : List ℕ × List ℕ). option_and_then (λ to_dir. moved_between dir to_dir parts.1) (number_of parts.0))
+    (cut 32 words)
+
+-- the request of `rename N NEWDIR OLD/NEW`, of which these words are the `N NEWDIR OLD/NEW`
+abbrev pub rename_of : List ℕ → Option Request
+rename_of words =
+    option_and_then (λ (parts : List ℕ × List ℕ). option_and_then (λ dir. moved_from dir parts.1) (number_of parts.0))
+    (cut 32 words)
+
 -- the request of `create N MODE NAME`, of which these words are the `N MODE NAME`
 abbrev pub create_of : List ℕ → Option Request
 create_of words = option_map (λ (made : Number × Perm × List ℕ). Create made.0 made.2 made.1) (made_of words)
@@ -111,10 +141,11 @@ request_by word rest =
     else if is_word word (codes "mkdir") then mkdir_of rest
     else if is_word word (codes "unlink") then unlink_of rest
     else if is_word word (codes "rmdir") then rmdir_of rest
+    else if is_word word (codes "rename") then rename_of rest
     else nameless_by word rest
 
 -- the request that these words write: `lookup N NAME`, `create N MODE NAME`, `mkdir N MODE NAME`, `unlink N NAME`,
--- `rmdir N NAME`, `forget N K`, `getattr N` or `other OPCODE N`
+-- `rmdir N NAME`, `rename N NEWDIR OLD/NEW`, `forget N K`, `getattr N` or `other OPCODE N`
 abbrev pub request_of : List ℕ → Option Request
 request_of words = option_and_then (λ (parts : List ℕ × List ℕ). request_by parts.0 parts.1) (cut 32 words)
 

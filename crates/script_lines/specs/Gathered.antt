@@ -15,14 +15,14 @@ members None = []
 abbrev pub AreBelow : ℕ → TakenBack → Type 0
 AreBelow bound gathered = (i : ℕ) → i < 256 → slice_index_or gathered.sums i 0 < bound
 
--- what one member of a hand takes back is added to each number's sum
+-- one member of a hand was added: each number's sum rises by how often that member takes the number back
 pub record IsAdded (old : TakenBack) (task : Ask) (new : TakenBack) : Type 0 where
   pub low : new.low ≡ old.low
   pub sums : (i : ℕ) → i < 256 →
       slice_index_or new.sums i 0 ≡ slice_index_or old.sums i 0 + taken_back_by (old.low + i) task
   pub more : (i : ℕ) → i < 256 → slice_index_or new.sums i 0 < slice_index_or old.sums i 0 + 2 ^ 64
 
--- what each of several members of a hand takes back is added to each number's sum
+-- `tasks` were added: each number's sum rises by how often they take the number back
 pub record AreAdded (old : TakenBack) (tasks : List Ask) (new : TakenBack) : Type 0 where
   pub low : new.low ≡ old.low
   pub sums : (i : ℕ) → i < 256 →

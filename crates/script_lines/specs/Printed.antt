@@ -153,7 +153,7 @@ abbrev pub given_under_way : State → DaemonId → ℕ → ℕ
 given_under_way state daemon n =
     count_by (gives n) (unposted_of state daemon) + entries_of state.broker.traffic n
 
--- the words for how often a number is held, is under way up and down, and is counted by a daemon
+-- the words `held H up U down W count C` of a number's line
 abbrev pub count_words : State → DaemonId → ℕ → ℕ → List (List ℕ)
 count_words state daemon n count =
     codes "held" ∷ decimal (held_count state.broker.held n)

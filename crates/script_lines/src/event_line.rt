@@ -1,6 +1,6 @@
 //! The lines of a script, each read as an event.
 ghost use Rattle.std.specs.Prelude.{◌≡◌, IfOk, option_map};
-ghost use Rattle.script_lines.specs.EventLine.{event_of, start_of, with_version, daemon_event_by, mount_of, take_of, work_of, tried_of, tried_at, pair_of, post_of, takeover_event_by, hear_of, drained_of, give_up_of, claim_of, crash_of, issue_of, do_of, request_of, request_by, nameless_by, lookup_of, create_of, mkdir_of, unlink_of, rmdir_of, forget_of, getattr_of, other_said, named_of, made_of, name_of};
+ghost use Rattle.script_lines.specs.EventLine.{event_of, start_of, with_version, daemon_event_by, mount_of, take_of, work_of, tried_of, tried_at, pair_of, post_of, takeover_event_by, hear_of, drained_of, give_up_of, claim_of, crash_of, issue_of, do_of, request_of, request_by, nameless_by, lookup_of, create_of, mkdir_of, unlink_of, rmdir_of, rename_of, names_of, forget_of, getattr_of, other_said, named_of, made_of, name_of};
 
 use crate::decimal::number;
 use arrayvec::ArrayVec;
@@ -255,6 +255,9 @@ fn read_request_by(alloc: Global, word: &[u8], rest: &[u8]) -> Result<Option<Req
     if word == b"rmdir".as_slice() {
         return read_rmdir(alloc, rest);
     }
+    if word == b"rename".as_slice() {
+        return read_rename(alloc, rest);
+    }
     Ok(read_nameless(word, rest))
 }
 
@@ -322,6 +325,50 @@ fn read_rmdir(alloc: Global, words: &[u8]) -> Result<Option<Request>, NoMemory>
         Some((dir, name)) => Ok(Some(Request::Rmdir { dir, name })),
         None => Ok(None),
     }
+}
+
+/// Reads the words of a `rename`: the number of the old directory, that of the new one, and `OLD/NEW`, the names in
+/// them.
+fn read_rename(alloc: Global, words: &[u8]) -> Result<Option<Request>, NoMemory>
+    ensures { IfOk result (λ request. request ≡ rename_of words.now) }
+{
+    let Some((dir, rest)) = cut(words, b' ') else {
+        return Ok(None);
+    };
+    let Some(dir) = number(dir) else {
+        return Ok(None);
+    };
+    let Some((to_dir, names)) = cut(rest, b' ') else {
+        return Ok(None);
+    };
+    let Some(to_dir) = number(to_dir) else {
+        return Ok(None);
+    };
+    match read_names(alloc, names)? {
+        Some((name, to_name)) => Ok(Some(Request::Rename {
+            dir: Number(dir),
+            name,
+            to_dir: Number(to_dir),
+            to_name,
+        })),
+        None => Ok(None),
+    }
+}
+
+/// Reads `OLD/NEW`, two names. Returns none if one of them is no name.
+fn read_names(alloc: Global, bytes: &[u8]) -> Result<Option<(Name, Name)>, NoMemory>
+    ensures { IfOk result (λ names. names ≡ names_of bytes.now) }
+{
+    let Some((old, new)) = cut(bytes, b'/') else {
+        return Ok(None);
+    };
+    let Some(old) = read_name(alloc, old)? else {
+        return Ok(None);
+    };
+    let Some(new) = read_name(alloc, new)? else {
+        return Ok(None);
+    };
+    Ok(Some((old, new)))
 }
 
 /// Reads a directory's number, and a name in it.

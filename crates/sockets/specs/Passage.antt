@@ -10,7 +10,7 @@ is_between passage = passage.came == 0 && passage.left == 0
 abbrev pub capped : ℕ → ℕ
 capped number = min number (2 ^ 32 - 1)
 
--- the passage after so many bytes of a length came, which write this number: after the fourth, the kind and the body
+-- the passage after `came` bytes of a length, which write the number `len`: after the fourth, the kind and the body
 -- are to come
 abbrev pub lengthened : ℕ → ℕ → Passage
 lengthened came len =

@@ -120,13 +120,13 @@ row node (Reading s g v i n) GiveUp = Goes Gone Heard
 row node phase Crash = Goes Gone Heard
 row node phase event = ignored
 
--- the daemon after a row
+-- the daemon after an event that this row answers
 abbrev pub after_row : NodeState → Row → NodeState
 after_row node (Stays answer) = node
 after_row node (Goes phase answer) = record node { phase = phase }
 after_row node (Begins session phase answer) = record node { phase = phase; sessions = session }
 
--- the answer of a row
+-- the answer that this row gives
 abbrev pub answer_of : Row → Answer
 answer_of (Stays answer) = answer
 answer_of (Goes phase answer) = answer
@@ -149,7 +149,7 @@ abbrev pub said : Answer → Option Message
 said (Say message) = Some message
 said answer = None
 
--- why a daemon in this phase is not drained, if it is not
+-- what keeps a daemon in this phase from being drained, if anything does
 abbrev pub drain_fault : Phase → ℕ → ℕ → Option DrainFault
 drain_fault (Draining g s v) hand unposted =
     if hand == 0 && unposted == 0 then None else Some (Undrained hand unposted)

@@ -73,8 +73,8 @@ abbrev pub is_well : Option Ending → Bool
 is_well (Some Broken) = false
 is_well ending = true
 
--- whether the spare room is there, after a worker went on or ended in this way; it is used exactly if the worker is
--- OutOfRoom, and may be used or not if its channel is Broken
+-- Whether a worker's spare room is still there, by how the worker ended. It is gone if the worker is OutOfRoom, may be
+-- gone if its channel is Broken, and else is there.
 abbrev pub LeavesSpare : Option Ending → Bool → Type 0
 LeavesSpare (Some Broken) spare = ⊤
 LeavesSpare (Some OutOfRoom) spare = spare ≡ false

@@ -152,7 +152,7 @@ fn left_by<N: Opening, B: Backing + Drop, C: Channel + Drop>(
     Ok(closed(parts, joined))
 }
 
-/// Serves a round under its name `N`, which says its ledger and its opening state.
+/// Serves a round. Its contracts name the round by the type `N`, which has the round's ledger and opening state.
 fn round_of<
     N: Opening + Send + Sync,
     B: Backing + Drop + Send,

@@ -23,7 +23,7 @@ pub struct Settled<B: Backing + Drop, C: Channel + Drop> {
 }
 
 /// Compares the workers' receipts with the journal. If the round is settled, returns the served state, the backing, the
-/// channels and the emptied rooms. If it is not, returns Unsettled, and all is dropped.
+/// channels and the emptied rooms. Else returns Unsettled, and drops all of these.
 pub fn drain<B: Backing + Drop, C: Channel + Drop>(
     alloc: Global,
     round: Round<B, C>,
