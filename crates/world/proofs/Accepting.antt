@@ -1,5 +1,5 @@
 -- A legal answer is one that the broker takes: it belongs to its request, and gives out neither number 0 nor the root.
-use Rattle.std.proofs.Common.{◌≡◌, ℕ, ◌≤◌, true, ◌&&◌, List, Option, Some, None, Result, Ok, Err, refl, sym, ap, ◌∙◌, subst, inl, inr, arith}
+use Rattle.std.proofs.Common.{◌≡◌, ℕ, ◌≤◌, true, ◌&&◌, List, Option, Some, None, Result, Ok, Err, refl, sym, ap, ◌∙◌, subst, inl, inr, ◌⊎◌, arith}
 use Rattle.std.specs.Option.{option_map_or}
 use Rattle.std.proofs.lemmas.Bool.Decides.{nat_tests}
 use Rattle.eden_base.specs.declared.attr.Attr.{Attr}
@@ -17,16 +17,17 @@ use Rattle.fuse_wire.specs.declared.form.Form.{Form}
 use Rattle.fuse_wire.specs.declared.form.Form.TheVariants.{AnEntry, AnOpenEntry, Attributes, NoValue}
 use Rattle.fuse_wire.specs.declared.request.Request.{Request}
 use Rattle.fuse_wire.specs.declared.reply.Answer.{Answer}
-use Rattle.fuse_wire.specs.declared.reply.Answer.TheVariants.{Error}
+use Rattle.fuse_wire.specs.declared.reply.Answer.TheVariants.{Done, Error}
 use Rattle.broker_core.specs.Traffic.{may_be_given}
 use Rattle.entry_table.specs.Entries.{entry_at, stands_at, number_of_kept}
 use Rattle.entry_table.specs.declared.kept.Kept.{Kept}
 use Rattle.entry_table.proofs.EntryLemmas.{numbers-bound, numbers-entry, entry_of-first}
 use Rattle.inode_map.specs.InodeMap.{number_given}
-use Rattle.fuse_ops.specs.Answers.{NumberFault, number_errno, Effect, enters, shows, makes, takes, takes_from, found_in, free_in, unless, against_taking, told_as, AnswersCounted, Answers, Deed, find_name, make_file, take_name, show_file, unserved, deed_of, done_to}
+use Rattle.fuse_ops.specs.Answers.{NumberFault, number_errno, Effect, enters, shows, makes, takes, takes_from, moves_between, found_in, free_in, unless, against_taking, told_as, AnswersCounted, Answers, Deed, find_name, make_file, take_name, move_name, show_file, unserved, deed_of, done_to}
 use Rattle.fuse_ops.specs.Served.{ServedState, numbers_at, place_told, IsLegal}
 use Rattle.fuse_ops.specs.Soundness.{IsSound}
-use Rattle.fuse_ops.proofs.Shapes.{TellsEntry, find-tells, make-tells, show-form, take-form}
+use Rattle.fuse_ops.proofs.Movable.{by-move}
+use Rattle.fuse_ops.proofs.Shapes.{TellsEntry, find-tells, make-tells, show-form, take-form, move-form}
 
 -- the broker takes this answer to an ask of this form
 abbrev pub IsTakenAs : Form → Answer → Type 0
@@ -91,6 +92,20 @@ module _ (served : ServedState) (request : Request) (answer : Answer) (sound : I
   take_from tree against (Some dir) name form a = take_in tree dir name (unless against (found_in tree (Some dir) name)) form a
   take_from tree against None name form a = error-taken (form_of request) answer ESTALE a
 
+  -- the answer to a move is taken
+  move_in : (tree : Tree) (from : Option FileId) (name : List ℕ) (to : Option FileId) (to_name : List ℕ) → form_of request ≡ NoValue → Legal (moves_between tree from name to to_name) → Taken
+  move_in tree from name to to_name form a = in_ (moves_between tree from name to to_name) refl a where
+    done_in : answer ≡ Done → Taken
+    done_in e = subst (λ (f : Form). IsTakenAs f answer) (sym form) (subst (λ (x : Answer). IsTakenAs NoValue x) (sym e) refl)
+
+    gone_in : (answer ≡ Done) ⊎ (answer ≡ Error ENOMEM) → Taken
+    gone_in (inl e) = done_in e
+    gone_in (inr e) = error-taken (form_of request) answer ENOMEM e
+
+    in_ : (r : Result Effect Errno) → moves_between tree from name to to_name ≡ r → Legal r → Taken
+    in_ (Err errno) is l = error-taken (form_of request) answer errno l
+    in_ (Ok effect) is l = by-move tree from name to to_name effect is (λ (e : Effect). Legal (Ok e) → Taken) done_in (λ dir to_dir m. gone_in) l
+
   -- the answer that shows attributes is taken
   show_in : (tree : Tree) (above : Option FileId) → form_of request ≡ Attributes → Legal (shows tree above) → Taken
   show_in tree (Some file) form (inl t) = subst (λ (f : Form). IsTakenAs f answer) (sym form) (subst (IsTakenAs Attributes) (sym (t.is ∙ ap (λ (f : Form). told_as f t.number t.attr) form)) refl)
@@ -104,5 +119,6 @@ module _ (served : ServedState) (request : Request) (answer : Answer) (sound : I
     by_deed (find_name dir name) is a = find_in dir name served.tree (found_in served.tree (l.files dir.0) name) (find-tells request dir name is) a
     by_deed (make_file dir name kind perm) is a = make_in dir name served.tree kind perm (free_in served.tree (l.files dir.0) name) (make-tells request dir name kind perm is) a
     by_deed (take_name dir name kind) is a = take_from served.tree (against_taking kind served.tree) (l.files dir.0) name (take-form request dir name kind is) a
+    by_deed (move_name dir name to_dir to_name) is a = move_in served.tree (l.files dir.0) name (l.files to_dir.0) to_name (move-form request dir name to_dir to_name is) a
     by_deed (show_file node) is a = show_in served.tree (l.files node.0) (show-form request node is) a
     by_deed unserved is a = error-taken (form_of request) answer ENOSYS a

@@ -1,15 +1,14 @@
 -- A daemon's legal answer is one that the world may give, and what the daemon knows after it is what the world has
 -- then.
-use Rattle.std.proofs.Common.{◌≡◌, ℕ, ◌+◌, ◌<◌, false, List, [], ◌∷◌, Option, Some, None, Result, Ok, Err, refl, sym, ap, ◌∙◌, subst, inl, inr, arith}
-use Rattle.std.specs.Prelude.{Contains}
+use Rattle.std.proofs.Common.{◌≡◌, ℕ, ◌+◌, false, List, [], ◌∷◌, Option, Some, None, Result, Ok, Err, refl, sym, ap, ◌∙◌, subst, inl, inr, ◌⊎◌, arith}
 use Rattle.std.specs.List.{AllByRecursion}
 use Rattle.eden_base.specs.declared.attr.Kind.{Kind}
 use Rattle.eden_base.specs.declared.attr.Perm.{Perm}
 use Rattle.eden_base.specs.declared.errno.Errno.{Errno}
-use Rattle.eden_base.specs.declared.errno.Errno.TheVariants.{ESTALE, EIO, ENOSYS}
+use Rattle.eden_base.specs.declared.errno.Errno.TheVariants.{ESTALE, EIO, ENOMEM}
 use Rattle.eden_base.specs.declared.number.FileId.{FileId}
 use Rattle.eden_base.specs.declared.number.Number.{Number}
-use Rattle.manifest.specs.Tree.{Tree, IsTree}
+use Rattle.manifest.specs.Tree.{Tree, IsTree, child_of}
 use Rattle.checkout.specs.ChangedTree.{is_full_dir, next_file, created, removed}
 use Rattle.fuse_wire.specs.declared.request.Request.{Request}
 use Rattle.fuse_wire.specs.declared.form.Form.{Form}
@@ -17,10 +16,10 @@ use Rattle.fuse_wire.specs.declared.reply.Answer.{Answer}
 use Rattle.fuse_wire.specs.declared.reply.Answer.TheVariants.{Attrs, Done, Error}
 use Rattle.entry_table.specs.Entries.{IsFileOf}
 use Rattle.inode_map.specs.InodeMap.{MapState}
-use Rattle.fuse_ops.specs.Answers.{Effect, found_in, free_in, enters, makes, takes, takes_from, unless, against_taking, Deed, find_name, make_file, take_name, show_file, unserved, deed_of, looks_at, done_to, comes_to, shows, told_as, telling, Answers, AnswersShown}
-use Rattle.fuse_ops.specs.Changes.{MayLose}
+use Rattle.fuse_ops.specs.Answers.{one_lost, Effect, found_in, free_in, enters, makes, takes, takes_from, moves_between, unless, against_taking, Deed, find_name, make_file, take_name, move_name, show_file, unserved, deed_of, looked_at, looks_at, done_to, comes_to, shows, told_as, telling, Answers, AnswersShown}
+use Rattle.fuse_ops.specs.Changes.{MayLose, MayMove}
 use Rattle.fuse_ops.specs.Gifts.{served_over}
-use Rattle.fuse_ops.specs.Served.{ServedState, PlainState, plain, IsLocated, place_entered, place_left, place_told, name_taken, numbers_at, served_after, IsLegal}
+use Rattle.fuse_ops.specs.Served.{ServedState, PlainState, plain, place_entered, place_told, name_taken, name_moved, names_changed, numbers_at, served_after, IsLegal}
 use Rattle.world.specs.World.{World, file_named, owed, numbers_of, effect_in, MayAnswer}
 use Rattle.world.specs.Agreement.{Knows}
 use Rattle.world.proofs.Entering.{Answered, backed, enters-worked}
@@ -29,7 +28,10 @@ use Rattle.world.proofs.Placed.{found-number, found-enters, made-number, made-en
 use Rattle.world.proofs.Worked.{Worked, worked-from, error-worked}
 use Rattle.fuse_ops.proofs.Keeping.{found-child}
 use Rattle.fuse_ops.proofs.Making.{free-place}
-use Rattle.fuse_ops.proofs.Shapes.{GoesTo, TellsEntry, TakesPlace, entered, shown, show-form, find-goes, find-tells, make-goes, make-tells, take-goes, take-takes, take-frees, show-goes, unless-found, shown-after, done-after}
+use Rattle.fuse_ops.proofs.Looking.{done-same, done-stale, IsNamed, IsUnnamed, all-named}
+use Rattle.fuse_ops.proofs.Movable.{left, gone, by-move, may-move}
+use Rattle.fuse_ops.proofs.MovingLaw.{moving-keeps}
+use Rattle.fuse_ops.proofs.Shapes.{TellsEntry, TakesPlace, MovesPlace, move-moves, moved-after, entered, shown, show-form, find-tells, make-tells, take-takes, take-frees, unless-found, shown-after, done-after}
 use Rattle.fuse_ops.proofs.UnnamingLaw.{unnaming-keeps}
 
 -- what a daemon that answers knows of a world
@@ -50,37 +52,17 @@ error_in : (w : World) (m : MapState) (request : Request) (errno : Errno) (answe
 error_in w m request errno answer later s l may = subst (λ (a : Answer). Worked w request a later) (sym l.answers)
     (error-worked w m request (Err errno) errno later s.is_tree s.knows ((l.answered).makes ∙ ap (λ (a : Answer). plain (served_after (served_over w.tree m) request (Err errno) a)) l.answers) may)
 
--- if the number that a request looks at names no file for the daemon, the number is not live
-stale_in : (w : World) (m : MapState) (request : Request) (node : Number) → Serves w m → looks_at request ≡ node ∷ [] → ((file : FileId) → IsFileOf w.tree m.entries node.0 file → ⊥) → MayAnswer w request (Error ESTALE)
-stale_in w m request node s looks nobody = inl (
-  refl,
-  record {
-    node = node;
-    looked_at = subst (λ (numbers : List Number). Contains numbers node) (sym looks) (0, (let low : 0 < 1 = omega arith in low), refl);
-    not_live = λ live. let f = live-named w w.tree m s.knows node.0 live in nobody f.0 f.1;
-  },
-)
+-- if one of the numbers that a request looks at names no file for the daemon, that number is not live
+stale_in : (w : World) (m : MapState) (request : Request) (files : ℕ → Option FileId) → Serves w m → IsUnnamed (served_over w.tree m) files (looks_at request) → MayAnswer w request (Error ESTALE)
+stale_in w m request files s u =
+    inl (refl, record { node = u.node; looked_at = u.among; not_live = λ live. let f = live-named w w.tree m s.knows (u.node).0 live in u.nobody f.0 f.1 })
 
--- ---- a request to a number
+-- ---- successes
 
 -- if a request comes to an effect over the file that its number names, a legal answer is one of the world's
 abbrev Succeeds : World → MapState → Request → Number → (Tree → Option FileId → Result Effect Errno) → Answer → ServedState → Type 0
 Succeeds w m request dir effect answer later =
     (above : FileId) → IsFileOf w.tree m.entries dir.0 above → (e : Effect) → effect w.tree (Some above) ≡ Ok e → effect_in w request ≡ Ok e → Legal w m request (Ok e) answer later → Worked w request answer later
-
-goes_in : (w : World) (m : MapState) (request : Request) (dir : Number) (effect : Tree → Option FileId → Result Effect Errno) (answer : Answer) (later : ServedState) → Serves w m → GoesTo request dir effect → Succeeds w m request dir effect answer later →
-    (o : Option FileId) → IsLocated (served_over w.tree m) dir.0 o → Legal w m request (effect w.tree o) answer later → Worked w request answer later
-goes_in w m request dir effect answer later s goes success None nobody l =
-    error_in w m request ESTALE answer later s (subst (λ (r : Result Effect Errno). Legal w m request r answer later) (goes.stale w.tree) l) (stale_in w m request dir s goes.looks nobody)
-goes_in w m request dir effect answer later s goes success (Some above) at l = in_ (effect w.tree (Some above)) refl l where
-  came : effect_in w request ≡ effect w.tree (Some above)
-  came = goes.comes w.tree (file_named w.names) ∙ ap (effect w.tree) ((s.knows).files dir.0 above at)
-
-  in_ : (r : Result Effect Errno) → effect w.tree (Some above) ≡ r → Legal w m request r answer later → Worked w request answer later
-  in_ (Ok e) is l' = success above at e is (came ∙ is) l'
-  in_ (Err errno) is l' = error_in w m request errno answer later s l' (inr (subst (λ (r : Result Effect Errno). Answers (numbers_of w) request r (Error errno)) (sym (came ∙ is)) refl))
-
--- ---- its successes
 
 -- a request for the entry of a file that was found is answered so
 find_in : (w : World) (m : MapState) (request : Request) (dir : Number) (name : List ℕ) (answer : Answer) (later : ServedState) → Serves w m → TellsEntry request dir name → Succeeds w m request dir (λ tree above. enters tree (found_in tree above name)) answer later
@@ -111,9 +93,18 @@ make_in w m request dir name kind perm answer later s tells above at e is came l
       (made-enters w m dir name dir_file kind perm s.is_tree s.of_manifest s.knows at' place.1 request tells (came ∙ ap (λ (x : Effect). Ok x) (sym same))) answer later legal.answered
       (inr (made-number w m dir name dir_file kind perm s.is_tree s.of_manifest s.knows at' place.1)) legal.answers
 
+-- a success that is answered Done is the world's, if the daemon knows then what the world has
+done_in : (w : World) (request : Request) (effect : Effect) (map : MapState) (later : ServedState) → effect_in w request ≡ Ok effect → Answers (numbers_of w) request (Ok effect) Done → IsTree later.tree →
+    plain later ≡ plain (served_over effect.tree map) → Knows effect.tree w.names (owed w) (served_over effect.tree map) → Worked w request Done later
+done_in w request effect map later came may is so k =
+    worked-from w request Done later (Ok effect) None came refl (inr (subst (λ (r : Result Effect Errno). Answers (numbers_of w) request r Done) (sym came) may))
+    (subst IsTree (ap (λ (p : PlainState). p.tree) so) is)
+    (knows-plain effect.tree w.names (λ n. owed w n + 0) later (served_over effect.tree map) so
+    (knows-along effect.tree w.names (owed w) (λ n. owed w n + 0) (served_over effect.tree map) (λ n. omega arith) k))
+
 -- the effect of taking a name away
 abbrev taken : Tree → FileId → List ℕ → FileId → Effect
-taken tree above name file = record { tree = removed tree above name; file = None; counts = false; unnamed = Some file }
+taken tree above name file = record { tree = removed tree above name; file = None; counts = false; names = one_lost file }
 
 take_in : (w : World) (m : MapState) (request : Request) (dir : Number) (name : List ℕ) (against : Tree → FileId → Option Errno) (answer : Answer) (later : ServedState) → Serves w m → TakesPlace request dir name →
     ((tree : Tree) (file : FileId) → against tree file ≡ None → is_full_dir tree file ≡ false) → Succeeds w m request dir (λ tree above. takes_from tree (against tree) above name) answer later
@@ -132,18 +123,47 @@ take_in w m request dir name against answer later s place frees above at e is ca
 
     worked : Legal w m request (Ok (taken w.tree above name file)) answer later → Worked w request answer later
     worked legal = subst (λ (a : Answer). Worked w request a later) (sym legal.answers)
-        (worked-from w request Done later (Ok (taken w.tree above name file)) None (came ∙ ap (λ (x : Effect). Ok x) (sym same)) refl
-        (inr (subst (λ (r : Result Effect Errno). Answers (numbers_of w) request r Done) (sym (came ∙ ap (λ (x : Effect). Ok x) (sym same))) refl))
-        (subst IsTree (ap (λ (p : PlainState). p.tree) so) ((legal.answered).keeps_tree s.is_tree))
-        (knows-plain (removed w.tree above name) w.names (λ n. owed w n + 0) later after so
-        (knows-along (removed w.tree above name) w.names (owed w) (λ n. owed w n + 0) after (λ n. omega arith)
-        (kept-knows w.tree w.names (owed w) (served_over w.tree m) after (unnaming-keeps (served_over w.tree m) dir above name file may) s.knows)))) where
-          after : ServedState
-          after = record { map = name_taken m dir name file; tree = removed w.tree above name }
-
-          so : plain later ≡ plain after
+        (done_in w request (taken w.tree above name file) (name_taken m dir name file) later (came ∙ ap (λ (x : Effect). Ok x) (sym same)) refl ((legal.answered).keeps_tree s.is_tree) so
+        (kept-knows w.tree w.names (owed w) (served_over w.tree m) (served_over (removed w.tree above name) (name_taken m dir name file)) (unnaming-keeps (served_over w.tree m) dir above name file may) s.knows)) where
+          so : plain later ≡ plain (served_over (removed w.tree above name) (name_taken m dir name file))
           so = (legal.answered).makes ∙ ap (λ (a : Answer). plain (served_after (served_over w.tree m) request (Ok (taken w.tree above name file)) a)) legal.answers
               ∙ ap plain (done-after (served_over w.tree m) request dir name (taken w.tree above name file) file place refl)
+
+-- a request that moves a name is answered so
+module _ (w : World) (m : MapState) (request : Request) (dir : Number) (name : List ℕ) (to : Number) (to_name : List ℕ) (answer : Answer) (later : ServedState) (s : Serves w m) (place : MovesPlace request dir name to to_name) where
+  -- what is known after an effect
+  so_in : (effect : Effect) → Answered w m request (Ok effect) answer later → answer ≡ Done → plain later ≡ plain (served_over effect.tree (names_changed m (move_name dir name to to_name) effect.names))
+  so_in effect made e = made.makes ∙ ap (λ (a : Answer). plain (served_after (served_over w.tree m) request (Ok effect) a)) e
+      ∙ ap plain (moved-after (served_over w.tree m) request dir name to to_name effect place)
+
+  -- the file is there already
+  left_in : effect_in w request ≡ Ok (left w.tree) → Legal w m request (Ok (left w.tree)) answer later → Worked w request answer later
+  left_in came l = subst (λ (a : Answer). Worked w request a later) (sym l.answers)
+      (done_in w request (left w.tree) m later came refl ((l.answered).keeps_tree s.is_tree) (so_in (left w.tree) l.answered l.answers) s.knows)
+
+  -- the file moves, or memory is refused
+  gone_in : (from to_dir file : FileId) → MayMove (served_over w.tree m) dir from name to to_dir to_name file → effect_in w request ≡ Ok (gone w.tree from name to_dir to_name) →
+      Legal w m request (Ok (gone w.tree from name to_dir to_name)) answer later → Worked w request answer later
+  gone_in from to_dir file may came l = by_answer l.answers where
+    by_answer : (answer ≡ Done) ⊎ (answer ≡ Error ENOMEM) → Worked w request answer later
+    by_answer (inl e) = subst (λ (a : Answer). Worked w request a later) (sym e)
+        (done_in w request (gone w.tree from name to_dir to_name) (name_moved m dir name to to_name (child_of w.tree to_dir to_name)) later came (inl refl) ((l.answered).keeps_tree s.is_tree)
+        (so_in (gone w.tree from name to_dir to_name) l.answered e)
+        (kept-knows w.tree w.names (owed w) (served_over w.tree m) _ (moving-keeps (served_over w.tree m) dir from name to to_dir to_name file may) s.knows))
+    by_answer (inr e) = subst (λ (a : Answer). Worked w request a later) (sym e)
+        (error-worked w m request (Ok (gone w.tree from name to_dir to_name)) ENOMEM later s.is_tree s.knows
+        ((l.answered).makes ∙ ap (λ (a : Answer). plain (served_after (served_over w.tree m) request (Ok (gone w.tree from name to_dir to_name)) a)) e)
+        (inr (subst (λ (r : Result Effect Errno). Answers (numbers_of w) request r (Error ENOMEM)) (sym came) (inr refl))))
+
+  move_in : (files : ℕ → Option FileId) → IsNamed (served_over w.tree m) files dir → IsNamed (served_over w.tree m) files to →
+      (e : Effect) → moves_between w.tree (files dir.0) name (files to.0) to_name ≡ Ok e → effect_in w request ≡ Ok e → Legal w m request (Ok e) answer later → Worked w request answer later
+  move_in files n t e is came l = by-move w.tree (files dir.0) name (files to.0) to_name e is
+      (λ (x : Effect). effect_in w request ≡ Ok x → Legal w m request (Ok x) answer later → Worked w request answer later) left_in
+      (λ from to_dir g. gone_in from to_dir g.file (may-move (served_over w.tree m) dir from name to to_dir to_name (files dir.0) (files to.0) s.is_tree (s.knows).sound (at dir from n g.from_is) (at to to_dir t g.to_is) g)) came l where
+        at : (number : Number) (file : FileId) → IsNamed (served_over w.tree m) files number → files number.0 ≡ Some file → IsFileOf w.tree m.entries number.0 file
+        at number file named is' =
+            let same : named.file ≡ file = (let o : Some named.file ≡ Some file = sym named.says ∙ is' in cc) in
+            subst (λ (f : FileId). IsFileOf w.tree m.entries number.0 f) same named.names
 
 -- a request for attributes is answered so
 show_in : (w : World) (m : MapState) (request : Request) (node : Number) (answer : Answer) (later : ServedState) → Serves w m → deed_of request ≡ show_file node → Succeeds w m request node shows answer later
@@ -172,38 +192,54 @@ show_in w m request node answer later s does file at e is came l =
 
             so : plain later ≡ plain (served_over w.tree m)
             so = made.makes ∙ ap (λ (a : Answer). plain (served_after (served_over w.tree m) request (Ok (shown w.tree file)) a)) (t.is ∙ form)
-                ∙ ap plain (shown-after (served_over w.tree m) request (shown w.tree file) told (ap place_entered does) (ap place_left does) refl)
+                ∙ ap plain (shown-after (served_over w.tree m) request node (shown w.tree file) told does refl)
 
 -- ---- all requests
 
--- a legal answer to a request that names a number is one of the world's
-legal_to : (w : World) (m : MapState) (request : Request) (dir : Number) (effect : Tree → Option FileId → Result Effect Errno) (answer : Answer) (later : ServedState) → Serves w m → GoesTo request dir effect → Succeeds w m request dir effect answer later →
-    IsLegal (served_over w.tree m) request answer later → Worked w request answer later
-legal_to w m request dir effect answer later s goes success l =
-    let came : comes_to w.tree l.files request ≡ effect w.tree (l.files dir.0) = goes.comes w.tree l.files in
-    let located = subst (λ (numbers : List Number). AllByRecursion (λ (node : Number). IsLocated (served_over w.tree m) node.0 (l.files node.0)) numbers) goes.looks l.locates in
-    goes_in w m request dir effect answer later s goes success (l.files dir.0) located.0 (subst (λ (r : Result Effect Errno). Legal w m request r answer later) came (record {
-      answers = l.answers;
-      answered = record { makes = l.makes; keeps_tree = l.keeps_tree };
-    }))
+module _ (w : World) (m : MapState) (request : Request) (files : ℕ → Option FileId) (answer : Answer) (later : ServedState) (s : Serves w m) where
+  abbrev Named : Number → Type 0
+  Named = IsNamed (served_over w.tree m) files
 
--- a legal answer to a request that is not served is one of the world's
-unserved_in : (w : World) (m : MapState) (request : Request) (answer : Answer) (later : ServedState) → Serves w m → deed_of request ≡ unserved → IsLegal (served_over w.tree m) request answer later → Worked w request answer later
-unserved_in w m request answer later s does l =
-    error_in w m request ENOSYS answer later s (subst (λ (r : Result Effect Errno). Legal w m request r answer later) (ap (done_to w.tree l.files) does) (record {
-      answers = l.answers;
-      answered = record { makes = l.makes; keeps_tree = l.keeps_tree };
-    })) (inr (subst (λ (r : Result Effect Errno). Answers (numbers_of w) request r (Error ENOSYS)) (sym (ap (done_to w.tree (file_named w.names)) does)) refl))
+  -- a success over the file of one number
+  one_in : (dir : Number) (effect : Tree → Option FileId → Result Effect Errno) → Succeeds w m request dir effect answer later → Named dir →
+      (e : Effect) → effect w.tree (files dir.0) ≡ Ok e → effect_in w request ≡ Ok e → Legal w m request (Ok e) answer later → Worked w request answer later
+  one_in dir effect success n e is came l = success n.file n.names e (sym (ap (effect w.tree) n.says) ∙ is) came l
 
--- a legal answer over the world's tree is one of the world's, by what the request does
+  -- a success, by what the request does
+  success_in : (deed : Deed) → deed_of request ≡ deed → AllByRecursion Named (looked_at deed) →
+      (e : Effect) → done_to w.tree files deed ≡ Ok e → effect_in w request ≡ Ok e → Legal w m request (Ok e) answer later → Worked w request answer later
+  success_in (find_name dir name) does (n, _) = one_in dir (λ tree above. enters tree (found_in tree above name)) (find_in w m request dir name answer later s (find-tells request dir name does)) n
+  success_in (make_file dir name kind perm) does (n, _) = one_in dir (λ tree above. makes tree name kind perm (free_in tree above name)) (make_in w m request dir name kind perm answer later s (make-tells request dir name kind perm does)) n
+  success_in (take_name dir name kind) does (n, _) = one_in dir (λ tree above. takes_from tree (against_taking kind tree) above name) (take_in w m request dir name (against_taking kind) answer later s (take-takes request dir name kind does) (take-frees kind)) n
+  success_in (move_name dir name to to_name) does (n, (t, _)) = move_in w m request dir name to to_name answer later s (move-moves request dir name to to_name does) files n t
+  success_in (show_file node) does (n, _) = one_in node shows (show_in w m request node answer later s does) n
+  success_in unserved does all = λ e is came l. absurd (let none : ⊥ = cc in none)
+
+  -- what each number names for the daemon it names in the world
+  named_as : (nodes : List Number) → AllByRecursion Named nodes → AllByRecursion (λ (node : Number). files node.0 ≡ file_named w.names node.0) nodes
+  named_as [] all = tt
+  named_as (node ∷ nodes) (n, rest) = (n.says ∙ sym ((s.knows).files node.0 n.file n.names), named_as nodes rest)
+
+  -- a legal answer over files that its numbers name
+  named_in : AllByRecursion Named (looks_at request) → Legal w m request (comes_to w.tree files request) answer later → Worked w request answer later
+  named_in named l = in_ (comes_to w.tree files request) refl l where
+    came : effect_in w request ≡ comes_to w.tree files request
+    came = sym (done-same w.tree files (file_named w.names) (deed_of request) (named_as (looks_at request) named))
+
+    in_ : (r : Result Effect Errno) → comes_to w.tree files request ≡ r → Legal w m request r answer later → Worked w request answer later
+    in_ (Ok e) is l' = success_in (deed_of request) refl named e is (came ∙ is) l'
+    in_ (Err errno) is l' = error_in w m request errno answer later s l' (inr (subst (λ (r : Result Effect Errno). Answers (numbers_of w) request r (Error errno)) (sym (came ∙ is)) refl))
+
+-- a legal answer over the world's tree is one of the world's
 legal_in : (w : World) (m : MapState) (request : Request) (answer : Answer) (later : ServedState) → Serves w m → IsLegal (served_over w.tree m) request answer later → Worked w request answer later
-legal_in w m request answer later s l = by_deed (deed_of request) refl where
-  by_deed : (deed : Deed) → deed_of request ≡ deed → Worked w request answer later
-  by_deed (find_name dir name) does = legal_to w m request dir _ answer later s (find-goes request dir name does) (find_in w m request dir name answer later s (find-tells request dir name does)) l
-  by_deed (make_file dir name kind perm) does = legal_to w m request dir _ answer later s (make-goes request dir name kind perm does) (make_in w m request dir name kind perm answer later s (make-tells request dir name kind perm does)) l
-  by_deed (take_name dir name kind) does = legal_to w m request dir _ answer later s (take-goes request dir name kind does) (take_in w m request dir name (against_taking kind) answer later s (take-takes request dir name kind does) (take-frees kind)) l
-  by_deed (show_file node) does = legal_to w m request node _ answer later s (show-goes request node does) (show_in w m request node answer later s does) l
-  by_deed unserved does = unserved_in w m request answer later s does l
+legal_in w m request answer later s l = in_ (all-named (served_over w.tree m) l.files (looks_at request) l.locates) where
+  legal : Legal w m request (comes_to w.tree l.files request) answer later
+  legal = record { answers = l.answers; answered = record { makes = l.makes; keeps_tree = l.keeps_tree } }
+
+  in_ : AllByRecursion (IsNamed (served_over w.tree m) l.files) (looks_at request) ⊎ IsUnnamed (served_over w.tree m) l.files (looks_at request) → Worked w request answer later
+  in_ (inl named) = named_in w m request l.files answer later s named legal
+  in_ (inr u) = error_in w m request ESTALE answer later s
+      (subst (λ (r : Result Effect Errno). Legal w m request r answer later) (done-stale w.tree l.files (deed_of request) u.missing) legal) (stale_in w m request l.files s u)
 
 -- A legal answer is one that the world may give, and what the daemon knows after it is what the world has then.
 pub answers-worked : (w : World) (served later : ServedState) (request : Request) (answer : Answer) → IsTree w.tree → w.tree.manifest ≡ w.manifest → Knows w.tree w.names (owed w) served → IsLegal served request answer later →

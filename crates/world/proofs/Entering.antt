@@ -20,7 +20,7 @@ use Rattle.entry_table.specs.Entries.{count_of}
 use Rattle.inode_map.specs.InodeMap.{MapState, give_fault, given, number_given}
 use Rattle.inode_map.specs.declared.inode_map.GiveFault.{GiveFault}
 use Rattle.inode_map.specs.declared.inode_map.GiveFault.TheVariants.{NoNumber, TooMany, NoMemory}
-use Rattle.fuse_ops.specs.Answers.{NumberFault, none_left, at_greatest, number_errno, Effect, Tells, Answers, AnswersFile, AnswersCounted, telling, tree_after, IsBacked as IsBackedIn}
+use Rattle.fuse_ops.specs.Answers.{NumberFault, none_left, at_greatest, none_lost, number_errno, Effect, Tells, Answers, AnswersFile, AnswersCounted, telling, tree_after, IsBacked as IsBackedIn}
 use Rattle.fuse_ops.specs.Gifts.{served_over}
 use Rattle.fuse_ops.specs.Served.{ServedState, PlainState, plain, place_told, numbers_at, number_fault, served_after}
 use Rattle.fuse_ops.proofs.Shapes.{entered, TellsEntry, gift-tree, entry-after}
@@ -74,7 +74,7 @@ module _ (w : World) (m : MapState) (request : Request) (dir : Number) (name : L
   old = served_over w.tree m
 
   -- what the table answers by the world's numbers is one of the world's answers
-  may_in : (a : Answer) → AnswersFile (numbers_of w) request tree (Some file) true a → MayAnswer w request a
+  may_in : (a : Answer) → AnswersFile (numbers_of w) request tree (Some file) true none_lost a → MayAnswer w request a
   may_in a given_so = inr (subst (λ (r : Result Effect Errno). Answers (numbers_of w) request r a) (sym e.comes) given_so)
 
   -- the answer is an error
@@ -178,7 +178,7 @@ module _ (w : World) (m : MapState) (request : Request) (dir : Number) (name : L
 
   -- A legal answer to a request that tells an entry is one of the world's.
   pub enters-worked : Numbered w m dir name file ⊎ Unnumbered w m dir name file → Answers (numbers_at (served_over w.tree m) (place_told request)) request (Ok (entered tree file)) answer → Worked w request answer later
-  enters-worked numbers answers = in_ numbers (subst (λ (p : Option (Number × List ℕ)). AnswersFile (numbers_at (served_over w.tree m) p) request tree (Some file) true answer) ((e.tells).told) answers) where
-    in_ : Numbered w m dir name file ⊎ Unnumbered w m dir name file → AnswersFile (numbers_at (served_over w.tree m) (Some (dir, name))) request tree (Some file) true answer → Worked w request answer later
+  enters-worked numbers answers = in_ numbers (subst (λ (p : Option (Number × List ℕ)). AnswersFile (numbers_at (served_over w.tree m) p) request tree (Some file) true none_lost answer) ((e.tells).told) answers) where
+    in_ : Numbered w m dir name file ⊎ Unnumbered w m dir name file → AnswersFile (numbers_at (served_over w.tree m) (Some (dir, name))) request tree (Some file) true none_lost answer → Worked w request answer later
     in_ (inl n) (fault, is, a) = numbered_in n fault is a
     in_ (inr n) (fault, is, a) = unnumbered_in n fault is a

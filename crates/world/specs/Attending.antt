@@ -77,7 +77,7 @@ of_ask measure task = if is_ask task.what then measure task.unique else 0
 abbrev pub of_reply : (ℕ → ℕ) → Reply → ℕ
 of_reply measure reply = measure reply.unique
 
--- the measure of the unique of a taken ask
+-- the measure of a taken ask's unique
 abbrev pub of_taken : (ℕ → ℕ) → ℕ × Form → ℕ
 of_taken measure asked = measure asked.0
 

@@ -140,7 +140,7 @@ hear_refusal state position None = Some refusal.NoDaemon
 hear_refusal state position (Some of) =
     if is_none (at_position state.messages position) then Some refusal.NoSuch else None
 
--- why a daemon is not ready to hand over, if it is not: it does not drain, or has something in hand or unposted
+-- what keeps a daemon from handing over, if anything does: it does not drain, or has something in hand or unposted
 abbrev pub drained_refusal : Option DaemonState → Option Refusal
 drained_refusal None = Some refusal.NoDaemon
 drained_refusal (Some of) = option_map refusal_of_drain (drain_fault of.node.phase (in_hand of) (unposted of))
@@ -155,7 +155,7 @@ abbrev pub claim_refusal : State → Option DaemonState → Option Refusal
 claim_refusal state None = Some refusal.NoDaemon
 claim_refusal state (Some of) = wanted_refusal state (claim_wanted of.node.phase)
 
--- the refusal of an event for a daemon that there is not
+-- the refusal of an event whose daemon was never started
 abbrev pub absence : Option DaemonState → Option Refusal
 absence None = Some refusal.NoDaemon
 absence (Some of) = None

@@ -141,8 +141,8 @@ abbrev pub IsBacked : World → FileId → Type 0
 IsBacked world file = (kind_of world.tree file ≡ Some File) × (file.0 < length world.manifest.lines + 2)
 
 -- What the world knows of numbers, for the table of answers. Failing backings and lack of memory are no part of the
--- world. So EIO may come for every file that is backed and ENOMEM for every number that is given out, unless an earlier
--- error of the row comes.
+-- world. So EIO may come for every file that is backed, and ENOMEM for every number that is given out and every name that
+-- moves, unless an earlier error of the row comes.
 abbrev pub numbers_of : World → Numbers
 numbers_of world = record {
   IsAgainst = IsAgainst world;

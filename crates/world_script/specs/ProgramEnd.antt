@@ -42,8 +42,8 @@ plain fault = record { fault = fault; cause = None }
 abbrev pub name_of : Failure → Option (List ℕ)
 name_of failure = option_map (λ cause. cause.name.now) failure.cause
 
--- the name of the file or stream whose error causes this fault, in a run of the script at this path: its lines' writer,
--- or its reader
+-- the name of the file or stream whose error causes this fault: that to which lines are written if they can't be, else
+-- that from which the script at this path is read
 abbrev pub name_with : List ℕ → Fault → List ℕ
 name_with path CannotWrite = codes "standard output"
 name_with path _ = stream_at path
