@@ -4,6 +4,8 @@ ghost use Rattle.std.specs.Prelude.{IsTrue};
 ghost use Rattle.takeover_core.specs.Phases.{heard, Hear};
 ghost use Rattle.daemon.specs.Talking.{brings_part};
 
+mod count_tests;
+
 use byte_codec::Bytes;
 use daemon::{Daemon, Reaction};
 use eden_base::NoMemory;
@@ -135,12 +137,17 @@ fn makes_each(alloc: Global, manifest: &Manifest, rows: &[(usize, u8, Makes)]) -
     true
 }
 
-/// Reads the manifest `CHECKOUT`, and tries once more if memory was refused.
-fn manifest_of(alloc: Global) -> Result<Manifest, ManifestFault> {
-    match Manifest::read(alloc, CHECKOUT) {
+/// Reads the manifest in `text`, and tries once more if memory was refused.
+fn manifest_from(alloc: Global, text: &[u8]) -> Result<Manifest, ManifestFault> {
+    match Manifest::read(alloc, text) {
         Ok(manifest) => Ok(manifest),
-        Err(_refused) => Manifest::read(alloc, CHECKOUT),
+        Err(_refused) => Manifest::read(alloc, text),
     }
+}
+
+/// Reads the manifest `CHECKOUT`.
+fn manifest_of(alloc: Global) -> Result<Manifest, ManifestFault> {
+    manifest_from(alloc, CHECKOUT)
 }
 
 /// Calls `makes_each` with the manifest `CHECKOUT`.

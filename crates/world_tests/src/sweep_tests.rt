@@ -9,7 +9,7 @@ use std::alloc::Global;
 /// How often a list of deeds is done, and the list.
 pub type Round = (u32, &'static [Deed]);
 
-/// What a sweep makes in many sizes.
+/// What one test makes, in sizes up to a limit.
 #[derive(Clone, Copy)]
 enum Sweep {
     /// Rounds of deeds, none of which is refused.

@@ -2,7 +2,7 @@
 use super::{MANIFEST, prints};
 use std::alloc::Global;
 
-static BAD_LINES: [&[u8]; 88] = [
+static BAD_LINES: [&[u8]; 96] = [
     b"\n",
     b" \n",
     b"\r\n",
@@ -70,7 +70,15 @@ static BAD_LINES: [&[u8]; 88] = [
     b"do unlink 1\n",
     b"do unlink 1 .\n",
     b"do rmdir 1 \n",
-    b"do rename 1 2 a/b\n",
+    b"do rename 1 2 a\n",
+    b"do rename 1 a/b\n",
+    b"do rename x 2 a/b\n",
+    b"do rename 1 2 a/b/c\n",
+    b"do rename 1 2 ./b\n",
+    b"do rename 1 2 a/..\n",
+    b"do rename 1 2 /b\n",
+    b"do rename 1 2 a/\n",
+    b"do rename 1  2 a/b\n",
     b"issue\n",
     b"issue \n",
     b"issue show\n",

@@ -124,6 +124,9 @@ fn print_daemon<W: Write>(words: &DaemonWords<'_>, out: &mut W) -> io::Result<()
         words.broker, words.takeover, words.manifest
     )?;
     writeln!(out, "{} {} {}", words.workers, words.limit, words.patience)?;
+    if words.until_closed {
+        writeln!(out, "until closed")?;
+    }
     out.flush()
 }
 

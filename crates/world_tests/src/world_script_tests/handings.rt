@@ -1,5 +1,5 @@
-//! Takeovers of three images: one that just fits into one message, one that is too long for that, and the long one in
-//! parts.
+//! Takeovers of four images: one that just fits into one message, one that is too long for that, and the long one in
+//! parts, with counts of four and of eight bytes.
 use super::prints;
 use std::alloc::{AllocError, Global};
 
@@ -19,15 +19,17 @@ enum Image {
     IsTooLong,
     /// The image of 116 files in sixteen parts. The new daemon claims the seat.
     InParts,
+    /// The image of 116 files in version 3, which has 65,602 bytes, in seventeen parts.
+    Wide,
 }
 
 impl Image {
-    /// Returns how many files with names of 255 bytes are made. Each takes an entry of 277 bytes, a made file of 11,
-    /// and a changed link of 273.
+    /// Returns how many files with names of 255 bytes are made. Each takes an entry of 277 bytes, in version 3 of 281, a
+    /// made file of 11, and a changed link of 273.
     fn files(self) -> u32 {
         match self {
             Image::Fits => 115,
-            Image::IsTooLong | Image::InParts => 116,
+            Image::IsTooLong | Image::InParts | Image::Wide => 116,
         }
     }
 
@@ -35,6 +37,7 @@ impl Image {
     fn start(self) -> &'static str {
         match self {
             Image::InParts => "start 1 2",
+            Image::Wide => "start 1 2 3",
             _ => "start",
         }
     }
@@ -43,6 +46,7 @@ impl Image {
     fn version(self) -> u16 {
         match self {
             Image::InParts => 2,
+            Image::Wide => 3,
             _ => 1,
         }
     }
@@ -51,6 +55,7 @@ impl Image {
     fn messages(self) -> u32 {
         match self {
             Image::InParts => 16,
+            Image::Wide => 17,
             _ => 1,
         }
     }
@@ -61,6 +66,7 @@ impl Image {
             Image::Fits => "said 6 data 1 1 64577\n",
             Image::IsTooLong => "said 6 failed 1\n",
             Image::InParts => "said 6 parts 1 1 16 65138\n",
+            Image::Wide => "said 6 parts 1 1 17 65602\n",
         }
     }
 
@@ -70,7 +76,7 @@ impl Image {
         match self {
             Image::Fits => "claimed 2\nanswer 116 attr 1 dir 0755 0 2\n",
             Image::IsTooLong => "refused WrongPhase\nanswer 117 attr 1 dir 0755 0 2\n",
-            Image::InParts => "claimed 2\nanswer 117 attr 1 dir 0755 0 2\n",
+            Image::InParts | Image::Wide => "claimed 2\nanswer 117 attr 1 dir 0755 0 2\n",
         }
     }
 }
@@ -153,4 +159,9 @@ fn serves_on_where_the_image_is_too_long(rt: HostRuntime) {
 #[test]
 fn hands_an_image_of_65138_bytes_over_in_parts(rt: HostRuntime) {
     assert!(rt; hands(rt.alloc(), Image::InParts));
+}
+
+#[test]
+fn hands_an_image_of_65602_bytes_over_in_version_3(rt: HostRuntime) {
+    assert!(rt; hands(rt.alloc(), Image::Wide));
 }

@@ -3,7 +3,7 @@ use super::{MANIFEST, prints};
 use std::alloc::Global;
 
 /// The start of a script, its rest, and the printed lines.
-static ROWS: [(&[u8], &[u8], &[u8]); 44] = [
+static ROWS: [(&[u8], &[u8], &[u8]); 46] = [
     (
         MANIFEST,
         b"start\nmount 1\nshow\n",
@@ -220,6 +220,18 @@ static ROWS: [(&[u8], &[u8], &[u8]); 44] = [
         MANIFEST,
         b"start 00001 0 65535 1 7 7 7 2\nmount 1\nstart 2 0\nhear 1 2\nhear 2 3\ndrained 1\nhear 2 4\nhear 1 5\nhear 2 6\nclaim 2\n",
         b"daemon 1\nmounted 1\ndaemon 2\nsaid 3 choice 1 2\nheard\nsaid 4 ready 1 1\nsaid 5 pong 1\nsaid 6 parts 1 1 1 62\nheard\nclaimed 2\n",
+    ),
+    // In version 3 each entry has four bytes more, for its count: here three entries.
+    (
+        MANIFEST,
+        b"start 1 2 3\nmount 1\ndo lookup 1 src\ndo lookup 1 README\ndo lookup 1 README\ndo lookup 1 README\ndo create 1 0600 t\ndo unlink 1 t\nstart 1 2 3\nhear 1 2\nhear 2 3\ndrained 1\nhear 2 4\nhear 1 5\nhear 2 6\nclaim 2\ndo getattr 4\ndo forget 3 2\nshow\n",
+        b"daemon 1\nmounted 1\nanswer 1 entry 2 dir 0755 0 2\nanswer 2 entry 3 file 0644 7 1\nanswer 3 entry 3 file 0644 7 1\nanswer 4 entry 3 file 0644 7 1\nanswer 5 opened 4 file 0600 0 1\nanswer 6 done\ndaemon 2\nsaid 3 choice 1 3\nheard\nsaid 4 ready 1 1\nsaid 5 pong 1\nsaid 6 parts 1 1 1 159\nheard\nclaimed 2\nanswer 7 attr 4 file 0600 0 0\nforgot Lowered\nseat 2 2 next 5\nnumber 2 held 1 up 0 down 0 count 1 at 1 src\nnumber 3 held 1 up 0 down 0 count 1 at 1 README\nnumber 4 held 1 up 0 down 0 count 1 unlinked 6\n",
+    ),
+    // A daemon without version 3 is handed version 2 by one that has it.
+    (
+        MANIFEST,
+        b"start 3 2 1\nmount 1\ndo lookup 1 src\nstart 1 2\nhear 1 2\nhear 2 3\ndrained 1\nhear 2 4\nhear 1 5\nhear 2 6\nclaim 2\n",
+        b"daemon 1\nmounted 1\nanswer 1 entry 2 dir 0755 0 2\ndaemon 2\nsaid 3 choice 1 2\nheard\nsaid 4 ready 1 1\nsaid 5 pong 1\nsaid 6 parts 1 1 1 87\nheard\nclaimed 2\n",
     ),
     // The two daemons have no version in common.
     (

@@ -112,8 +112,7 @@ fn done(world: &mut World, request: Request, late: &mut u64) -> Option<Happened>
     told
 }
 
-/// Prints what a `do` told last. Lowers the unique by `late`, so that it is the one of a run in which nothing is made
-/// again.
+/// Prints what a `do` told last. Lowers the unique by `late`, which gives the unique of a run without repeated events.
 fn print_done(out: &mut Vec<u8>, told: &Happened, late: u64) -> io::Result<()> {
     match told {
         Happened::Answered(reply) => {

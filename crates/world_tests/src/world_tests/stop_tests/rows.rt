@@ -3,10 +3,10 @@
 /// How often each result comes of the runs of a row, as counted from the table of phases.
 #[derive(Clone, Copy, PartialEq, Eq)]
 pub(crate) struct Tally {
-    /// How many runs end the mount by the crash, and, in `kept`, in how many a daemon keeps the seat.
+    /// How many crashes end the mount. `kept` is after how many a daemon still has the seat.
     pub ended: u64,
     pub kept: u64,
-    /// How many claims are refused because there is no mount, and, in `told_stale`, because there is a later mount.
+    /// How many claims are refused because there is no mount. `told_stale` is how many because there is a later mount.
     pub told_ended: u64,
     pub told_stale: u64,
     /// How many daemons claim back the seat that they had.

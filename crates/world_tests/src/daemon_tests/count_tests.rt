@@ -1,0 +1,338 @@
+//! A takeover by each pair of lists of versions, with a count below and above 2^32. What the old daemon serves comes from
+//! an image that the test makes.
+use super::{Makes, heard, made, manifest_from};
+use byte_codec::Bytes;
+use daemon::{Daemon, Reaction};
+use eden_base::NoMemory;
+use manifest::Manifest;
+use std::alloc::{AllocError, Global};
+use takeover_core::{Message, Phase, Versions};
+
+/// A manifest of one file, whose name is `a`.
+const CHECKOUT: &[u8] = b"commit 0123456789abcdef0123456789abcdef01234567
+file 0644 7 a
+";
+
+const COMMIT: [u8; 20] = [
+    0x01, 0x23, 0x45, 0x67, 0x89, 0xab, 0xcd, 0xef, 0x01, 0x23, 0x45, 0x67, 0x89, 0xab, 0xcd, 0xef,
+    0x01, 0x23, 0x45, 0x67,
+];
+
+/// The lists of versions that a daemon may have. The first `n` of `VERSIONS` are the list of place `n - 1`.
+const VERSIONS: [u16; 3] = [1, 2, 3];
+
+/// The greatest count of versions 1 and 2, and counts about it; the greatest count of all.
+static COUNTS: [u64; 5] = [
+    7,
+    4_294_967_295,
+    4_294_967_296,
+    4_294_967_297,
+    9_223_372_036_854_775_807,
+];
+
+/// Returns the list of versions at the place `index`.
+fn list_of(index: usize) -> Versions {
+    match index {
+        0 => Versions::of(&[1]),
+        1 => Versions::of(&[1, 2]),
+        _ => Versions::of(&[1, 2, 3]),
+    }
+}
+
+/// Appends `parts` to `bytes`, one after another.
+fn put(bytes: &mut Vec<u8>, parts: &[&[u8]]) -> Result<(), AllocError> {
+    for part in parts {
+        bytes.extend_from_slice(part)?;
+    }
+    Ok(())
+}
+
+/// Returns the bytes of a count in `version`: all eight, or the four last ones.
+fn width_in(version: u16, count: &[u8; 8]) -> &[u8] {
+    if version == 3 {
+        return count.as_slice();
+    }
+    let (_, low) = count.split_at(4);
+    low
+}
+
+/// Makes the image of `version` at `generation` in which `a` has number 2 and `count`.
+fn image_of(
+    alloc: Global,
+    version: u16,
+    generation: u64,
+    count: u64,
+) -> Result<Vec<u8>, AllocError> {
+    let wide = count.to_be_bytes();
+    let mut bytes = Vec::new(alloc);
+    put(
+        &mut bytes,
+        &[
+            b"EDTK".as_slice(),
+            version.to_be_bytes().as_slice(),
+            COMMIT.as_slice(),
+            generation.to_be_bytes().as_slice(),
+            // the next number, the next file, and how many entries there are
+            3u64.to_be_bytes().as_slice(),
+            3u64.to_be_bytes().as_slice(),
+            1u32.to_be_bytes().as_slice(),
+            // the entry: its number, the mark, the count, the directory and the name
+            2u64.to_be_bytes().as_slice(),
+            [0].as_slice(),
+            width_in(version, &wide),
+            1u64.to_be_bytes().as_slice(),
+            b"\x01a".as_slice(),
+            // no file was made, and no link changed
+            [0; 8].as_slice(),
+        ],
+    )?;
+    Ok(bytes)
+}
+
+/// Makes the image once more if memory was refused.
+fn text_of(alloc: Global, version: u16, generation: u64, count: u64) -> Result<Vec<u8>, NoMemory> {
+    match image_of(alloc, version, generation, count) {
+        Ok(bytes) => Ok(bytes),
+        Err(AllocError) => Ok(image_of(alloc, version, generation, count)?),
+    }
+}
+
+/// Makes the message with which `bytes` are handed over in session 1, in `version`: whole, or as the only part.
+fn message_of(version: u16, generation: u64, bytes: Vec<u8>) -> Message {
+    let bytes = Bytes::of(bytes);
+    if version == 1 {
+        return Message::Data {
+            session: 1,
+            generation,
+            bytes,
+        };
+    }
+    Message::Part {
+        session: 1,
+        generation,
+        position: 1,
+        count: 1,
+        bytes,
+    }
+}
+
+/// Returns the message that is said in `reaction`, if there is one.
+fn said(reaction: Result<Reaction, NoMemory>) -> Option<Message> {
+    match reaction {
+        Ok(Reaction::Says(message, others)) => {
+            drop(others);
+            Some(message)
+        }
+        _ => None,
+    }
+}
+
+/// Answers the claim of `daemon` with `next` if it holds data, and returns whether it serves at `next` then.
+fn claims(daemon: &mut Daemon, next: u64) -> bool {
+    if let Phase::Holding { .. } = daemon.phase() {
+        daemon.take_answer(Ok(next));
+        return daemon.phase() == Phase::Serving { generation: next };
+    }
+    false
+}
+
+/// Lets a new daemon with these `versions` take over the image of version 3 with `count`, and serve at generation 2.
+fn serving(alloc: Global, manifest: &Manifest, versions: Versions, count: u64) -> Option<Daemon> {
+    let text = text_of(alloc, 3, 1, count).ok()?;
+    let data = message_of(1, 1, text);
+    let choice = Message::Choice {
+        session: 1,
+        version: 1,
+    };
+    let mut daemon = Daemon::new(versions);
+    drop(heard(alloc, &mut daemon, manifest, &choice));
+    drop(heard(alloc, &mut daemon, manifest, &data));
+    drop(data);
+    if claims(&mut daemon, 2) {
+        return Some(daemon);
+    }
+    None
+}
+
+/// Carries the messages of a takeover between `old` and `new`, up to that in which `old` hands its data over or says
+/// Failed. Returns the version that `old` chose, and that message.
+fn handed(
+    alloc: Global,
+    manifest: &Manifest,
+    old: &mut Daemon,
+    new: &mut Daemon,
+) -> Option<(u16, Message)> {
+    let offer = new.offer();
+    let choice = said(heard(alloc, old, manifest, &offer))?;
+    let Message::Choice { version, .. } = choice else {
+        return None;
+    };
+    drop(heard(alloc, new, manifest, &choice));
+    let ready = said(old.drain().map_err(|_| NoMemory))?;
+    let pong = said(heard(alloc, new, manifest, &ready))?;
+    let data = said(heard(alloc, old, manifest, &pong))?;
+    Some((version, data))
+}
+
+/// Returns whether `data` is the image of `version` at generation 2 with `count`.
+fn is_image(alloc: Global, data: &Message, version: u16, count: u64) -> bool {
+    match text_of(alloc, version, 2, count) {
+        Ok(bytes) => {
+            let expected = message_of(version, 2, bytes);
+            let so = *data == expected;
+            drop(expected);
+            so
+        }
+        Err(NoMemory) => false,
+    }
+}
+
+/// Returns whether `data` is the image of `version` with `count`, and `new` holds it once it heard it.
+fn is_held(
+    alloc: Global,
+    manifest: &Manifest,
+    new: &mut Daemon,
+    version: u16,
+    data: &Message,
+    count: u64,
+) -> bool {
+    let makes = made(heard(alloc, new, manifest, data));
+    is_image(alloc, data, version, count) && makes == Makes::Holds && new.claim_wanted() == Some(2)
+}
+
+/// Returns whether `data` is Failed, `old` serves on, and `new` is gone once it heard it.
+fn is_served_on(
+    alloc: Global,
+    manifest: &Manifest,
+    old: &Daemon,
+    new: &mut Daemon,
+    data: &Message,
+) -> bool {
+    drop(heard(alloc, new, manifest, data));
+    *data == Message::Failed { session: 1 }
+        && old.phase() == Phase::Serving { generation: 2 }
+        && new.phase() == Phase::Gone
+}
+
+/// Returns whether `old`, which serves `count`, hands over to `new` in `version`, or serves on if a count of that version
+/// can't be so great.
+fn goes_so(
+    alloc: Global,
+    manifest: &Manifest,
+    old: &mut Daemon,
+    new: &mut Daemon,
+    version: u16,
+    count: u64,
+) -> bool {
+    let Some((chosen, data)) = handed(alloc, manifest, old, new) else {
+        return false;
+    };
+    let so = if version < 3 && count > 4_294_967_295 {
+        is_served_on(alloc, manifest, old, new, &data)
+    } else {
+        is_held(alloc, manifest, new, version, &data, count)
+            && matches!(old.phase(), Phase::Handed { .. })
+    };
+    drop(data);
+    so && chosen == version
+}
+
+/// Calls `goes_so` with a daemon of the list `old` that serves `count`, and a new one of the list `new`. The greatest
+/// version that both have is chosen.
+fn is_taken_over(alloc: Global, manifest: &Manifest, old: usize, new: usize, count: u64) -> bool {
+    let Some(mut first) = serving(alloc, manifest, list_of(old), count) else {
+        return false;
+    };
+    let mut second = Daemon::new(list_of(new));
+    let version = VERSIONS[old.min(new).min(2)];
+    let so = goes_so(alloc, manifest, &mut first, &mut second, version, count);
+    drop(second);
+    drop(first);
+    so
+}
+
+/// Calls `is_taken_over` with each count of `COUNTS`.
+fn is_each_taken_over(alloc: Global, manifest: &Manifest, old: usize, new: usize) -> bool {
+    COUNTS
+        .iter()
+        .all(|count| is_taken_over(alloc, manifest, old, new, *count))
+}
+
+/// Calls `is_each_taken_over` with each pair of lists.
+fn are_all_taken_over(alloc: Global) -> bool {
+    let Ok(manifest) = manifest_from(alloc, CHECKOUT) else {
+        return false;
+    };
+    let mut so = true;
+    for pair in 0..9usize {
+        so = so && is_each_taken_over(alloc, &manifest, pair / 3, pair % 3);
+    }
+    drop(manifest);
+    so
+}
+
+#[test]
+fn hands_over_in_each_version_or_serves_on(rt: HostRuntime) {
+    assert!(rt; are_all_taken_over(rt.alloc()));
+}
+
+/// Returns the reaction of a new daemon of the list `own` to the image of `version` with `count`, sent as the greatest
+/// version that the daemon has is sent.
+fn makes_of(alloc: Global, manifest: &Manifest, own: usize, version: u16, count: u64) -> Makes {
+    let chosen = VERSIONS[own.min(2)];
+    let Ok(text) = text_of(alloc, version, 1, count) else {
+        return Makes::Other;
+    };
+    let data = message_of(chosen, 1, text);
+    let choice = Message::Choice {
+        session: 1,
+        version: chosen,
+    };
+    let mut daemon = Daemon::new(list_of(own));
+    drop(heard(alloc, &mut daemon, manifest, &choice));
+    let makes = made(heard(alloc, &mut daemon, manifest, &data));
+    drop(data);
+    drop(daemon);
+    makes
+}
+
+/// An image's version and count, and what a daemon of any list makes of it.
+static IMAGES: [(u16, u64, Makes); 8] = [
+    (1, 7, Makes::Holds),
+    (1, 4_294_967_295, Makes::Holds),
+    (2, 7, Makes::Holds),
+    (2, 4_294_967_295, Makes::Holds),
+    (3, 4_294_967_296, Makes::Holds),
+    (3, 9_223_372_036_854_775_807, Makes::Holds),
+    (3, 9_223_372_036_854_775_808, Makes::Fails),
+    (4, 7, Makes::Fails),
+];
+
+/// Returns whether a daemon of each list makes of `image` what it says.
+fn is_read_by_each(alloc: Global, manifest: &Manifest, image: (u16, u64, Makes)) -> bool {
+    let (version, count, expected) = image;
+    for own in 0..3usize {
+        if makes_of(alloc, manifest, own, version, count) != expected {
+            return false;
+        }
+    }
+    true
+}
+
+/// Calls `is_read_by_each` with each of `images`.
+fn are_all_read(alloc: Global, images: &[(u16, u64, Makes)]) -> bool {
+    let Ok(manifest) = manifest_from(alloc, CHECKOUT) else {
+        return false;
+    };
+    let mut so = true;
+    for image in images {
+        so = so && is_read_by_each(alloc, &manifest, *image);
+    }
+    drop(manifest);
+    so
+}
+
+#[test]
+fn reads_an_image_of_each_version(rt: HostRuntime) {
+    assert!(rt; are_all_read(rt.alloc(), &IMAGES));
+}
