@@ -29,13 +29,13 @@ class Bytes:
 
 def counts_of(image, version, generation):
     """Reads an image of a version, at a generation, and returns how often it counts each number."""
-    fields, counts = Bytes(image), {}
+    fields, counts, width = Bytes(image), {}, 8 if version == 3 else 4
     same(fields.take(6), b"EDTK" + struct.pack(">H", version))
     fields.take(20)
     same(fields.number(8), generation)
     fields.take(16)
     for _ in range(fields.number(4)):
-        number, mark, count = fields.number(8), fields.number(1), fields.number(4)
+        number, mark, count = fields.number(8), fields.number(1), fields.number(width)
         fields.take(8)
         if mark == 0:
             fields.take(fields.number(1))

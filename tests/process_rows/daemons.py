@@ -14,14 +14,14 @@ def serving(room, *options, script=("seat 1", "seat 2", "ask getattr 1")):
     return broker, daemon
 
 
-def mounted_anew(room, manifest="m"):
-    """Mounts behind a daemon that was killed, and again while that one is still seated. Returns the daemon."""
+def mounted_anew(room, *options, manifest="m", **streams):
+    """Mounts behind a daemon that ended, and again while that one is still seated. Returns the daemon."""
     for _ in range(100):
-        it = room.mount(manifest=manifest)
+        it = room.mount(*options, manifest=manifest, **streams)
         it.printed(1)
         if it.lines[0] != "fault: seated":
             return it
-    raise AssertionError("a daemon that was killed is still seated")
+    raise AssertionError("a daemon that ended is still seated")
 
 
 def ends_by_takeover(room, broker, daemon):
@@ -39,12 +39,12 @@ def ends_by_claim(broker, daemon):
     daemon.ends(["serving 1", "serving 2", "ended"], may_repeat=True)
 
 
-def offered(room, session=1):
+def offered(room, session=1, generation=1):
     """Offers, and returns a peer that was told that the daemon is ready."""
     it = room.peer(room.takeover_at)
     it.end.sendall(OFFER)
     same(it.read(), ("Choice", u32(session) + b"\x00\x01"))
-    same(it.read(), ("Ready", u32(session) + u64(1)))
+    same(it.read(), ("Ready", u32(session) + u64(generation)))
     return it
 
 

@@ -29,7 +29,7 @@ def frame(name, body=b""):
 
 OFFER = frame("Offer", b"\x01\x00\x01")
 # What a daemon of the program offers, and the longest text of a part.
-BOTH_VERSIONS = b"\x02\x00\x01\x00\x02"
+ALL_VERSIONS = b"\x03\x00\x01\x00\x02\x00\x03"
 PART = 4096
 
 

@@ -3,8 +3,10 @@ import os
 import time
 
 from process_rows.checks import row, same
+from process_rows.counts import counts_of, handed_to, image_of
 from process_rows.daemons import LONG_NAMES, handed_over, long_checkout, parts_of
-from process_rows.frames import BOTH_VERSIONS, PART, u32, u64
+from process_rows.frames import ALL_VERSIONS, PART, u32, u64
+from process_rows.rooms import ENTRY
 
 
 def against_a_daemon(room, talk, lines, status=1, patience="8000"):
@@ -13,7 +15,7 @@ def against_a_daemon(room, talk, lines, status=1, patience="8000"):
     listener = room.listen(room.takeover_at)
     new = room.take_over("--patience", patience)
     other = room.accept(listener)
-    same(other.read(), ("Offer", BOTH_VERSIONS))
+    same(other.read(), ("Offer", ALL_VERSIONS))
     talk(other)
     new.ends(lines, status)
 
@@ -147,3 +149,47 @@ def a_stale_claim_fails(room):
     guest.close()
     broker.ends(["seat 1", "seat 2", "ended"])
     first.ends(["serving 1", "serving 2", "ended"])
+
+
+def is_told_failed(room, version, session):
+    """Offers a version, and expects that the daemon chooses it and then has no data for it."""
+    it = room.peer(room.takeover_at)
+    same(it.ask("Offer", b"\x01" + u32(version)[2:]), ("Choice", u32(session) + u32(version)[2:]))
+    same(it.read(), ("Ready", u32(session) + u64(2)))
+    same(it.ask("Pong", u32(session)), ("Failed", u32(session)))
+    it.close()
+
+
+@row
+def a_count_of_33_bits_goes_in_version_3_alone(room):
+    """A daemon that counts 2^32 serves on where a peer has version 1 or 2 alone, and hands over in version 3. Once one
+    is forgotten, version 1 will do. The count comes from an image that is changed on its way."""
+    broker = room.broker("seat 1", "ask lookup 1 src", "seat 4", "forget 2 1", "idle", "seat 5")
+    first = room.mount()
+    broker.printed(2)
+    peer = room.peer(room.takeover_at)
+    generation, image = handed_to(peer, 3)
+    same((generation, image[54:71]), (1, u64(2) + b"\0" + u64(1)))
+    os.rename(room.takeover_at, f"{room.path}/first.sock")
+    listener = room.listen(room.takeover_at)
+    second = room.take_over("--patience", "8000")
+    other = room.accept(listener)
+    other.read()
+    other.send("Choice", u32(1) + b"\x00\x03")
+    same(other.ask("Ready", u32(1) + u64(1)), ("Pong", u32(1)))
+    other.send("Part", part(1, 1, image[:63] + u64(1 << 32) + image[71:]))
+    second.printed("serving 2")
+    peer.close()
+    first.ends(["serving 1", "handed over"])
+    is_told_failed(room, 1, 1)
+    is_told_failed(room, 2, 2)
+    third = room.take_over()
+    third.printed("serving 3")
+    second.ends(["serving 2", "handed over"], may_repeat=True)
+    generation, image = image_of(room.takeover_at, 3)
+    same((generation, counts_of(image, 3, generation)), (3, {2: 1 << 32}))
+    broker.printed("idle")
+    generation, image = image_of(room.takeover_at, 1)
+    same((generation, counts_of(image, 1, generation)), (4, {2: (1 << 32) - 1}))
+    broker.ends(["seat 1", f"answer 1 {ENTRY}", "seat 4", "asked", "idle", "seat 5", "ended"])
+    third.ends(["serving 3", "serving 4", "serving 5", "ended"])

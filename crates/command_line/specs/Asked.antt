@@ -23,6 +23,7 @@ pub record IsDaemon (rows : List Row) (daemon : DaemonWords) : Type 0 where
   pub workers : daemon.workers ≡ number_or 2 (first_of (codes "workers") rows)
   pub limit : daemon.limit ≡ number_or 1024 (first_of (codes "limit") rows)
   pub patience : daemon.patience ≡ number_or 2000 (first_of (codes "patience") rows)
+  pub until_closed : daemon.until_closed ≡ has_flag (codes "until-closed") rows
 
 -- the command asks for this process
 abbrev pub IsErrand : Option (Text × List Row) → Errand → Type 0

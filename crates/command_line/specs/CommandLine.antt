@@ -61,12 +61,12 @@ abbrev pub broker_app : App
 broker_app =
     with_rules (new_app (codes "broker")) (word_rule (codes "SOCKET") ∷ word_rule (codes "SCRIPT") ∷ [])
 
--- the command `daemon BROKER TAKEOVER MANIFEST`, with `--mount` or `--takeover`
+-- the command `daemon BROKER TAKEOVER MANIFEST`, with `--mount` or `--takeover`, and perhaps with `--until-closed`
 abbrev pub daemon_app : App
 daemon_app = with_rules (new_app (codes "daemon")) (
     flag_rule (codes "mount") ∷ flag_rule (codes "takeover")
     ∷ word_rule (codes "BROKER") ∷ word_rule (codes "TAKEOVER") ∷ word_rule (codes "MANIFEST")
-    ∷ workers_rule ∷ limit_rule ∷ patience_rule ∷ [])
+    ∷ workers_rule ∷ limit_rule ∷ patience_rule ∷ flag_rule (codes "until-closed") ∷ [])
 
 -- the program, which has a version and these three commands
 abbrev pub edend_app : App

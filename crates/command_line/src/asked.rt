@@ -7,7 +7,7 @@ ghost use Rattle.command_line.specs.CommandLine.{NamesPlainly, command_of, has_f
 
 use crate::commands::{
     BROKER, BROKER_SOCKET, DAEMON, LIMIT, LISTEN_SOCKET, MANIFEST, MOUNT, PATIENCE, SCRIPT, SOCKET,
-    TAKEOVER, WORKERS, WORLD, daemon_command, edend_command,
+    TAKEOVER, UNTIL_CLOSED, WORKERS, WORLD, daemon_command, edend_command,
 };
 use crate::{BrokerWords, DaemonWords, Errand, Start};
 use clap::error::ErrorKind;
@@ -125,6 +125,7 @@ fn daemon_in<'a>(alloc: Global, daemon: &ArgMatches<'a>) -> Result<DaemonWords<'
         workers: number_or(DEFAULT_WORKERS, daemon.get_str(WORKERS)) as usize,
         limit: number_or(DEFAULT_LIMIT as u64, daemon.get_str(LIMIT)) as usize,
         patience: number_or(DEFAULT_PATIENCE, daemon.get_str(PATIENCE)),
+        until_closed: has_flag(daemon, UNTIL_CLOSED),
     })
 }
 

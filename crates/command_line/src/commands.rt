@@ -35,6 +35,8 @@ pub const LIMIT: &str = "limit";
 
 pub const PATIENCE: &str = "patience";
 
+pub const UNTIL_CLOSED: &str = "until-closed";
+
 /// What the help of `world` ends with.
 const WORLD_HELP: &str = "\
 Example:
@@ -67,7 +69,7 @@ Example:
   edend daemon --takeover broker.socket takeover.socket manifest
 
 Exit status:
-  0  the daemon has handed over, or the mount has ended
+  0  the daemon has handed over, or the mount or standard input has ended
   1  a fault, told by a line 'fault: TEXT' on standard output
   2  the command line was refused";
 
@@ -125,12 +127,15 @@ pub fn daemon_command<'a>(alloc: Global) -> Result<Command<'a>, AllocError>
         .arg(word_arg(alloc, MANIFEST, MANIFEST_HELP))?
         .arg(workers_arg(alloc))?
         .arg(limit_arg(alloc))?
-        .arg(patience_arg(alloc))
+        .arg(patience_arg(alloc))?
+        .arg(flag_arg(alloc, UNTIL_CLOSED, UNTIL_CLOSED_HELP))
 }
 
 const SCRIPT_HELP: &str = "The script, or - for standard input";
 
 const TAKEOVER_HELP: &str = "Takes over from the daemon that listens at TAKEOVER";
+
+const UNTIL_CLOSED_HELP: &str = "Ends when standard input ends";
 
 const LISTEN_HELP: &str = "The socket at which a daemon listens for the next one";
 

@@ -41,4 +41,6 @@ pub struct DaemonWords<'a> {
     pub limit: usize,
     /// For how many milliseconds a peer may be silent, from 1 to 600,000.
     pub patience: u64,
+    /// Whether the daemon ends when standard input ends.
+    pub until_closed: bool,
 }

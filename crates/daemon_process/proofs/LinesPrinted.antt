@@ -6,10 +6,12 @@ use Rattle.std.specs.List.{concat}
 use Rattle.std.proofs.KnownBytes.{Appends-nil, Appends-trans}
 use Rattle.std.proofs.lemmas.List.{append-nil, map-append}
 use Rattle.std.proofs.lemmas.List.Folds.{concat-append}
-use Rattle.daemon_process.specs.Ending.{PrintsExit, PrintsLast, PrintsServing, PrintsUntil, RunsDaemon}
+use Rattle.daemon_process.specs.Ending.{FailsDaemon, IsHeeded, PrintsEnding, PrintsLast, PrintsServing, PrintsUntil, RunsDaemon}
 use Rattle.daemon_process.specs.Serving.{PrintsRound, Spell, begins, printed_of, serving_line}
 use Rattle.daemon_process.specs.declared.exit.Exit.{Exit}
 use Rattle.daemon_process.specs.declared.exit.Exit.TheVariants.{Ended, Faulty, HandedOver}
+use Rattle.daemon_process.specs.declared.exit.Ending.{Ending}
+use Rattle.daemon_process.specs.declared.exit.Ending.TheVariants.{Closed, Exits}
 use Rattle.daemon_process.specs.declared.fault.DaemonFault.{DaemonFault}
 use Rattle.daemon_process.specs.declared.fault.DaemonFault.TheVariants as fault
 
@@ -49,38 +51,39 @@ serving-on was round now old mid new served prints = elim (serving-round was rou
 ]
 
 -- or it ends behind it
-pub serving-ends : (was round now : Spell) (old mid new : Option (List ℕ)) (exit : Exit) → PrintsServing old mid → PrintsRound was round now mid new (Some exit) → PrintsUntil old new exit
+pub serving-ends : (was round now : Spell) (old mid new : Option (List ℕ)) (exit : Exit) → PrintsServing old mid → PrintsRound was round now mid new (Some exit) → PrintsUntil old new (Exits exit)
 serving-ends was round now old mid new exit served prints = elim (serving-round was round now old mid new (Some exit) served prints) [
   | inl all ↦ inl all
   | inr (error, is) ↦ inr (error, cc)
 ]
 
-until-same : (old mid new : Option (List ℕ)) (exit : Exit) → PrintsUntil old mid exit → Appends mid new [] → PrintsUntil old new exit
-until-same old mid new exit (inl prints) none = inl (serving-same old mid new prints none)
-until-same old mid new exit (inr failed) none = inr failed
+until-same : (old mid new : Option (List ℕ)) (ending : Ending) → PrintsUntil old mid ending → Appends mid new [] → PrintsUntil old new ending
+until-same old mid new ending (inl prints) none = inl (serving-same old mid new prints none)
+until-same old mid new ending (inr failed) none = inr failed
 
 -- a fault is for the caller to print
-of_prints : (which : DaemonFault) (old new : Option (List ℕ)) → PrintsServing old new → RunsDaemon (Err which) old new
+of_prints : (which : DaemonFault) (old new : Option (List ℕ)) → PrintsServing old new → FailsDaemon which old new
 of_prints (fault.CannotWrite error) old new prints = tt
 of_prints which old new prints = prints
 
-of_fault : (which : DaemonFault) (old new : Option (List ℕ)) → PrintsUntil old new (Faulty which) → RunsDaemon (Err which) old new
+of_fault : (which : DaemonFault) (old new : Option (List ℕ)) → PrintsUntil old new (Exits (Faulty which)) → FailsDaemon which old new
 of_fault which old new until = elim until [
   | inl prints ↦ of_prints which old new prints
   | inr (error, is) ↦
       let same : which ≡ fault.CannotWrite error = cc in
-      subst (λ (w : DaemonFault). RunsDaemon (Err w) old new) (sym same) tt
+      subst (λ (w : DaemonFault). FailsDaemon w old new) (sym same) tt
 ]
 
-well : (told : Result (Unit {0}) DaemonFault) (exit : Exit) (old mid new : Option (List ℕ)) → told ≡ Ok tt → PrintsUntil old mid exit → ((error : _) → exit ≡ Faulty (fault.CannotWrite error) → ⊥) → PrintsLast mid new → RunsDaemon told old new
-well told exit old mid new is until never last = elim until [
-  | inl prints ↦ subst (λ (t : Result (Unit {0}) DaemonFault). RunsDaemon t old new) (sym is) (mid, prints, last)
+well : (until_closed : Bool) (told : Result (Unit {0}) DaemonFault) (ending : Ending) (old mid new : Option (List ℕ)) → told ≡ Ok tt → PrintsUntil old mid ending → ((error : _) → ending ≡ Exits (Faulty (fault.CannotWrite error)) → ⊥) → PrintsLast until_closed mid new → RunsDaemon until_closed told old new
+well until_closed told ending old mid new is until never last = elim until [
+  | inl prints ↦ subst (λ (t : Result (Unit {0}) DaemonFault). RunsDaemon until_closed t old new) (sym is) (mid, prints, last)
   | inr (error, bad) ↦ absurd (never error bad)
 ]
 
 -- the line by which it ends was printed, or its fault is told
-pub runs-told : (exit : Exit) (told : Result (Unit {0}) DaemonFault) (old mid new : Option (List ℕ)) → PrintsUntil old mid exit → PrintsExit exit told mid new → RunsDaemon told old new
-runs-told HandedOver told old mid new until (is, line) = well told HandedOver old mid new is until (λ error bad. cc) (inl line)
-runs-told Ended told old mid new until (is, line) = well told Ended old mid new is until (λ error bad. cc) (inr line)
-runs-told (Faulty which) told old mid new until (is, none) =
-    subst (λ (t : Result (Unit {0}) DaemonFault). RunsDaemon t old new) (sym is) (of_fault which old new (until-same old mid new (Faulty which) until none))
+pub runs-told : (until_closed : Bool) (ending : Ending) (told : Result (Unit {0}) DaemonFault) (old mid new : Option (List ℕ)) → IsHeeded until_closed ending → PrintsUntil old mid ending → PrintsEnding ending told mid new → RunsDaemon until_closed told old new
+runs-told until_closed (Exits HandedOver) told old mid new heeds until (is, line) = well until_closed told (Exits HandedOver) old mid new is until (λ error bad. cc) (inl line)
+runs-told until_closed (Exits Ended) told old mid new heeds until (is, line) = well until_closed told (Exits Ended) old mid new is until (λ error bad. cc) (inr (inl line))
+runs-told until_closed (Exits (Faulty which)) told old mid new heeds until (is, none) =
+    subst (λ (t : Result (Unit {0}) DaemonFault). RunsDaemon until_closed t old new) (sym is) (of_fault which old new (until-same old mid new (Exits (Faulty which)) until none))
+runs-told until_closed Closed told old mid new heeds until (is, line) = well until_closed told Closed old mid new is until (λ error bad. cc) (inr (inr (heeds, line)))

@@ -1,34 +1,74 @@
 -- How a daemon ends, and what it printed by then. (This project's own.)
-use Rattle.std.specs.Prelude.{◌≡◌, ◌⊎◌, ⊤, ℕ, List, [], Option, Result, Ok, Err, codes, map}
+use Rattle.std.specs.Prelude.{◌≡◌, ◌⊎◌, ⊤, ℕ, Bool, true, if◌then◌else◌, List, [], Option, Some, None, Result, Ok, Err, codes, map}
 use Rattle.std.specs.Io.KnownBytes.{Appends}
 use Rattle.std.specs.List.{concat}
+use Rattle.daemon_desk.specs.declared.answers.Claiming.{Claiming}
+use Rattle.daemon_desk.specs.declared.answers.Claiming.TheVariants as claiming
 use Rattle.daemon_process.specs.Serving.{serving_line}
 use Rattle.daemon_process.specs.declared.exit.Exit.{Exit}
 use Rattle.daemon_process.specs.declared.exit.Exit.TheVariants.{Ended, Faulty, HandedOver}
+use Rattle.daemon_process.specs.declared.exit.Ending.{Ending}
+use Rattle.daemon_process.specs.declared.exit.Ending.TheVariants.{Closed, Exits}
 use Rattle.daemon_process.specs.declared.fault.DaemonFault.{DaemonFault}
-use Rattle.daemon_process.specs.declared.fault.DaemonFault.TheVariants.{CannotWrite}
+use Rattle.daemon_process.specs.declared.fault.DaemonFault.TheVariants.{Broken, CannotWrite, TakeoverFailed}
+
+-- ---- how a claim or the end of standard input ends a daemon
+
+-- How a daemon ends that handed over, by the answer to its claim: it handed over exactly where the seat is at another
+-- generation. With the seat it serves on.
+abbrev pub exit_behind_handover : Claiming → Option Exit
+exit_behind_handover (claiming.Serves generation) = None
+exit_behind_handover claiming.Stale = Some HandedOver
+exit_behind_handover claiming.Ended = Some Ended
+exit_behind_handover answer = Some (Faulty Broken)
+
+-- how a new daemon ends, by the answer to its claim; with the seat it serves
+abbrev pub exit_of_claim : Claiming → Option Exit
+exit_of_claim (claiming.Serves generation) = None
+exit_of_claim claiming.Ended = Some Ended
+exit_of_claim answer = Some (Faulty TakeoverFailed)
+
+-- how a daemon ends that did not get to serve, by whether the end of standard input came before, and is heeded
+abbrev pub ending_before : Bool → Exit → Ending
+ending_before is_closed exit = if is_closed then Closed else Exits exit
+
+-- standard input ends a daemon only if it was to run until then
+abbrev pub IsHeeded : Bool → Ending → Type 0
+IsHeeded until_closed (Exits exit) = ⊤
+IsHeeded until_closed Closed = until_closed ≡ true
+
+-- ---- what a daemon printed
 
 -- only the lines that tell of serving at these generations were appended
 abbrev pub PrintsServing : Option (List ℕ) → Option (List ℕ) → Type 0
 PrintsServing old new = (generations : List ℕ) × Appends old new (concat (map serving_line generations))
 
--- only such lines were appended until the daemon's exit, unless the exit is a fault of printing
-abbrev pub PrintsUntil : Option (List ℕ) → Option (List ℕ) → Exit → Type 0
-PrintsUntil old new exit = PrintsServing old new ⊎ ((error : _) × (exit ≡ Faulty (CannotWrite error)))
+-- only such lines were appended until the daemon's end, unless it ends by a fault of printing
+abbrev pub PrintsUntil : Option (List ℕ) → Option (List ℕ) → Ending → Type 0
+PrintsUntil old new ending = PrintsServing old new ⊎ ((error : _) × (ending ≡ Exits (Faulty (CannotWrite error))))
 
--- the line that a daemon's exit appends, and what its caller is told; a fault is for the caller to print
-abbrev pub PrintsExit : Exit → Result (Unit {0}) DaemonFault → Option (List ℕ) → Option (List ℕ) → Type 0
-PrintsExit HandedOver told old new = (told ≡ Ok tt) × Appends old new (codes "handed over\n")
-PrintsExit Ended told old new = (told ≡ Ok tt) × Appends old new (codes "ended\n")
-PrintsExit (Faulty fault) told old new = (told ≡ Err fault) × Appends old new []
+-- the line that a daemon's end appends, and what its caller is told; a fault is for the caller to print
+abbrev pub PrintsEnding : Ending → Result (Unit {0}) DaemonFault → Option (List ℕ) → Option (List ℕ) → Type 0
+PrintsEnding (Exits HandedOver) told old new = (told ≡ Ok tt) × Appends old new (codes "handed over\n")
+PrintsEnding (Exits Ended) told old new = (told ≡ Ok tt) × Appends old new (codes "ended\n")
+PrintsEnding (Exits (Faulty fault)) told old new = (told ≡ Err fault) × Appends old new []
+PrintsEnding Closed told old new = (told ≡ Ok tt) × Appends old new (codes "closed\n")
 
--- one of the two last lines of a daemon was appended
-abbrev pub PrintsLast : Option (List ℕ) → Option (List ℕ) → Type 0
-PrintsLast old new = Appends old new (codes "handed over\n") ⊎ Appends old new (codes "ended\n")
+-- one of the last lines of a daemon was appended: `closed` only if it was to run until its standard input ends
+abbrev pub PrintsLast : Bool → Option (List ℕ) → Option (List ℕ) → Type 0
+PrintsLast until_closed old new =
+    Appends old new (codes "handed over\n")
+    ⊎ (Appends old new (codes "ended\n") ⊎ ((until_closed ≡ true) × Appends old new (codes "closed\n")))
 
--- A daemon that ends well printed its last line after the lines of its generations, and one that ends by a fault
--- printed only the lines of its generations. If a line could not be printed, a part of it may have been.
-abbrev pub RunsDaemon : Result (Unit {0}) DaemonFault → Option (List ℕ) → Option (List ℕ) → Type 0
-RunsDaemon (Ok done) old new = (mid : Option (List ℕ)) × PrintsServing old mid × PrintsLast mid new
-RunsDaemon (Err (CannotWrite error)) old new = ⊤
-RunsDaemon (Err fault) old new = PrintsServing old new
+-- A daemon that ends by a fault printed only the lines of its generations. If a line could not be printed, a part of it
+-- may have been.
+abbrev pub FailsDaemon : DaemonFault → Option (List ℕ) → Option (List ℕ) → Type 0
+FailsDaemon (CannotWrite error) old new = ⊤
+FailsDaemon fault old new = PrintsServing old new
+
+-- A daemon ran, by whether it was to run until its standard input ends. One that ended well printed its last line after
+-- the lines of its generations.
+abbrev pub RunsDaemon : Bool → Result (Unit {0}) DaemonFault → Option (List ℕ) → Option (List ℕ) → Type 0
+RunsDaemon until_closed (Ok done) old new =
+    (mid : Option (List ℕ)) × PrintsServing old mid × PrintsLast until_closed mid new
+RunsDaemon until_closed (Err fault) old new = FailsDaemon fault old new

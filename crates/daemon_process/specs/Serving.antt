@@ -48,10 +48,21 @@ abbrev pub ComesWhile : Bool → Option ServerState → Next → Type 0
 ComesWhile true server what = what ≡ next.Wait
 ComesWhile false server what = IsRound server what
 
--- the exit comes next if it is noted; else a wait while the daemon drains, else what `IsRound` says of what may be lent
-abbrev pub ComesNext : Option Exit → DeskState → Next → Type 0
-ComesNext (Some exit) desk what = what ≡ next.Exit exit
-ComesNext None desk what = ComesWhile (is_draining desk.daemon.node.phase) (lendable desk) what
+-- whether the end of standard input ends a daemon in this phase, if it has come: a takeover goes to its end first
+abbrev pub ends_in : Bool → Phase → Bool
+ends_in true (phases.Serving generation) = true
+ends_in is_closed phase = false
+
+-- the end comes next if standard input ends the daemon now; else a wait while the daemon drains, else what `IsRound`
+-- says of what may be lent
+abbrev pub ComesOn : Bool → DeskState → Next → Type 0
+ComesOn true desk what = what ≡ next.Close
+ComesOn false desk what = ComesWhile (is_draining desk.daemon.node.phase) (lendable desk) what
+
+-- the exit comes next if it is noted; else what `ComesOn` says, by whether standard input ended and that is heeded
+abbrev pub ComesNext : Option Exit → Bool → DeskState → Next → Type 0
+ComesNext (Some exit) is_closed desk what = what ≡ next.Exit exit
+ComesNext None is_closed desk what = ComesOn (ends_in is_closed desk.daemon.node.phase) desk what
 
 -- ---- what is printed
 
@@ -77,7 +88,7 @@ abbrev pub printed_of : Bool → ℕ → List ℕ
 printed_of true generation = serving_line generation
 printed_of false generation = []
 
--- no channels could be made for the round, the channels stay of the spell before, and nothing was printed
+-- no channels could be made for the round: those of the spell before stay, and nothing was printed
 pub record IsUnmanned (was now : Spell) (old new : Option (List ℕ)) : Type 0 where
   pub same : IsSameSpell now was
   pub nothing : Appends old new []

@@ -3,6 +3,7 @@ use crate::exit::Exit;
 use crate::fault::DaemonFault;
 use crate::orders::Orders;
 use crate::patient::Patient;
+use crate::shared::Shared;
 use eden_base::DaemonId;
 use links::{Frame, SocketChannel};
 use sockets::{Connection, Deadline, Timed, connect};
@@ -11,7 +12,7 @@ use std::io::{self, BufReader, ErrorKind};
 use std::net::Net;
 use std::os::unix::net::UnixStream;
 use std::rt::Clock;
-use std::sync::Arc;
+use std::sync::{Arc, Wait};
 use std::time::Duration;
 use workers::Stop;
 
@@ -39,14 +40,15 @@ pub(crate) struct Arrival<'a, R> {
 }
 
 /// Connects to the broker as a new daemon, and for each of its workers.
-pub(crate) fn arrive<'a, R: Net + Clock>(
+pub(crate) fn arrive<'a, R: Net + Clock + Wait>(
     rt: &'a R,
     alloc: Global,
+    shared: &Shared,
     orders: &Orders<'_>,
 ) -> Result<Arrival<'a, R>, Exit> {
     let mut connection = reach(rt, alloc, orders.broker)?;
-    let daemon = attach(&mut connection, DaemonId(0), answer_by(rt))?;
-    let workers = arrive_each(rt, alloc, orders, daemon)?;
+    let daemon = attach(rt, shared, &mut connection, DaemonId(0))?;
+    let workers = arrive_each(rt, alloc, shared, orders, daemon)?;
     Ok(Arrival {
         connection,
         workers,
@@ -54,9 +56,10 @@ pub(crate) fn arrive<'a, R: Net + Clock>(
 }
 
 /// Connects to the broker for each worker.
-fn arrive_each<R: Net + Clock>(
+fn arrive_each<R: Net + Clock + Wait>(
     rt: &R,
     alloc: Global,
+    shared: &Shared,
     orders: &Orders<'_>,
     daemon: DaemonId,
 ) -> Result<Vec<UnixStream>, Exit> {
@@ -64,7 +67,7 @@ fn arrive_each<R: Net + Clock>(
         return Err(Exit::Faulty(DaemonFault::NoMemory));
     };
     for _worker in 0..orders.workers {
-        let stream = arrive_worker(rt, alloc, orders, daemon)?;
+        let stream = arrive_worker(rt, alloc, shared, orders, daemon)?;
         if workers.push(stream).is_err() {
             return Err(Exit::Faulty(DaemonFault::NoMemory));
         }
@@ -73,14 +76,15 @@ fn arrive_each<R: Net + Clock>(
 }
 
 /// Connects to the broker for a worker, and returns the connection.
-fn arrive_worker<R: Net + Clock>(
+fn arrive_worker<R: Net + Clock + Wait>(
     rt: &R,
     alloc: Global,
+    shared: &Shared,
     orders: &Orders<'_>,
     daemon: DaemonId,
 ) -> Result<UnixStream, Exit> {
     let mut connection = reach(rt, alloc, orders.broker)?;
-    let _same = attach(&mut connection, daemon, answer_by(rt))?;
+    let _same = attach(rt, shared, &mut connection, daemon)?;
     match connection.handle() {
         Ok(stream) => Ok(stream),
         Err(_refused) => Err(Exit::Faulty(DaemonFault::Broken)),
@@ -107,12 +111,14 @@ fn reach<'a, R: Net + Clock>(
 }
 
 /// Attaches as `daemon`, or as a new daemon if that has the number 0. Returns the daemon that attached.
-fn attach<R: Clock>(
+fn attach<R: Clock + Wait>(
+    rt: &R,
+    shared: &Shared,
     connection: &mut Connection<'_, R>,
     daemon: DaemonId,
-    deadline: Deadline,
 ) -> Result<DaemonId, Exit> {
-    match connection.ask(&Frame::Attach(daemon), deadline) {
+    shared.wait_at(rt, connection.handle().ok())?;
+    match connection.ask(&Frame::Attach(daemon), answer_by(rt)) {
         Some(Frame::Attached(daemon)) => Ok(daemon),
         Some(Frame::Ended) => Err(Exit::Ended),
         _ => Err(Exit::Faulty(DaemonFault::Broken)),

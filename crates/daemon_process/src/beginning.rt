@@ -30,7 +30,7 @@ pub(crate) fn begin<'a, R: Wait + Clock + Files + Net>(
     shared: &Shared,
     orders: &Orders<'_>,
 ) -> Result<Seated<'a, R>, Exit> {
-    let mut arrival = arrive(rt, alloc, orders)?;
+    let mut arrival = arrive(rt, alloc, shared, orders)?;
     let hidden = match orders.start {
         Start::Mount => begin_new(rt, alloc, shared, &mut arrival.connection, orders)?,
         Start::Takeover => begin_next(rt, alloc, shared, &mut arrival.connection, orders)?,
@@ -66,9 +66,11 @@ fn mount<R: Wait + Clock>(
     shared: &Shared,
     broker: &mut Connection<'_, R>,
 ) -> Result<(), Exit> {
+    shared.wait_at(rt, broker.handle().ok())?;
     let Some(answer) = broker.ask(&Frame::Mount, answer_by(rt)) else {
         return Err(Exit::Faulty(DaemonFault::Broken));
     };
+    shared.wait_at(rt, None)?;
     match shared.take_mount(rt, &answer) {
         Mounting::Serves(_) => Ok(()),
         Mounting::Seated => Err(Exit::Faulty(DaemonFault::Seated)),

@@ -12,6 +12,14 @@ pub(crate) enum Exit {
     Faulty(DaemonFault),
 }
 
+/// How a daemon ends, also by its standard input.
+#[derive(Clone, Copy)]
+pub(crate) enum Ending {
+    Exits(Exit),
+    /// Standard input ended, and the daemon was to run until then.
+    Closed,
+}
+
 impl From<DaemonFault> for Exit {
     fn from(fault: DaemonFault) -> Exit {
         Exit::Faulty(fault)

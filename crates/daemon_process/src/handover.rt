@@ -1,5 +1,6 @@
 //! A serving daemon's part in takeovers.
 ghost use Rattle.std.specs.Prelude.{◌≡◌};
+ghost use Rattle.daemon_process.specs.Ending.{exit_behind_handover};
 ghost use Rattle.daemon_process.specs.Takeovers.{times_of};
 
 use crate::claiming::claim;
@@ -130,12 +131,21 @@ fn claim_back<R: Wait + Clock>(rt: &R, shared: &Shared, broker: &mut Connection<
     if shared.claim(rt).is_none() || shared.is_over(rt) {
         return;
     }
-    match claim(rt, shared, broker) {
-        Claiming::Serves(_) => {}
-        Claiming::Stale => shared.end(rt, Exit::HandedOver),
-        Claiming::Ended => shared.end(rt, Exit::Ended),
+    if let Some(exit) = exit_behind_handover(claim(rt, shared, broker)) {
+        shared.end(rt, exit);
+    }
+}
+
+/// Returns how a daemon ends that handed over and then claimed the seat, by the claim's answer; none if it serves on.
+fn exit_behind_handover(claiming: Claiming) -> Option<Exit>
+    ensures exit { result ≡ exit_behind_handover claiming }
+{
+    match claiming {
+        Claiming::Serves(_) => None,
+        Claiming::Stale => Some(Exit::HandedOver),
+        Claiming::Ended => Some(Exit::Ended),
         Claiming::Waits | Claiming::LastGeneration | Claiming::Broken => {
-            shared.end(rt, Exit::Faulty(DaemonFault::Broken));
+            Some(Exit::Faulty(DaemonFault::Broken))
         }
     }
 }

@@ -4,6 +4,7 @@
 mod arrival;
 mod beginning;
 mod claiming;
+mod closing;
 mod exit;
 mod fault;
 mod handover;

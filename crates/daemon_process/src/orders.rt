@@ -24,4 +24,6 @@ pub struct Orders<'a> {
     pub limit: usize,
     /// How long another daemon may be silent in a takeover. Once this daemon handed the data over, ten times as long.
     pub patience: Duration,
+    /// Whether it ends when standard input ends, which it reads then.
+    pub until_closed: bool,
 }

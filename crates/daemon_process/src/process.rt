@@ -1,10 +1,11 @@
 //! A daemon, from its start to its end.
-ghost use Rattle.std.specs.Prelude.{◌≡◌, ℕ, List, [], ◌∷◌, Option, IfOk};
-ghost use Rattle.daemon_process.specs.Ending.{PrintsExit, PrintsUntil, RunsDaemon};
+ghost use Rattle.std.specs.Prelude.{◌≡◌, ℕ, Bool, List, [], ◌∷◌, Option, IfOk};
+ghost use Rattle.daemon_process.specs.Ending.{IsHeeded, PrintsEnding, PrintsUntil, RunsDaemon};
 
 use crate::arrival::Arrival;
 use crate::beginning::{Seated, begin};
-use crate::exit::Exit;
+use crate::closing::close_with_input;
+use crate::exit::{Ending, Exit};
 use crate::fault::DaemonFault;
 use crate::handover::hand_over_all;
 use crate::lobby::Lobby;
@@ -15,18 +16,18 @@ use daemon_desk::DaemonDesk;
 use manifest::Manifest;
 use sockets::{Closer, Connection};
 use std::alloc::Global;
-use std::io::{self, Write};
+use std::io::{self, Read, Write};
 use std::net::Net;
 use std::os::unix::net::{UnixListener, UnixStream};
 use std::rt::{Clock, Files};
-use std::sync::Wait;
+use std::sync::{Arc, Wait};
 use std::thread;
 use std::thread::{Scope, Threads};
 use std::time::Duration;
 use takeover_core::Versions;
 
-/// The versions of the image that a daemon writes and reads: 1 is whole, 2 is in parts.
-const VERSIONS: [u16; 2] = [1, 2];
+/// The versions of the image that a daemon writes and reads: 1 is whole, 2 is in parts, 3 has wider counts.
+const VERSIONS: [u16; 3] = [1, 2, 3];
 
 /// How a daemon's run ended, with the writer of the daemon's lines.
 #[derive(Drop)]
@@ -39,22 +40,31 @@ pub struct DaemonRun<W> {
 #[derive(Drop)]
 struct Service<W> {
     out: W,
-    exit: Exit,
+    ending: Ending,
 }
 
 /// Runs a daemon over the checkout of `manifest`, and writes each line to `out` as soon as it is known. Returns when
-/// another daemon took over, the mount is over, or a fault ended the daemon.
-pub fn run_daemon<R: Threads + Wait + Clock + Files + Net + Sync, W: Write + Drop>(
-    rt: &R,
-    alloc: Global,
-    orders: &Orders<'_>,
-    manifest: Manifest,
-    out: W,
-) -> DaemonRun<W>
-    ensures runs { RunsDaemon result.ended (W.contents out) (W.contents result.out) }
+/// another daemon took over, the mount is over, or a fault ended the daemon; where `orders` say so, also when `input`,
+/// which is standard input, ends.
+pub fn run_daemon<
+    R: Threads + Wait + Clock + Files + Net + Copy + Send + Sync + 'static,
+    I: Read + Drop + Send + 'static,
+    W: Write + Drop,
+>(rt: &R, alloc: Global, orders: &Orders<'_>, manifest: Manifest, input: I, out: W) -> DaemonRun<W>
+    ensures runs { RunsDaemon orders.now.until_closed result.ended
+        (W.contents out) (W.contents result.out) }
 {
-    let shared = Shared::new(DaemonDesk::new(alloc, manifest, orders.limit, versions()));
-    end_run(serve_mount(rt, alloc, &shared, orders, out))
+    let desk = DaemonDesk::new(alloc, manifest, orders.limit, versions());
+    let Ok(shared) = Arc::new(alloc, Shared::new(desk)) else {
+        return end_run(out, Ending::Exits(Exit::Faulty(DaemonFault::NoMemory)));
+    };
+    if orders.until_closed {
+        if let Err(exit) = close_with_input(rt, &shared, input) {
+            return end_run(out, Ending::Exits(exit));
+        }
+    }
+    let Service { out, ending } = serve_mount(rt, alloc, &shared, orders, out);
+    end_run(out, ending)
 }
 
 /// Gets the seat, serves until the daemon ends, and returns how it ends.
@@ -65,21 +75,26 @@ fn serve_mount<R: Threads + Wait + Clock + Files + Net + Sync, W: Write + Drop>(
     orders: &Orders<'_>,
     out: W,
 ) -> Service<W>
-    ensures prints { PrintsUntil (W.contents out) (W.contents result.out) result.exit }
+    ensures prints { PrintsUntil (W.contents out) (W.contents result.out) result.ending }
+    ensures heeds { IsHeeded orders.now.until_closed result.ending }
 {
     match begin(rt, alloc, shared, orders) {
         Ok(seated) => run(rt, alloc, shared, orders, seated, out),
-        Err(exit) => Service { out, exit },
+        Err(exit) => {
+            let ending = shared.ending_before(rt, exit, orders.until_closed);
+            Service { out, ending }
+        }
     }
 }
 
-/// Prints the last line of a daemon, if its exit has one, and returns how its run ended.
-fn end_run<W: Write + Drop>(service: Service<W>) -> DaemonRun<W>
-    ensures runs { (old : Option (List ℕ)) → PrintsUntil old (W.contents service.out) service.exit
-        → RunsDaemon result.ended old (W.contents result.out) }
+/// Prints the last line of a daemon, if its ending has one, and returns how its run ended.
+fn end_run<W: Write + Drop>(out: W, ending: Ending) -> DaemonRun<W>
+    ensures runs { (until_closed : Bool) (old : Option (List ℕ))
+        → IsHeeded until_closed ending → PrintsUntil old (W.contents out) ending
+        → RunsDaemon until_closed result.ended old (W.contents result.out) }
 {
-    let Service { mut out, exit } = service;
-    match print_exit(&mut out, exit) {
+    let mut out = out;
+    match print_ending(&mut out, ending) {
         Ok(ended) => DaemonRun { out, ended },
         Err(error) => {
             let ended = Err(DaemonFault::CannotWrite(error));
@@ -90,19 +105,21 @@ fn end_run<W: Write + Drop>(service: Service<W>) -> DaemonRun<W>
 
 /// Returns the versions of the image that a daemon offers and accepts.
 fn versions() -> Versions
-    ensures versions { result ≡ 1 ∷ 2 ∷ [] }
+    ensures versions { result ≡ 1 ∷ 2 ∷ 3 ∷ [] }
 {
     Versions::of(&VERSIONS)
 }
 
 /// Prints the last line of a daemon and returns `Ok`, or prints nothing and returns the fault that ended the daemon.
-fn print_exit<W: Write>(out: &mut W, exit: Exit) -> io::Result<Result<(), DaemonFault>>
-    ensures prints { IfOk result (λ told. PrintsExit exit told (W.contents out.old) (W.contents out.new)) }
+fn print_ending<W: Write>(out: &mut W, ending: Ending) -> io::Result<Result<(), DaemonFault>>
+    ensures prints { IfOk result (λ told.
+        PrintsEnding ending told (W.contents out.old) (W.contents out.new)) }
 {
-    match exit {
-        Exit::HandedOver => out.write_all(b"handed over\n")?,
-        Exit::Ended => out.write_all(b"ended\n")?,
-        Exit::Faulty(fault) => return Ok(Err(fault)),
+    match ending {
+        Ending::Exits(Exit::HandedOver) => out.write_all(b"handed over\n")?,
+        Ending::Exits(Exit::Ended) => out.write_all(b"ended\n")?,
+        Ending::Exits(Exit::Faulty(fault)) => return Ok(Err(fault)),
+        Ending::Closed => out.write_all(b"closed\n")?,
     }
     out.flush()?;
     Ok(Ok(()))
@@ -117,7 +134,8 @@ fn run<R: Threads + Wait + Clock + Sync, W: Write + Drop>(
     seated: Seated<'_, R>,
     out: W,
 ) -> Service<W>
-    ensures prints { PrintsUntil (W.contents out) (W.contents result.out) result.exit }
+    ensures prints { PrintsUntil (W.contents out) (W.contents result.out) result.ending }
+    ensures heeds { IsHeeded orders.now.until_closed result.ending }
 {
     let Seated { arrival, listener } = seated;
     let Arrival {
@@ -127,22 +145,33 @@ fn run<R: Threads + Wait + Clock + Sync, W: Write + Drop>(
     let closer = match Closer::of(&listener) {
         Ok(closer) => closer,
         Err(error) => {
-            let exit = Exit::Faulty(DaemonFault::CannotListen(error));
-            return Service { out, exit };
+            let ending = Ending::Exits(Exit::Faulty(DaemonFault::CannotListen(error)));
+            return Service { out, ending };
         }
     };
     let lobby = Lobby::new();
-    let patience = orders.patience;
+    let (patience, until_closed) = (orders.patience, orders.until_closed);
     let (lobby, listener, closer) = (&lobby, &listener, &closer);
     let workers = workers.as_slice();
     thread::scope(
         thread::scope_env(),
         rt,
         move |scope| -> Service<W>
-            ensures { PrintsUntil (W.contents out) (W.contents result.out) result.exit }
+            ensures { PrintsUntil (W.contents out) (W.contents result.out) result.ending
+                × IsHeeded until_closed result.ending }
         {
             run_within(
-                scope, rt, alloc, shared, lobby, listener, closer, connection, workers, patience,
+                scope,
+                rt,
+                alloc,
+                shared,
+                lobby,
+                listener,
+                closer,
+                connection,
+                workers,
+                patience,
+                until_closed,
                 out,
             )
         },
@@ -161,19 +190,21 @@ fn run_within<'s, 'e: 's, R: Threads + Wait + Clock + Sync + 's, W: Write + Drop
     broker: Connection<'e, R>,
     workers: &[UnixStream],
     patience: Duration,
+    until_closed: bool,
     out: W,
 ) -> Service<W>
-    ensures prints { PrintsUntil (W.contents out) (W.contents result.out) result.exit }
+    ensures prints { PrintsUntil (W.contents out) (W.contents result.out) result.ending }
+    ensures heeds { IsHeeded until_closed result.ending }
 {
     let mut out = out;
     let receiving = scope.spawn(move || lobby.receive(rt, listener));
     let handing = scope.spawn(move || hand_over_all(rt, alloc, shared, lobby, broker, patience));
     let are_made = receiving.is_ok() && handing.is_ok();
-    let exit = serve_if(rt, alloc, shared, workers, are_made, &mut out);
-    shared.end(rt, exit);
+    let ending = serve_if(rt, alloc, shared, workers, are_made, until_closed, &mut out);
+    shared.finish(rt);
     lobby.end(rt);
     closer.close();
-    Service { out, exit }
+    Service { out, ending }
 }
 
 /// Serves if `are_made`: the threads that takeovers need were made. Returns how the daemon ends.
@@ -183,12 +214,14 @@ fn serve_if<R: Threads + Wait + Clock + Sync, W: Write>(
     shared: &Shared,
     workers: &[UnixStream],
     are_made: bool,
+    until_closed: bool,
     out: &mut W,
-) -> Exit
+) -> Ending
     ensures prints { PrintsUntil (W.contents out.old) (W.contents out.new) result }
+    ensures heeds { IsHeeded until_closed result }
 {
     if !are_made {
-        return Exit::Faulty(DaemonFault::NoThread);
+        return Ending::Exits(Exit::Faulty(DaemonFault::NoThread));
     }
-    serve(rt, alloc, shared, workers, out)
+    serve(rt, alloc, shared, workers, until_closed, out)
 }

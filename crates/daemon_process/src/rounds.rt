@@ -112,7 +112,7 @@ fn serve_over<C: Channel + Drop + Send, R: Threads + Wait + Sync>(
 }
 
 /// Compares a round's receipts with its journal, and returns what the round leaves. If memory for that is refused,
-/// nothing is compared: each worker ended well, so each reply was posted.
+/// they are not compared: each worker ended well, so each reply was posted.
 fn settle<B: Backing + Drop, C: Channel + Drop>(
     alloc: Global,
     round: Round<B, C>,

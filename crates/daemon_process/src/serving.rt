@@ -1,11 +1,11 @@
 //! The rounds in which a daemon serves.
 ghost use Rattle.std.specs.Prelude.{◌≡◌, IfOk, OnErr, OnOk};
 ghost use Rattle.std.specs.Io.KnownBytes.{Appends};
-ghost use Rattle.daemon_process.specs.Ending.{PrintsUntil};
+ghost use Rattle.daemon_process.specs.Ending.{IsHeeded, PrintsUntil};
 ghost use Rattle.daemon_process.specs.Serving.{IsSameSpell, PrintsRound, begins, printed_of, serving_line};
 
 use crate::arrival::{Worker, channels};
-use crate::exit::Exit;
+use crate::exit::{Ending, Exit};
 use crate::fault::DaemonFault;
 use crate::rounds::{exit_of, serve_one};
 use crate::shared::{Next, Shared};
@@ -34,15 +34,18 @@ struct Crew<'a, R: Clock> {
     rooms: Rooms,
 }
 
-/// Serves by rounds of workers, whenever something may be lent, and returns the daemon's exit.
+/// Serves by rounds of workers, whenever something may be lent, and returns how the daemon ends. The end of standard
+/// input is heeded if `until_closed`.
 pub(crate) fn serve<R: Threads + Wait + Clock + Sync, W: Write>(
     rt: &R,
     alloc: Global,
     shared: &Shared,
     workers: &[UnixStream],
+    until_closed: bool,
     out: &mut W,
-) -> Exit
+) -> Ending
     ensures prints { PrintsUntil (W.contents out.old) (W.contents out.new) result }
+    ensures heeds { IsHeeded until_closed result }
 {
     let mut crew = Crew {
         generation: 0,
@@ -52,17 +55,18 @@ pub(crate) fn serve<R: Threads + Wait + Clock + Sync, W: Write>(
     };
     for _ in rt.forever() {
         let seen = shared.changes();
-        match shared.next(rt, alloc) {
+        match shared.next(rt, alloc, until_closed) {
             Next::Serve(lease, stop, stops) => {
                 if let Some(exit) = serve_lease(
                     rt, alloc, shared, workers, &mut crew, lease, &stop, stops, out,
                 ) {
-                    return exit;
+                    return Ending::Exits(exit);
                 }
             }
             Next::Wait => shared.sleep(rt, seen),
             Next::Pause => thread::sleep(rt, Duration::from_millis(PAUSE)),
-            Next::Exit(exit) => return exit,
+            Next::Exit(exit) => return Ending::Exits(exit),
+            Next::Close => return Ending::Closed,
         }
     }
     unreachable!()

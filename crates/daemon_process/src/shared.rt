@@ -1,16 +1,23 @@
 //! What the threads of a daemon share.
-ghost use Rattle.std.specs.Prelude.{◌≡◌, ◌⊎◌, None, is_some};
+ghost use Rattle.std.specs.Prelude.{◌≡◌, ◌⊎◌, ◌&&◌, None, is_some, true};
 ghost use Rattle.std.specs.Option.{IfSome};
 ghost use Rattle.takeover_core.specs.declared.phase.Phase.TheVariants.{Serving};
 ghost use Rattle.daemon_desk.specs.Desk.{Hears};
-ghost use Rattle.daemon_process.specs.Serving.{ComesNext, IsServing, served_next, stops_behind, stops_next};
+ghost use Rattle.daemon_process.specs.Ending.{ending_before};
+ghost use Rattle.daemon_process.specs.Serving.{ComesNext, IsServing, ends_in, served_next, stops_behind, stops_next};
+ghost use Rattle.daemon_process.specs.declared.exit.Ending.TheVariants.{Closed};
+ghost use Rattle.daemon_process.specs.declared.shared.Next.TheVariants.{Close};
 
-use crate::exit::Exit;
+use crate::exit::{Ending, Exit};
+use crate::fault::DaemonFault;
 use daemon::Lease;
 use daemon_desk::{Claiming, DaemonDesk, Hearing, Mounting};
 use eden_base::NoMemory;
 use links::Frame;
 use std::alloc::Global;
+use std::mem;
+use std::net::Shutdown;
+use std::os::unix::net::UnixStream;
 use std::sync::{Arc, Condvar, Mutex, Wait};
 use std::time::Duration;
 use takeover_core::Phase;
@@ -28,6 +35,12 @@ struct State {
     /// How often a round was asked to stop; 0 follows the greatest count.
     stops: u64,
     exit: Option<Exit>,
+    /// Whether the main thread has ended.
+    is_finished: bool,
+    /// Whether standard input ended, so that the daemon is to end.
+    is_closed: bool,
+    /// A handle of the connection at which the daemon waits before it serves, if it waits.
+    waits_at: Option<UnixStream>,
 }
 
 /// What a daemon's main thread does next.
@@ -40,6 +53,8 @@ pub(crate) enum Next {
     /// Waits a moment, since memory was refused.
     Pause,
     Exit(Exit),
+    /// Ends, since standard input ended.
+    Close,
 }
 
 /// A daemon's desk under a lock, and the signal that tells its threads of changes.
@@ -50,10 +65,11 @@ pub(crate) struct Shared {
 }
 
 impl State {
-    /// Returns what the main thread does next.
+    /// Returns what the main thread does next. The end of standard input is heeded if `until_closed`.
     #[tactic(auto, using(crate::proofs::NextRound::serves_at))]
-    fn next(&mut self, alloc: Global) -> Next
-        ensures next { ComesNext self.old.exit self.old.desk result }
+    fn next(&mut self, alloc: Global, until_closed: bool) -> Next
+        ensures next { ComesNext self.old.exit (until_closed && self.old.is_closed) self.old.desk result }
+        ensures closes { result ≡ Close → until_closed ≡ true }
         ensures serves { IfSome (served_next result) (λ lease.
             self.old.desk.daemon.node.phase ≡ Serving lease.generation) }
         ensures stops { IfSome (stops_next result) (λ stops. stops ≡ self.old.stops) }
@@ -61,6 +77,9 @@ impl State {
     {
         if let Some(exit) = self.exit {
             return Next::Exit(exit);
+        }
+        if until_closed && self.is_closed && self.is_free() {
+            return Next::Close;
         }
         if self.desk.drains() {
             return Next::Wait;
@@ -72,6 +91,18 @@ impl State {
             Some(lease) => Next::Serve(lease, stop, self.stops),
             None => Next::Wait,
         }
+    }
+
+    /// Returns whether the daemon serves and no takeover is under way.
+    fn is_free(&self) -> bool
+        ensures free { result ≡ ends_in true self.now.desk.daemon.node.phase }
+    {
+        matches!(self.desk.phase(), Phase::Serving { .. })
+    }
+
+    /// Returns whether the daemon's exit is noted, or its main thread has ended.
+    fn is_over(&self) -> bool {
+        self.exit.is_some() || self.is_finished
     }
 
     /// Returns the stop of the next round: that of the last round, or a new one if the last round was asked to stop.
@@ -102,6 +133,20 @@ impl State {
         heard
     }
 
+    /// Notes that standard input ended. Asks the round to stop, and ends the connection at which the daemon waits.
+    fn close(&mut self)
+        ensures closed { self.new.is_closed ≡ true }
+        ensures none { self.new.stop ≡ None }
+        ensures desk { self.new.desk ≡ self.old.desk }
+        ensures exit { self.new.exit ≡ self.old.exit }
+    {
+        self.stop_round();
+        if let Some(stream) = self.waits_at.take() {
+            let _ended = stream.shutdown(Shutdown::Both);
+        }
+        self.is_closed = true;
+    }
+
     /// Asks the round that runs to stop, if one may run.
     fn stop_round(&mut self)
         ensures stops { self.new.stops ≡ stops_behind (is_some self.old.stop) self.old.stops }
@@ -125,6 +170,9 @@ impl Shared {
                 stop: None,
                 stops: 0,
                 exit: None,
+                is_finished: false,
+                is_closed: false,
+                waits_at: None,
             }),
             changes: Condvar::new(),
         }
@@ -187,9 +235,11 @@ impl Shared {
         claiming
     }
 
-    /// Returns what the main thread does next.
-    pub(crate) fn next<R: Wait>(&self, rt: &R, alloc: Global) -> Next {
-        self.state.lock(rt).next(alloc)
+    /// Returns what the main thread does next. The end of standard input is heeded if `until_closed`.
+    pub(crate) fn next<R: Wait>(&self, rt: &R, alloc: Global, until_closed: bool) -> Next
+        ensures closes { result ≡ Close → until_closed ≡ true }
+    {
+        self.state.lock(rt).next(alloc, until_closed)
     }
 
     /// Takes a round's lease back.
@@ -199,12 +249,12 @@ impl Shared {
     }
 
     /// Waits until the workers gave their lease back, and returns the frame to send to the other daemon. Returns none
-    /// if the daemon's exit is noted before that.
+    /// if the daemon is over before that.
     pub(crate) fn drain<R: Wait>(&self, rt: &R) -> Option<Frame> {
         for _ in rt.forever() {
             let seen = self.changes();
             let mut state = self.state.lock(rt);
-            if state.exit.is_some() {
+            if state.is_over() {
                 return None;
             }
             if let Some(ready) = state.desk.drained() {
@@ -214,6 +264,34 @@ impl Shared {
             self.sleep(rt, seen);
         }
         unreachable!()
+    }
+
+    /// Notes that standard input ended, and signals a change.
+    pub(crate) fn close<R: Wait>(&self, rt: &R) {
+        self.state.lock(rt).close();
+        self.changes.notify_all();
+    }
+
+    /// Notes the connection at which the daemon waits before it serves; none if it waits at none. The end of standard
+    /// input ends that connection. Returns an exit, if standard input has ended.
+    pub(crate) fn wait_at<R: Wait>(&self, rt: &R, stream: Option<UnixStream>) -> Result<(), Exit> {
+        let mut state = self.state.lock(rt);
+        let is_closed = state.is_closed;
+        let before = mem::replace(&mut state.waits_at, stream);
+        drop(state);
+        drop(before);
+        if is_closed {
+            return Err(Exit::Faulty(DaemonFault::Broken));
+        }
+        Ok(())
+    }
+
+    /// Returns how a daemon ends that did not get to serve and would end by `exit`: by the end of standard input, if that
+    /// is heeded and has come.
+    pub(crate) fn ending_before<R: Wait>(&self, rt: &R, exit: Exit, until_closed: bool) -> Ending
+        ensures closes { result ≡ Closed → until_closed ≡ true }
+    {
+        ending_before(until_closed && self.state.lock(rt).is_closed, exit)
     }
 
     /// Notes the daemon's exit, unless one is noted.
@@ -226,8 +304,25 @@ impl Shared {
         self.changes.notify_all();
     }
 
-    /// Returns whether the daemon's exit is noted.
+    /// Notes that the main thread has ended.
+    pub(crate) fn finish<R: Wait>(&self, rt: &R) {
+        self.state.lock(rt).is_finished = true;
+        self.changes.notify_all();
+    }
+
+    /// Returns whether the daemon's exit is noted, or its main thread has ended.
     pub(crate) fn is_over<R: Wait>(&self, rt: &R) -> bool {
-        self.state.lock(rt).exit.is_some()
+        self.state.lock(rt).is_over()
+    }
+}
+
+/// Returns how a daemon ends that did not get to serve. If standard input ended before, it ends for that.
+fn ending_before(is_closed: bool, exit: Exit) -> Ending
+    ensures ending { result ≡ ending_before is_closed exit }
+{
+    if is_closed {
+        Ending::Closed
+    } else {
+        Ending::Exits(exit)
     }
 }

@@ -1,5 +1,6 @@
 //! A new daemon's part in a takeover.
 ghost use Rattle.std.specs.Prelude.{◌≡◌};
+ghost use Rattle.daemon_process.specs.Ending.{exit_of_claim};
 ghost use Rattle.daemon_process.specs.Takeovers.{exit_by};
 
 use crate::claiming::claim;
@@ -21,7 +22,7 @@ const LONGER: u32 = 10;
 /// The exit of a daemon whose takeover ended without the seat.
 const FAILED: Exit = Exit::Faulty(DaemonFault::TakeoverFailed);
 
-/// Takes over from the daemon at the other end of `old`, and claims the seat.
+/// Takes over from the daemon at the other end of `old`, and claims the seat, unless standard input ended before that.
 pub(crate) fn take_over<R: Wait + Clock>(
     rt: &R,
     shared: &Shared,
@@ -35,10 +36,21 @@ pub(crate) fn take_over<R: Wait + Clock>(
         }
         return Err(exit);
     }
-    match claim(rt, shared, broker) {
-        Claiming::Serves(_) => Ok(()),
-        Claiming::Ended => Err(Exit::Ended),
-        _ => Err(FAILED),
+    shared.wait_at(rt, None)?;
+    match exit_of_claim(claim(rt, shared, broker)) {
+        Some(exit) => Err(exit),
+        None => Ok(()),
+    }
+}
+
+/// Returns how a new daemon ends, by the answer to its claim; none if it has the seat.
+fn exit_of_claim(claiming: Claiming) -> Option<Exit>
+    ensures exit { result ≡ exit_of_claim claiming }
+{
+    match claiming {
+        Claiming::Serves(_) => None,
+        Claiming::Ended => Some(Exit::Ended),
+        _ => Some(FAILED),
     }
 }
 
@@ -49,6 +61,7 @@ fn get_data<R: Wait + Clock>(
     old: &mut Connection<'_, R>,
     patience: Duration,
 ) -> Result<(), Exit> {
+    shared.wait_at(rt, old.handle().ok())?;
     let mut deadline = Deadline::after(rt, patience);
     if old.write(&shared.offer(rt)).is_err() {
         return Err(FAILED);

@@ -14,4 +14,5 @@ returns-clause-words c = record {
   workers = c.number_or.ensures ∙ ap (number_or 2) (c.get_str.ensures ∙ first_value-rows (found_of c.args.daemon.now) (codes "workers"));
   limit = c.number_or-2.ensures ∙ ap (number_or 1024) (c.get_str-2.ensures ∙ first_value-rows (found_of c.args.daemon.now) (codes "limit"));
   patience = c.number_or-3.ensures ∙ ap (number_or 2000) (c.get_str-3.ensures ∙ first_value-rows (found_of c.args.daemon.now) (codes "patience"));
+  until_closed = c.has_flag.ensures;
 }

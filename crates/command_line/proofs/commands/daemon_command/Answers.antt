@@ -14,4 +14,5 @@ returns c =
     let manifest = with_arg _ _ _ _ _ c.word_arg-3.ensures.rule c.word_arg-3.ensures.own takeover c.in_ok-arg-5.ensures in
     let workers = with_arg _ _ _ _ _ c.workers_arg.ensures.rule c.workers_arg.ensures.own manifest c.in_ok-arg-6.ensures in
     let limit = with_arg _ _ _ _ _ c.limit_arg.ensures.rule c.limit_arg.ensures.own workers c.in_ok-arg-7.ensures in
-    IfOk-weaker c.arg-8.result _ _ (λ command adds. with_arg _ _ _ _ _ c.patience_arg.ensures.rule c.patience_arg.ensures.own limit adds) c.arg-8.ensures
+    let patience = with_arg _ _ _ _ _ c.patience_arg.ensures.rule c.patience_arg.ensures.own limit c.in_ok-arg-8.ensures in
+    IfOk-weaker c.arg-9.result _ _ (λ command adds. with_arg _ _ _ _ _ c.flag_arg-3.ensures.rule c.flag_arg-3.ensures.own patience adds) c.arg-9.ensures

@@ -8,6 +8,7 @@ loop-init g c = serving-none _
 pub returns-in-Some-serve_lease : goal.returns-in-Some-serve_lease
 returns-in-Some-serve_lease g c = record {
   prints = serving-ends _ _ _ _ _ _ c.in-Some-serve_lease.exit c.loop.invariant c.in-Some-serve_lease.ensures.prints;
+  heeds = tt;
 }
 
 pub loop-preserved-in-Serve : goal.loop-preserved-in-Serve
