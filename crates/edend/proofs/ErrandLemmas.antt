@@ -1,60 +1,21 @@
 -- Lemmas on errands that were noted, and are run over sockets.
-use Rattle.std.proofs.Common.{◌≡◌, ◌⊎◌, ℕ, Bool, true, false, List, [], Option, Some, None, Result, Ok, Err, refl, ap, subst, sym, ◌∙◌, inl, inr}
+use Rattle.std.proofs.Common.{◌≡◌, ◌⊎◌, ℕ, Bool, true, false, List, Option, Some, None, Result, Ok, Err, refl, ap, subst, sym, ◌∙◌, inl, inr}
 use Rattle.std.specs.Io.KnownBytes.{Keeps}
-use Rattle.std.proofs.KnownBytes.{Appends-kept, Appends-nil}
 use Rattle.std.specs.declared.io.Error.{Error as IoError}
 use Rattle.command_line.specs.Asked.{IsErrand}
-use Rattle.command_line.specs.declared.errand.BrokerWords.{BrokerWords}
-use Rattle.command_line.specs.declared.errand.DaemonWords.{DaemonWords}
 use Rattle.command_line.specs.declared.errand.Errand.{Errand}
-use Rattle.command_line.specs.declared.errand.Errand.TheVariants as errand
 use Rattle.world_script.specs.Process.{EndsWith, RunsIn}
-use Rattle.world_script.specs.ProgramEnd.{EndsAfter, EndsBy, Had, RunsErrand, Tells, asks_errand, command_had, known_of, name_by, name_of, plain}
-use Rattle.world_script.specs.Refusal.{IsManifestFault, IsReadRefusal}
+use Rattle.world_script.specs.ProgramEnd.{EndsAfter, EndsBy, Had, RunsErrand, Tells, asks_errand, command_had, known_of, plain}
 use Rattle.world_script.specs.declared.failure.Failure.{Failure}
-use Rattle.world_script.specs.declared.fault.Fault.{Fault}
-use Rattle.world_script.specs.declared.fault.Fault.TheVariants.{BadManifest, CannotRead, NoMemory, TooLong}
+use Rattle.world_script.specs.declared.fault.Fault.TheVariants.{NoMemory}
 use Rattle.world_script.specs.declared.program_end.ProgramEnd.{ProgramEnd}
 use Rattle.world_script.proofs.ProcessLemmas.{ends_with, ends_with-map}
 use Rattle.edend.proofs.NotedErrands.{runs_to-noted}
-use Rattle.edend.specs.Errands.{Names, PrintsFirst, RunsOver, RunsTo, name_at, over_sockets}
+use Rattle.edend.proofs.FailedErrands.{fails-no_memory}
+use Rattle.edend.specs.Errands.{Fails, RunsOver, RunsTo, over_sockets}
 use Rattle.edend.specs.Note.{IsNoted, Notes}
 use Rattle.edend.specs.declared.note.Note.{Note}
 use Rattle.edend.specs.declared.note.Noted.{Noted}
-
--- a file that can't be read gives the fault its name
-read_by_broker : (words : BrokerWords) (fault : Fault) → IsReadRefusal fault → name_by words.script.now fault ≡ name_at (errand.Broker words) fault
-read_by_broker words CannotRead is = refl
-read_by_broker words TooLong is = refl
-read_by_broker words NoMemory is = refl
-read_by_broker words fault is = absurd is
-
-pub names-script : (words : BrokerWords) (failure : Failure) (fault : Fault) →
-    failure.fault ≡ fault → IsReadRefusal fault → name_of failure ≡ name_by words.script.now failure.fault → Names (errand.Broker words) failure
-names-script words failure fault same is named =
-    named ∙ read_by_broker words failure.fault (subst IsReadRefusal (sym same) is)
-
-read_by_daemon : (words : DaemonWords) (fault : Fault) → IsReadRefusal fault → name_by words.manifest.now fault ≡ name_at (errand.Daemon words) fault
-read_by_daemon words CannotRead is = refl
-read_by_daemon words TooLong is = refl
-read_by_daemon words NoMemory is = refl
-read_by_daemon words fault is = absurd is
-
-pub names-manifest : (words : DaemonWords) (failure : Failure) (fault : Fault) →
-    failure.fault ≡ fault → IsReadRefusal fault → name_of failure ≡ name_by words.manifest.now failure.fault → Names (errand.Daemon words) failure
-names-manifest words failure fault same is named =
-    named ∙ read_by_daemon words failure.fault (subst IsReadRefusal (sym same) is)
-
--- no error of the system causes a bad manifest
-pub names-bad_manifest : (words : DaemonWords) (text : List ℕ) (fault : Fault) → IsManifestFault text fault → Names (errand.Daemon words) (plain fault)
-names-bad_manifest words text (BadManifest fault) is = refl
-names-bad_manifest words text NoMemory is = refl
-names-bad_manifest words text fault is = absurd is
-
--- no error of the system causes want of memory
-names-no_memory : (e : Errand) → Names e (plain NoMemory)
-names-no_memory (errand.Broker words) = refl
-names-no_memory (errand.Daemon words) = refl
 
 -- an errand that was noted so was run, and the process ended after it
 pub runs_over : (noted : Noted) (a b : Errand) (input : Option (List ℕ)) (file : List ℕ → Option (List ℕ)) (ran : Result (Unit {0}) Failure) (output begun ended output_after errors opened errors_after : Option (List ℕ)) (status : ℕ) (said : Result (Unit {0}) IoError) →
@@ -66,28 +27,12 @@ runs_over noted a b input file ran output begun ended output_after errors opened
     (inl (record { result = ran; begun = begun; ended = ended; first = first; ran = runs_to-noted noted a b input file ran begun ended of_a of_b runs; ends = ends.is }))
     refl kept ends.status_is ends.says
 
--- nothing was printed
-prints-nothing : (e : Errand) (before after : Option (List ℕ)) → Keeps before after → PrintsFirst e before after
-prints-nothing (errand.Broker words) before after kept = Appends-kept before before after [] (Appends-nil before) kept
-prints-nothing (errand.Daemon words) before after kept = ([], Appends-kept before before after [] (Appends-nil before) kept)
-
--- a failure before anything was printed
-first-none : (e : Errand) (known : Option (List ℕ)) → PrintsFirst e known known
-first-none (errand.Broker words) known = Appends-nil known
-first-none (errand.Daemon words) known = ([], Appends-nil known)
-
-pub fails-to : (input : Option (List ℕ)) (file : List ℕ → Option (List ℕ)) (e : Errand) (failure : Failure) (ended : Result (Unit {0}) Failure) (old new : Option (List ℕ)) →
-    ended ≡ Err failure → new ≡ old → Names e failure → RunsTo input file e ended old new
-fails-to input file e failure ended old new is same names =
-    subst (λ (r : Result (Unit {0}) Failure). RunsTo input file e r old new) (sym is)
-    (names, inr (subst (λ (n : Option (List ℕ)). PrintsFirst e old n) (sym same) (first-none e old)))
-
 notes-less : (input : Option (List ℕ)) (file : List ℕ → Option (List ℕ)) (old new : Note) (e : Errand) (ran : Result (Unit {0}) Failure) (before after : Option (List ℕ)) →
     new.errand ≡ None → Notes old new e ran before after → RunsTo input file e ran before after
 notes-less input file old new e (Ok done) before after none (noted, kept) =
     let bad : Some noted.0 ≡ None = sym noted.1 ∙ none in cc
 notes-less input file old new e (Err failure) before after none (is, same, kept) =
-    (subst (λ (f : Failure). Names e f) (sym is) (names-no_memory e), inr (prints-nothing e before after kept))
+    subst (λ (f : Failure). Fails input file e f before after) (sym is) (fails-no_memory input file e before after kept)
 
 runs_errand-less : (input : Option (List ℕ)) (file : List ℕ → Option (List ℕ)) (old new : Note) (e : Errand) (before after : Option (List ℕ)) (ending : ProgramEnd) →
     new.errand ≡ None → RunsErrand e (known_of Notes old new) before after ending → RunsErrand e (over_sockets input file) before after ending

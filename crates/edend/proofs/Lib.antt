@@ -1,2 +1,3 @@
 pub mod ErrandLemmas
+pub mod FailedErrands
 mod NotedErrands

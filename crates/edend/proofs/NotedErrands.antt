@@ -1,5 +1,6 @@
 -- Errands that were noted alike run alike.
-use Rattle.std.proofs.Common.{◌≡◌, ◌⊎◌, ℕ, List, Option, Some, Result, Ok, Err, ap, subst, sym, ◌∙◌, inl, inr}
+use Rattle.std.proofs.Common.{◌≡◌, ◌⊎◌, ℕ, Bool, List, Option, Some, Result, Ok, Err, ap, subst, sym, ◌∙◌, inl, inr}
+use Rattle.daemon_process.specs.Ending.{RunsDaemon}
 use Rattle.world_script.specs.Source.{script_at}
 use Rattle.command_line.specs.declared.errand.BrokerWords.{BrokerWords}
 use Rattle.command_line.specs.declared.errand.DaemonWords.{DaemonWords}
@@ -9,7 +10,7 @@ use Rattle.world_script.specs.ProgramEnd.{name_by}
 use Rattle.world_script.specs.declared.failure.Failure.{Failure}
 use Rattle.world_script.specs.declared.fault.Fault.{Fault}
 use Rattle.world_script.specs.declared.fault.Fault.TheVariants.{CannotListen, CannotWrite, NoBroker, NoDaemon}
-use Rattle.edend.specs.Errands.{PlaysRead, PrintsFirst, RunsTo, RunsWell, name_at}
+use Rattle.edend.specs.Errands.{BrokerTells, DaemonTells, IsTold, PlaysRead, PrintsFirst, RunsTo, RunsWell, name_at}
 use Rattle.edend.specs.Note.{IsNoted}
 use Rattle.edend.specs.declared.note.Noted.{Noted}
 use Rattle.edend.specs.declared.note.Noted.TheVariants.{Broker, Daemon}
@@ -40,7 +41,8 @@ runs_well-noted : (noted : Noted) (a b : Errand) (input : Option (List ℕ)) (fi
     IsNoted noted a → IsNoted noted b → RunsWell input file a before after → RunsWell input file b before after
 runs_well-noted (Broker noted) (errand.Broker a) (errand.Broker b) input file before after of_a of_b well =
     subst (λ (path : List ℕ). PlaysRead (script_at input file path) before after) (sym of_a.1 ∙ of_b.1) well
-runs_well-noted (Daemon noted) (errand.Daemon a) (errand.Daemon b) input file before after of_a of_b well = well
+runs_well-noted (Daemon noted) (errand.Daemon a) (errand.Daemon b) input file before after of_a of_b well =
+    subst (λ (until_closed : Bool). RunsDaemon until_closed (Ok tt) before after) (sym of_a.7 ∙ of_b.7) well
 runs_well-noted (Broker noted) (errand.Daemon a) b input file before after of_a of_b well = absurd of_a
 runs_well-noted (Broker noted) (errand.Broker a) (errand.Daemon b) input file before after of_a of_b well = absurd of_b
 runs_well-noted (Daemon noted) (errand.Broker a) b input file before after of_a of_b well = absurd of_a
@@ -59,8 +61,22 @@ failed-noted : (noted : Noted) (a b : Errand) (fault : Fault) (before after : Op
 failed-noted noted a b fault before after of_a of_b (inl unwritten) = inl unwritten
 failed-noted noted a b fault before after of_a of_b (inr first) = inr (prints_first-noted noted a b before after of_a of_b first)
 
+told-noted : (noted : Noted) (a b : Errand) (input : Option (List ℕ)) (file : List ℕ → Option (List ℕ)) (fault : Fault) (before after : Option (List ℕ)) →
+    IsNoted noted a → IsNoted noted b → IsTold input file a before after fault → IsTold input file b before after fault
+told-noted (Broker noted) (errand.Broker a) (errand.Broker b) input file fault before after of_a of_b told =
+    subst (λ (path : List ℕ). BrokerTells (script_at input file path) before after fault) (sym of_a.1 ∙ of_b.1) told
+told-noted (Daemon noted) (errand.Daemon a) (errand.Daemon b) input file fault before after of_a of_b told =
+    subst (λ (path : List ℕ). DaemonTells (script_at input file path) before after fault) (sym of_a.3 ∙ of_b.3) told
+told-noted (Broker noted) (errand.Daemon a) b input file fault before after of_a of_b told = absurd of_a
+told-noted (Broker noted) (errand.Broker a) (errand.Daemon b) input file fault before after of_a of_b told = absurd of_b
+told-noted (Daemon noted) (errand.Broker a) b input file fault before after of_a of_b told = absurd of_a
+told-noted (Daemon noted) (errand.Daemon a) (errand.Broker b) input file fault before after of_a of_b told = absurd of_b
+
 pub runs_to-noted : (noted : Noted) (a b : Errand) (input : Option (List ℕ)) (file : List ℕ → Option (List ℕ)) (ran : Result (Unit {0}) Failure) (before after : Option (List ℕ)) →
     IsNoted noted a → IsNoted noted b → RunsTo input file a ran before after → RunsTo input file b ran before after
 runs_to-noted noted a b input file (Ok done) before after of_a of_b well = runs_well-noted noted a b input file before after of_a of_b well
-runs_to-noted noted a b input file (Err failure) before after of_a of_b (names, first) =
-    (names ∙ same_names noted a b failure.fault of_a of_b, failed-noted noted a b failure.fault before after of_a of_b first)
+runs_to-noted noted a b input file (Err failure) before after of_a of_b fails = record {
+  names = fails.names ∙ same_names noted a b failure.fault of_a of_b;
+  told = told-noted noted a b input file failure.fault before after of_a of_b fails.told;
+  first = failed-noted noted a b failure.fault before after of_a of_b fails.first;
+}

@@ -1,20 +1,36 @@
 -- How an errand over sockets ends. (This project's own.)
-use Rattle.std.specs.Prelude.{ℕ, List, [], Option, Some, Result, Ok, Err, ◌≡◌, ◌⊎◌, ⊤}
+use Rattle.std.specs.Prelude.{ℕ, ◌<◌, List, [], length, Option, Some, Result, Ok, Err, ◌≡◌, ◌⊎◌, ⊤}
 use Rattle.std.specs.Io.KnownBytes.{Appends}
 use Rattle.std.specs.Option.{IfSome}
 use Rattle.std.specs.declared.io.Error.{Error as IoError}
 use Rattle.command_line.specs.declared.errand.Errand.{Errand}
 use Rattle.command_line.specs.declared.errand.Errand.TheVariants.{Broker, Daemon}
-use Rattle.broker_process.specs.Playing.{PlaysScript}
-use Rattle.broker_script.specs.Reading.{Says}
+use Rattle.command_line.specs.declared.errand.Start.{Start}
+use Rattle.command_line.specs.declared.errand.Start.TheVariants.{Mount, Takeover}
+use Rattle.broker_process.specs.Playing.{PlaysScript, RunsBroker}
+use Rattle.broker_process.specs.declared.fault.BrokerFault.{BrokerFault}
+use Rattle.broker_process.specs.declared.fault.BrokerFault.TheVariants as broker
+use Rattle.broker_script.specs.Reading.{IsRefusal, Says}
+use Rattle.broker_script.specs.declared.fault.BrokerScriptFault.{BrokerScriptFault}
+use Rattle.broker_script.specs.declared.fault.BrokerScriptFault.TheVariants as script
 use Rattle.script_lines.specs.declared.broker_line.BrokerLine.{BrokerLine}
-use Rattle.daemon_process.specs.Ending.{PrintsServing, RunsDaemon}
+use Rattle.daemon_process.specs.Ending.{FailsDaemon, PrintsServing, RunsDaemon}
+use Rattle.daemon_process.specs.declared.fault.DaemonFault.{DaemonFault}
+use Rattle.daemon_process.specs.declared.fault.DaemonFault.TheVariants as daemon
+use Rattle.daemon_process.specs.declared.orders.Start.{Start as DaemonStart}
+use Rattle.daemon_process.specs.declared.orders.Start.TheVariants as start
 use Rattle.world_script.specs.Process.{EndsWith}
-use Rattle.world_script.specs.Source.{script_at}
+use Rattle.world_script.specs.Refusal.{IsManifestFault}
+use Rattle.world_script.specs.Source.{OfRead, script_at}
 use Rattle.world_script.specs.ProgramEnd.{ErrandsKnown, RunsErrand, Tells, name_by, name_of, plain}
 use Rattle.world_script.specs.declared.failure.Failure.{Failure}
 use Rattle.world_script.specs.declared.fault.Fault.{Fault}
-use Rattle.world_script.specs.declared.fault.Fault.TheVariants.{CannotListen, CannotWrite, NoBroker, NoDaemon, NoMemory}
+use Rattle.world_script.specs.declared.fault.Fault.TheVariants.{BadLine, Broken, CannotListen, CannotRead, CannotWrite, NoBroker, NoDaemon, NoMemory, NoThread, OfferRefused, Seated, TakeoverFailed, TooLong}
+
+-- how a daemon begins, by the start that its words ask for
+abbrev pub start_of : Start → DaemonStart
+start_of Mount = start.Mount
+start_of Takeover = start.Takeover
 
 -- the socket, file or stream whose error caused an errand's fault, if an error did
 abbrev pub name_at : Errand → Fault → Option (List ℕ)
@@ -29,6 +45,83 @@ name_at (Daemon words) fault = name_by words.manifest.now fault
 abbrev pub Names : Errand → Failure → Type 0
 Names errand failure = name_of failure ≡ name_at errand failure.fault
 
+-- ---- which fault is told
+
+-- the fault that is told where a broker's script was refused so
+abbrev pub fault_of_script : BrokerScriptFault → Fault
+fault_of_script (script.BadLine line) = BadLine line
+fault_of_script script.NoMemory = NoMemory
+
+-- the fault that is told where a broker ended so
+abbrev pub fault_of_broker : BrokerFault → Fault
+fault_of_broker (broker.CannotListen error) = CannotListen
+fault_of_broker broker.NoMemory = NoMemory
+fault_of_broker broker.NoThread = NoThread
+fault_of_broker (broker.CannotWrite error) = CannotWrite
+
+-- the fault that is told where a daemon ended so
+abbrev pub fault_of_daemon : DaemonFault → Fault
+fault_of_daemon (daemon.NoBroker error) = NoBroker
+fault_of_daemon daemon.Seated = Seated
+fault_of_daemon (daemon.NoDaemon error) = NoDaemon
+fault_of_daemon daemon.OfferRefused = OfferRefused
+fault_of_daemon daemon.TakeoverFailed = TakeoverFailed
+fault_of_daemon (daemon.CannotListen error) = CannotListen
+fault_of_daemon daemon.NoMemory = NoMemory
+fault_of_daemon daemon.NoThread = NoThread
+fault_of_daemon daemon.Broken = Broken
+fault_of_daemon (daemon.CannotWrite error) = CannotWrite
+
+-- why a script or a manifest was not read to its end, given what is known of its text
+abbrev pub IsUnread : Option (List ℕ) → Fault → Type 0
+IsUnread known CannotRead = ⊤
+IsUnread known TooLong = IfSome known (λ all. 1048576 < length all)
+IsUnread known NoMemory = ⊤
+IsUnread known fault = ⊥
+
+-- a text that was read is refused as a broker's script, and the fault tells why
+abbrev pub IsScriptRefusal : Fault → List ℕ → Type 0
+IsScriptRefusal fault text =
+    (refused : BrokerScriptFault) × IsRefusal text refused × (fault ≡ fault_of_script refused)
+
+-- a broker that ran by the script of a text ended by a fault, which is told
+pub record EndsBroker (before after : Option (List ℕ)) (told : Fault) (text : List ℕ) : Type 0 where
+  pub script : List BrokerLine
+  pub says : Says text script
+  pub fault : BrokerFault
+  pub ran : RunsBroker script (Err fault) before after
+  pub is_told : told ≡ fault_of_broker fault
+
+-- a daemon ended by a fault, which is told
+pub record EndsDaemon (before after : Option (List ℕ)) (told : Fault) : Type 0 where
+  pub fault : DaemonFault
+  pub ran : FailsDaemon fault before after
+  pub is_told : told ≡ fault_of_daemon fault
+
+-- The fault that a broker tells, given what is known of the text at its script's path: that of a text that was not
+-- read, that of a script that was refused, or the one that ended the broker.
+abbrev pub BrokerTells : Option (List ℕ) → Option (List ℕ) → Option (List ℕ) → Fault → Type 0
+BrokerTells known before after fault =
+    IsUnread known fault
+    ⊎ (OfRead known (IsScriptRefusal fault) ⊎ OfRead known (EndsBroker before after fault))
+
+-- The fault that a daemon tells, given what is known of the text at its manifest's path: that of a text that was not
+-- read, that of a manifest that was refused, or the one that ended the daemon.
+abbrev pub DaemonTells : Option (List ℕ) → Option (List ℕ) → Option (List ℕ) → Fault → Type 0
+DaemonTells known before after fault =
+    IsUnread known fault
+    ⊎ (OfRead known (λ text. IsManifestFault text fault) ⊎ EndsDaemon before after fault)
+
+-- the fault that an errand tells
+abbrev pub IsTold :
+    Option (List ℕ) → (List ℕ → Option (List ℕ)) → Errand → Option (List ℕ) → Option (List ℕ) → Fault → Type 0
+IsTold input file (Broker words) before after fault =
+    BrokerTells (script_at input file words.script.now) before after fault
+IsTold input file (Daemon words) before after fault =
+    DaemonTells (script_at input file words.manifest.now) before after fault
+
+-- ---- how an errand ends
+
 -- a script was read from what is known of the text at the broker's path, and the whole script was played
 pub record PlaysRead (known : Option (List ℕ)) (before after : Option (List ℕ)) : Type 0 where
   pub text : List ℕ
@@ -41,7 +134,7 @@ pub record PlaysRead (known : Option (List ℕ)) (before after : Option (List �
 abbrev pub RunsWell :
     Option (List ℕ) → (List ℕ → Option (List ℕ)) → Errand → Option (List ℕ) → Option (List ℕ) → Type 0
 RunsWell input file (Broker words) before after = PlaysRead (script_at input file words.script.now) before after
-RunsWell input file (Daemon words) before after = RunsDaemon (Ok tt) before after
+RunsWell input file (Daemon words) before after = RunsDaemon words.until_closed (Ok tt) before after
 
 -- what an errand that failed printed before, if each line could be printed: a broker nothing, a daemon the lines of its
 -- generations
@@ -49,13 +142,19 @@ abbrev pub PrintsFirst : Errand → Option (List ℕ) → Option (List ℕ) → 
 PrintsFirst (Broker words) before after = Appends before after []
 PrintsFirst (Daemon words) before after = PrintsServing before after
 
--- an errand ran well, or it failed and its failure names the cause
+-- an errand failed, and its failure tells the fault and names the cause
+pub record Fails (input : Option (List ℕ)) (file : List ℕ → Option (List ℕ)) (errand : Errand) (failure : Failure)
+    (before after : Option (List ℕ)) : Type 0 where
+  pub names : Names errand failure
+  pub told : IsTold input file errand before after failure.fault
+  pub first : (failure.fault ≡ CannotWrite) ⊎ PrintsFirst errand before after
+
+-- an errand ran well, or it failed
 abbrev pub RunsTo :
     Option (List ℕ) → (List ℕ → Option (List ℕ)) → Errand → Result (Unit {0}) Failure →
     Option (List ℕ) → Option (List ℕ) → Type 0
 RunsTo input file errand (Ok done) before after = RunsWell input file errand before after
-RunsTo input file errand (Err failure) before after =
-    Names errand failure × ((failure.fault ≡ CannotWrite) ⊎ PrintsFirst errand before after)
+RunsTo input file errand (Err failure) before after = Fails input file errand failure before after
 
 -- what is known of errands over sockets, given what is known of standard input and of the files
 abbrev pub over_sockets : Option (List ℕ) → (List ℕ → Option (List ℕ)) → ErrandsKnown

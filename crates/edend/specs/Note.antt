@@ -1,4 +1,4 @@
--- An errand that was noted, with owned strings. (This project's own.)
+-- The errand that the program's words name, a broker's or a daemon's, noted in owned strings. (This project's own.)
 use Rattle.std.specs.Prelude.{◌≡◌, Some, Ok, Err, string_bytes}
 use Rattle.std.specs.Io.KnownBytes.{Keeps}
 use Rattle.command_line.specs.declared.errand.BrokerWords.{BrokerWords}
@@ -28,6 +28,7 @@ IsDaemon noted words =
     × (noted.workers ≡ words.workers)
     × (noted.limit ≡ words.limit)
     × (noted.patience ≡ words.patience)
+    × (noted.until_closed ≡ words.until_closed)
 
 -- the noted errand is this one
 abbrev pub IsNoted : Noted → Errand → Type 0

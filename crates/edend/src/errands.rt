@@ -1,13 +1,14 @@
 //! The program in a process, and the errands that it runs over sockets.
-ghost use Rattle.std.specs.Prelude.{◌≡◌, ◌⊎◌, ℕ, List, Option, Some, Err};
+ghost use Rattle.std.specs.Prelude.{◌≡◌, ◌⊎◌, ◌*◌, ℕ, List, Option, Some, Err};
+ghost use Rattle.std.specs.Duration.{as_nanos};
 ghost use Rattle.broker_process.specs.Playing.{RunsBroker};
 ghost use Rattle.command_line.specs.declared.errand.Errand.TheVariants.{Broker as BrokerErrand, Daemon as DaemonErrand};
 ghost use Rattle.world_script.specs.Process.{RunsIn};
 ghost use Rattle.world_script.specs.ProgramEnd.{name_of};
-ghost use Rattle.daemon_process.specs.Ending.{RunsDaemon};
+ghost use Rattle.daemon_process.specs.Ending.{FailsDaemon};
 ghost use Rattle.script_lines.specs.declared.broker_line.BrokerLine.{BrokerLine};
 ghost use Rattle.world_script.specs.declared.fault.Fault.TheVariants.{CannotWrite};
-ghost use Rattle.edend.specs.Errands.{Names, PrintsFirst, RunsOver, RunsTo, over_sockets};
+ghost use Rattle.edend.specs.Errands.{Names, PrintsFirst, RunsOver, RunsTo, fault_of_broker, fault_of_daemon, fault_of_script, over_sockets, start_of};
 ghost use Rattle.edend.specs.Note.{IsNoted};
 
 use crate::note::{Note, Noted};
@@ -15,7 +16,7 @@ use broker_process::{BrokerFault, run_broker};
 use broker_script::{BrokerScriptFault, read_broker_script};
 use daemon_process::{DaemonFault, Orders, Start, run_daemon};
 use std::alloc::Global;
-use std::io::{self, Write};
+use std::io::{self, Read, Write};
 use std::net::Net;
 use std::rt::{Clock, Files};
 use std::sync::Wait;
@@ -26,12 +27,13 @@ use world_script::{
     Sources, end_errand, gather_lines, read_manifest, read_path, run_process,
 };
 
-/// Runs the program in a process: plays a script of a whole mount, or runs an errand over sockets.
-pub fn run_edend<R: Threads + Wait + Clock + Files + Net + Sync, P: Process>(
-    host: &R,
-    alloc: Global,
-    process: &P,
-) -> RunIn<P::Output, P::Errors>
+/// Runs the program in a process: plays a script of a whole mount, or runs an errand over sockets. A daemon that is to run
+/// until standard input ends reads that by `input`.
+pub fn run_edend<
+    R: Threads + Wait + Clock + Files + Net + Copy + Send + Sync + 'static,
+    P: Process,
+    I: Read + Drop + Send + 'static,
+>(host: &R, alloc: Global, process: &P, input: I) -> RunIn<P::Output, P::Errors>
     ensures runs { RunsIn (P.known_words process.now)
         (P.input_bytes process.now) (P.file_bytes process.now)
         (over_sockets (P.input_bytes process.now) (P.file_bytes process.now))
@@ -42,18 +44,17 @@ pub fn run_edend<R: Threads + Wait + Clock + Files + Net + Sync, P: Process>(
     let mut note = Note { errand: None };
     let ran = run_process(alloc, process, &mut note);
     match &note.errand {
-        Some(noted) => run_noted(host, alloc, process, noted),
+        Some(noted) => run_noted(host, alloc, process, noted, input),
         None => ran,
     }
 }
 
 /// Runs the errand that was noted, and ends the process with it.
-fn run_noted<R: Threads + Wait + Clock + Files + Net + Sync, P: Process>(
-    host: &R,
-    alloc: Global,
-    process: &P,
-    noted: &Noted,
-) -> RunIn<P::Output, P::Errors>
+fn run_noted<
+    R: Threads + Wait + Clock + Files + Net + Copy + Send + Sync + 'static,
+    P: Process,
+    I: Read + Drop + Send + 'static,
+>(host: &R, alloc: Global, process: &P, noted: &Noted, input: I) -> RunIn<P::Output, P::Errors>
     ensures { (errand : _) → IsNoted noted.now errand → RunsOver
         (P.input_bytes process.now) (P.file_bytes process.now) errand
         (P.output_bytes process.now) (P.Output.contents result.output)
@@ -65,7 +66,7 @@ fn run_noted<R: Threads + Wait + Clock + Files + Net + Sync, P: Process>(
         Err(ended) => return ended,
     };
     let errand = noted.errand();
-    let ErrandRun { out, ended } = run(host, alloc, process, &errand, lines);
+    let ErrandRun { out, ended } = run(host, alloc, process, &errand, input, lines);
     end_errand(ended, out, process.errors())
 }
 
@@ -77,19 +78,19 @@ struct ErrandRun<'a, W> {
 }
 
 /// Runs an errand over sockets, and returns how it ended.
-fn run<'a, R: Threads + Wait + Clock + Files + Net + Sync, S: Sources, W: Write + Drop>(
-    host: &R,
-    alloc: Global,
-    sources: &S,
-    errand: &Errand<'a>,
-    out: W,
-) -> ErrandRun<'a, W>
+fn run<
+    'a,
+    R: Threads + Wait + Clock + Files + Net + Copy + Send + Sync + 'static,
+    S: Sources,
+    I: Read + Drop + Send + 'static,
+    W: Write + Drop,
+>(host: &R, alloc: Global, sources: &S, errand: &Errand<'a>, input: I, out: W) -> ErrandRun<'a, W>
     ensures { RunsTo (S.input_bytes sources.now) (S.file_bytes sources.now) errand.now result.ended
         (W.contents out) (W.contents result.out) }
 {
     match errand {
         Errand::Broker(words) => broker(host, alloc, sources, words, out),
-        Errand::Daemon(words) => daemon(host, alloc, sources, words, out),
+        Errand::Daemon(words) => daemon(host, alloc, sources, words, input, out),
     }
 }
 
@@ -149,7 +150,8 @@ fn broker<'a, R: Threads + Wait + Clock + Files + Net + Sync, S: Sources, W: Wri
 
 /// Returns the failure of a broker whose script was refused.
 fn failure_of_script<'a>(fault: BrokerScriptFault, _words: &BrokerWords<'a>) -> Failure<'a>
-    ensures { Names (BrokerErrand _words.now) result }
+    ensures names { Names (BrokerErrand _words.now) result }
+    ensures told { result.fault ≡ fault_of_script fault }
 {
     match fault {
         BrokerScriptFault::BadLine(line) => Failure::plain(Fault::BadLine(line)),
@@ -160,6 +162,7 @@ fn failure_of_script<'a>(fault: BrokerScriptFault, _words: &BrokerWords<'a>) -> 
 /// Returns the failure of a broker that ended by `fault`, run with these words.
 fn failure_of_broker<'a>(fault: BrokerFault, words: &BrokerWords<'a>) -> Failure<'a>
     ensures names { Names (BrokerErrand words.now) result }
+    ensures told { result.fault ≡ fault_of_broker fault }
     ensures first { (script : List BrokerLine) (old new : Option (List ℕ))
         → RunsBroker script (Err fault) old new
         → (result.fault ≡ CannotWrite) ⊎ PrintsFirst (BrokerErrand words.now) old new }
@@ -173,11 +176,18 @@ fn failure_of_broker<'a>(fault: BrokerFault, words: &BrokerWords<'a>) -> Failure
 }
 
 /// Reads a manifest, runs a daemon over its checkout, and returns how the errand ended.
-fn daemon<'a, R: Threads + Wait + Clock + Files + Net + Sync, S: Sources, W: Write + Drop>(
+fn daemon<
+    'a,
+    R: Threads + Wait + Clock + Files + Net + Copy + Send + Sync + 'static,
+    S: Sources,
+    I: Read + Drop + Send + 'static,
+    W: Write + Drop,
+>(
     host: &R,
     alloc: Global,
     sources: &S,
     words: &DaemonWords<'a>,
+    input: I,
     out: W,
 ) -> ErrandRun<'a, W>
     ensures { RunsTo (S.input_bytes sources.now) (S.file_bytes sources.now)
@@ -192,7 +202,7 @@ fn daemon<'a, R: Threads + Wait + Clock + Files + Net + Sync, S: Sources, W: Wri
         Err(fault) => return fails(out, Failure::plain(fault)),
     };
     drop(text);
-    let run = run_daemon(host, alloc, &orders_of(words), manifest, out);
+    let run = run_daemon(host, alloc, &orders_of(words), manifest, input, out);
     match run.ended {
         Ok(()) => ErrandRun {
             out: run.out,
@@ -207,10 +217,13 @@ fn daemon<'a, R: Threads + Wait + Clock + Files + Net + Sync, S: Sources, W: Wri
 
 /// Returns a daemon's orders, as `words` give them.
 fn orders_of<'a>(words: &DaemonWords<'a>) -> Orders<'a>
+    ensures start { result.start ≡ start_of words.now.start }
     ensures broker { result.broker.now ≡ words.now.broker.now }
     ensures takeover { result.takeover.now ≡ words.now.takeover.now }
     ensures workers { result.workers ≡ words.now.workers }
     ensures limit { result.limit ≡ words.now.limit }
+    ensures patience { as_nanos result.patience ≡ words.now.patience * 1000000 }
+    ensures until_closed { result.until_closed ≡ words.now.until_closed }
 {
     Orders {
         start: start_of(words.start),
@@ -219,11 +232,14 @@ fn orders_of<'a>(words: &DaemonWords<'a>) -> Orders<'a>
         workers: words.workers,
         limit: words.limit,
         patience: Duration::from_millis(words.patience),
+        until_closed: words.until_closed,
     }
 }
 
 /// Returns how a daemon begins: it mounts, or takes over.
-fn start_of(start: world_script::Start) -> Start {
+fn start_of(start: world_script::Start) -> Start
+    ensures start { result ≡ start_of start }
+{
     match start {
         world_script::Start::Mount => Start::Mount,
         world_script::Start::Takeover => Start::Takeover,
@@ -233,7 +249,8 @@ fn start_of(start: world_script::Start) -> Start {
 /// Returns the failure of a daemon that ended by `fault`, run with these words.
 fn failure_of_daemon<'a>(fault: DaemonFault, words: &DaemonWords<'a>) -> Failure<'a>
     ensures names { Names (DaemonErrand words.now) result }
-    ensures first { (old new : Option (List ℕ)) → RunsDaemon (Err fault) old new
+    ensures told { result.fault ≡ fault_of_daemon fault }
+    ensures first { (old new : Option (List ℕ)) → FailsDaemon fault old new
         → (result.fault ≡ CannotWrite) ⊎ PrintsFirst (DaemonErrand words.now) old new }
 {
     match fault {

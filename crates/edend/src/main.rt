@@ -15,6 +15,6 @@ fn main(rt: HostRuntime) -> ExitCode {
         output: rt.stdout(),
         errors: rt.stderr(),
     };
-    let ran = run_edend(&rt, rt.alloc(), &system);
+    let ran = run_edend(&rt, rt.alloc(), &system, rt.stdin());
     ExitCode::from(ran.status)
 }

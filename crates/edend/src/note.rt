@@ -23,6 +23,7 @@ pub struct NotedDaemon {
     pub workers: usize,
     pub limit: usize,
     pub patience: u64,
+    pub until_closed: bool,
 }
 
 /// An errand, with owned strings in place of borrowed ones.
@@ -83,6 +84,7 @@ impl NotedDaemon {
             workers: words.workers,
             limit: words.limit,
             patience: words.patience,
+            until_closed: words.until_closed,
         })
     }
 
@@ -98,6 +100,7 @@ impl NotedDaemon {
             workers: self.workers,
             limit: self.limit,
             patience: self.patience,
+            until_closed: self.until_closed,
         }
     }
 }

@@ -3,8 +3,8 @@ use Rattle.std.proofs.Common.{refl}
 use Rattle.edend.proofs.ErrandLemmas.{runs_in-less, runs_in-noted}
 use Rattle.edend.proofs.errands.run_edend.Goals as goal
 
-pub returns : goal.returns
-returns g c = record { runs = runs_in-less _ _ _ _ _ _ _ _ _ _ _ c.in-None.is c.run_process-ran.ensures.runs }
+pub returns-in-None : goal.returns-in-None
+returns-in-None g c = record { runs = runs_in-less _ _ _ _ _ _ _ _ _ _ _ c.in-None.is c.run_process-ran.ensures.runs }
 
 pub returns-in-Some : goal.returns-in-Some
 returns-in-Some g c = record {
