@@ -72,6 +72,9 @@ impl Server {
             }
             3 if body.len() == 16 => self.served.attr(node).map(|attr| Answer::Attrs { attr }).ok_or(BADF),
             10 => name(0).and_then(|name| self.served.unlink(node, name)),
+            12 if body.len() > 8 => names_of(&body[8..]).ok_or(BADF).and_then(|(old, new)| {
+                self.served.rename(node, old, u64_at(body, 0), new)
+            }),
             35 if body.len() > 16 => name(16).and_then(|name| {
                 let perm = u32_at(body, 4) as u16 & 0o7777;
                 self.served.make(node, name, Kind::File, perm).map(|(number, attr)| Answer::Opened { number, attr })
@@ -90,6 +93,13 @@ impl Server {
             None => 0,
         }
     }
+}
+
+/// Returns two names, of which the first ends at the first NUL and the second at the last byte.
+fn names_of(bytes: &[u8]) -> Option<(&[u8], &[u8])> {
+    let first = bytes.iter().position(|&byte| byte == 0)?;
+    let (old, new) = bytes.split_at(first + 1);
+    Some((name_bytes(old).ok()?, name_bytes(new).ok()?))
 }
 
 /// Writes a message as the kernel does.
@@ -180,6 +190,14 @@ fn make_and_drop(server: &mut Server, texts: &[Vec<u8>; 3]) -> u64 {
     u64::from(opened && done && silent)
 }
 
+#[inline(never)]
+fn move_and_back(server: &mut Server, texts: &[Vec<u8>; 2]) -> Option<u64> {
+    let [there, back] = texts;
+    let moved = server.serve(there) == 16;
+    let returned = server.serve(back) == 16;
+    (moved && returned).then_some(1)
+}
+
 // ---- the runs
 
 fn find_fresh(server: &mut Server, node: u64) -> bool {
@@ -192,6 +210,14 @@ fn make(server: &mut Server, dir: u64, i: u64) -> u64 {
     let create = text_of(35, dir, &[&[0; 4], &0o755u32.to_le_bytes(), &[0; 8], &name]);
     let texts = [create, text_of(10, dir, &[&name]), forget_of(server.served.next)];
     make_and_drop(server, &texts)
+}
+
+fn move_one(server: &mut Server, node: u64, to_dir: u64, i: u64) -> u64 {
+    let (dir, name) = (dir_of(node), name_of(node - 2));
+    let made = format!("made{i}.txt").into_bytes();
+    let there = text_of(12, dir, &[&to_dir.to_le_bytes(), &name, &[0], &made, &[0]]);
+    let back = text_of(12, to_dir, &[&dir.to_le_bytes(), &made, &[0], &name, &[0]]);
+    move_and_back(server, &[there, back]).unwrap_or(0)
 }
 
 /// Sends the messages of `measure messages`, as words say, and returns what their replies come to.
@@ -218,5 +244,12 @@ pub fn measure(words: &[String]) -> String {
     let found = (0..ASKED_RANDOMLY).filter(|_| find_fresh(server, random.fresh(lines))).count();
     random = Random(1);
     let made: u64 = (0..ASKED_RANDOMLY).map(|i| make(server, dir_of(random.number(lines)), i)).sum();
-    format!("looked-up {looked_up} shown {shown} mixed {replied} found {found} made {made}")
+    random = Random(1);
+    let mut move_any = |i: u64| {
+        let node = random.held(lines);
+        let to_dir = dir_of(random.number(lines));
+        move_one(server, node, to_dir, i)
+    };
+    let moved: u64 = (0..ASKED_RANDOMLY).map(&mut move_any).sum();
+    format!("looked-up {looked_up} shown {shown} mixed {replied} found {found} made {made} moved {moved}")
 }

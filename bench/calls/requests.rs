@@ -12,6 +12,9 @@ pub const DEFAULT_LIMIT: usize = 1024;
 const ENOENT: i32 = 2;
 const EEXIST: i32 = 17;
 const ENOTDIR: i32 = 20;
+const EISDIR: i32 = 21;
+const EINVAL: i32 = 22;
+const ENOTEMPTY: i32 = 39;
 
 pub type Name = Box<[u8]>;
 
@@ -178,6 +181,65 @@ impl Served {
             self.lose_kid(dir);
         }
         Ok(Answer::Done)
+    }
+
+    /// Moves a file, with its number, to another name, which loses its file.
+    pub fn rename(&mut self, dir: u64, name: &[u8], to_dir: u64, to_name: &[u8]) -> Result<Answer, i32> {
+        let (from, to) = (self.dir(dir)?, self.dir(to_dir)?);
+        let file = self.link(from, name).ok_or(ENOENT)?;
+        if to_dir != ROOT && self.entries[&to_dir].place.is_none() {
+            return Err(ENOENT);
+        }
+        let is_dir = self.files[file as usize].kind == Kind::Dir;
+        if is_dir && self.is_above(file, to_dir) {
+            return Err(EINVAL);
+        }
+        let replaced = self.link(to, to_name);
+        if replaced == Some(file) {
+            return Ok(Answer::Done);
+        }
+        if let Some(other) = replaced {
+            self.may_replace(is_dir, other)?;
+        }
+        self.links.get_mut(&from).ok_or(ENOENT)?.remove(name);
+        self.links.entry(to).or_default().insert(to_name.into(), file);
+        if let Some(number) = self.names.get_mut(&to_dir).and_then(|names| names.remove(to_name)) {
+            self.entries.get_mut(&number).unwrap().place = None;
+            self.entries.get_mut(&to_dir).unwrap().kids -= 1;
+        }
+        if let Some(number) = self.names.get_mut(&dir).and_then(|names| names.remove(name)) {
+            self.names.entry(to_dir).or_default().insert(to_name.into(), number);
+            self.entries.get_mut(&number).unwrap().place = Some((to_dir, to_name.into()));
+            self.entries.get_mut(&to_dir).unwrap().kids += 1;
+            self.lose_kid(dir);
+        }
+        Ok(Answer::Done)
+    }
+
+    /// Returns whether a file is that of a directory's number, or of one above it.
+    fn is_above(&self, file: u32, dir: u64) -> bool {
+        let mut number = dir;
+        loop {
+            let entry = &self.entries[&number];
+            if entry.file == file {
+                return true;
+            }
+            let Some((above, _)) = entry.place else {
+                return false;
+            };
+            number = above;
+        }
+    }
+
+    /// Says why a directory, or another file, may not take the name of a file.
+    fn may_replace(&self, is_dir: bool, other: u32) -> Result<(), i32> {
+        let other_is_dir = self.files[other as usize].kind == Kind::Dir;
+        match (is_dir, other_is_dir) {
+            (false, true) => Err(EISDIR),
+            (true, false) => Err(ENOTDIR),
+            (true, true) if self.links.get(&other).is_some_and(|names| !names.is_empty()) => Err(ENOTEMPTY),
+            _ => Ok(()),
+        }
     }
 
     /// Takes a number back. One with count 0 and no kids leaves, and then each directory that has become one.

@@ -124,6 +124,14 @@ fn make_and_drop(alloc: Global, server: &mut Server, texts: &[Text; 3]) -> u64 {
     u64::from(opened && done && silent)
 }
 
+#[inline(never)]
+fn move_and_back(alloc: Global, server: &mut Server, texts: &[Text; 2]) -> Option<u64> {
+    let [there, back] = texts;
+    let moved = server.serve(alloc, there.as_slice()) == 16;
+    let returned = server.serve(alloc, back.as_slice()) == 16;
+    if moved && returned { Some(1) } else { None }
+}
+
 // ---- the runs
 
 /// Forgets the last file of each directory, so that it has no number.
@@ -168,7 +176,8 @@ fn mixed_of(alloc: Global, turn: u64, node: Number) -> Result<Text, NoMemory> {
     }
 }
 
-/// Looks up random files and asks for attributes, in turn. Returns the sum of the lengths of the replies.
+/// Looks up a random file in each even turn, and asks for the attributes of one in each odd turn. Returns the sum of
+/// the replies' lengths.
 fn mix(alloc: Global, server: &mut Server, lines: u64) -> Result<u64, NoMemory> {
     let (mut random, mut length) = (Random::new(), 0u64);
     for turn in 0..ASKED {
@@ -232,6 +241,48 @@ fn make(alloc: Global, server: &mut Server, lines: u64) -> Result<u64, NoMemory>
     Ok(made)
 }
 
+/// Returns two messages: they move the file of number `node` to a new name in the directory `to_dir`, and back.
+fn moves_of(alloc: Global, node: Number, to_dir: Number, i: u64) -> Result<[Text; 2], NoMemory> {
+    let (dir, line) = (dir_of(node), node.0.wrapping_sub(2));
+    let name = name_of(alloc, line)?;
+    let to_name = made_name(alloc, i)?;
+    let there = text_of(
+        alloc,
+        Request::Rename {
+            dir,
+            name,
+            to_dir,
+            to_name,
+        },
+    )?;
+    let name = made_name(alloc, i)?;
+    let to_name = name_of(alloc, line)?;
+    let back = text_of(
+        alloc,
+        Request::Rename {
+            dir: to_dir,
+            name,
+            to_dir: dir,
+            to_name,
+        },
+    )?;
+    Ok([there, back])
+}
+
+/// Moves random files that have numbers to new names in random directories, and each back at once. Returns how many were
+/// moved.
+fn move_all(alloc: Global, server: &mut Server, lines: u64) -> Result<u64, NoMemory> {
+    let (mut random, mut moved) = (Random::new(), 0u64);
+    for i in 0..ASKED {
+        let node = held(&mut random, lines);
+        let to_dir = dir_of(random.number(lines));
+        let texts = moves_of(alloc, node, to_dir, i)?;
+        moved = moved.wrapping_add(move_and_back(alloc, server, &texts).unwrap_or(0));
+        drop(texts);
+    }
+    Ok(moved)
+}
+
 /// Sends all messages to `server`, and returns what was measured.
 fn send_all(alloc: Global, server: &mut Server, lines: u64) -> Result<Told, NoMemory> {
     look_all_up(alloc, &mut server.hosted, lines)?;
@@ -241,9 +292,10 @@ fn send_all(alloc: Global, server: &mut Server, lines: u64) -> Result<Told, NoMe
     let mixed = mix(alloc, server, lines)?;
     let found = find(alloc, server, lines)?;
     let made = make(alloc, server, lines)?;
+    let moved = move_all(alloc, server, lines)?;
     Ok(Told::of(
-        &["looked-up", "shown", "mixed", "found", "made"],
-        &[looked_up, shown, mixed, found, made],
+        &["looked-up", "shown", "mixed", "found", "made", "moved"],
+        &[looked_up, shown, mixed, found, made, moved],
     ))
 }
 

@@ -13,7 +13,7 @@ fn number_of(i: u32) -> Number {
     Number(u64::from(i).wrapping_add(2))
 }
 
-/// Returns request `i`. Its kind is one of four in turn, of which two carry a name.
+/// Returns request `i`. Four kinds follow one another again and again; two of them carry a name.
 fn request_of(alloc: Global, i: u32) -> Result<Request, NoMemory> {
     let dir = Number::ROOT;
     let node = number_of(i);
@@ -90,7 +90,7 @@ fn receipts_of(
     Ok(Receipts::of(alloc, list))
 }
 
-/// Returns the receipts of all workers, to whom the records go in turn.
+/// Returns the receipts of all workers: record `i` belongs to worker `i` modulo `workers`.
 fn list_receipts(alloc: Global, workers: u32, records: u32) -> Result<Vec<Receipts>, NoMemory> {
     let mut list = Vec::new(alloc);
     for worker in 0..workers {

@@ -7,7 +7,7 @@ use eden_base::NoMemory;
 use fuse_wire::{Ask, Items, WireFault, read_items, read_request};
 use std::alloc::{AllocError, Global};
 
-/// How many messages of one form are read in turn, so that no two reads in a row are of the same bytes.
+/// How many different messages of one form are read, one after another, so that a read doesn't find its bytes again.
 const MESSAGES: u32 = 64;
 
 const FORMS: [&str; 11] = [
