@@ -1,5 +1,5 @@
 -- What a daemon printed, round after round and at its end.
-use Rattle.std.proofs.Common.{◌≡◌, ◌⊎◌, ℕ, Bool, true, false, List, [], ◌∷◌, ◌++◌, Option, Some, None, Result, Ok, Err, inl, inr, sym, ap, subst, ◌∙◌}
+use Rattle.std.proofs.Common.{◌≡◌, ◌⊎◌, ℕ, Bool, true, false, List, [], ◌∷◌, ◌++◌, Option, Some, None, Result, Ok, Err, inl, inr, refl, sym, ap, subst, ◌∙◌}
 use Rattle.std.specs.Prelude.{not, ◌==◌, map}
 use Rattle.std.specs.Io.KnownBytes.{Appends}
 use Rattle.std.specs.List.{concat}
@@ -87,3 +87,10 @@ runs-told until_closed (Exits Ended) told old mid new heeds until (is, line) = w
 runs-told until_closed (Exits (Faulty which)) told old mid new heeds until (is, none) =
     subst (λ (t : Result (Unit {0}) DaemonFault). RunsDaemon until_closed t old new) (sym is) (of_fault which old new (until-same old mid new (Exits (Faulty which)) until none))
 runs-told until_closed Closed told old mid new heeds until (is, line) = well until_closed told Closed old mid new is until (λ error bad. cc) (inr (inr (heeds, line)))
+
+-- ---- what ended the daemon
+
+-- the end of standard input is heeded where it ends the daemon only as its orders say
+pub heeded : (until_closed : Bool) (ending : Ending) → (ending ≡ Closed → until_closed ≡ true) → IsHeeded until_closed ending
+heeded until_closed Closed closes = closes refl
+heeded until_closed (Exits exit) closes = tt
