@@ -1,8 +1,10 @@
--- What the cells of a tier have for each key once they are spread over twice as many.
+-- What the buckets of a tier have for each key once they are spread over twice as many.
 use Rattle.std.proofs.Common.{◌≡◌, ℕ, ◌+◌, ◌*◌, ◌/◌, ◌%◌, ◌^◌, ◌<◌, ◌==◌, ◌&&◌, Bool, true, false, List, length, get_or, Option, Some, None, if◌then◌else◌, refl, sym, ap, ◌∙◌, inl, inr, ◌⊎◌, arith}
 use Rattle.std.proofs.Math.Nat.{div-add-mod, mul-add-mod_self_left}
 use Rattle.std.proofs.lemmas.Bool.Decides.{nat_tests}
-use Rattle.key_map.specs.Cells.{bits, home, in_cell, empty_cell, kept, kept_at, spread}
+use Rattle.std.specs.Option.{option_or}
+use Rattle.key_map.specs.Cells.{bits, home, in_cell, in_bucket, empty_cell, empty_bucket, kept, kept_at, bucket_at, spread}
+use Rattle.key_map.specs.declared.bucket.Bucket.{Bucket}
 use Rattle.key_map.specs.declared.cells.Cell.{Cell}
 
 -- two numbers are the same or not
@@ -44,11 +46,16 @@ moved shift len place k cell here = by_key (same-or cell.key k) where
     in_ true = refl
     in_ false = in_empty k ∙ sym (in_other k cell other)
 
--- twice as many cells have for each key what the cells had
-pub doubled_same : (cells wide : List Cell) (shift k : ℕ) → home shift (length cells * 2) k < length cells * 2 → length wide ≡ length cells * 2 →
-    ((i : ℕ) → i < length cells * 2 → get_or wide i empty_cell ≡ spread cells shift (length cells * 2) i) → kept wide shift k ≡ kept cells shift k
-doubled_same cells wide shift k less long are =
-    let m : ℕ = length cells in
+-- so does a bucket
+moved_bucket : (shift len place k : ℕ) (bucket : Bucket) → home shift len k ≡ place → in_bucket k (bucket_at shift len place bucket) ≡ in_bucket k bucket
+moved_bucket shift len place k bucket here =
+    rw (moved shift len place k bucket.first here, moved shift len place k bucket.second here, moved shift len place k bucket.third here, moved shift len place k bucket.fourth here) refl
+
+-- twice as many buckets have for each key what the buckets had
+pub doubled_same : (buckets wide : List Bucket) (shift k : ℕ) → home shift (length buckets * 2) k < length buckets * 2 → length wide ≡ length buckets * 2 →
+    ((i : ℕ) → i < length buckets * 2 → get_or wide i empty_bucket ≡ spread buckets shift (length buckets * 2) i) → kept wide shift k ≡ kept buckets shift k
+doubled_same buckets wide shift k less long are =
+    let m : ℕ = length buckets in
     let place : ℕ = home shift (m * 2) k in
-    let at = ap (λ (n : ℕ). get_or wide (home shift n k) empty_cell) long ∙ are place less in
-    ap (in_cell k) at ∙ moved shift (m * 2) place k (get_or cells (place % m) empty_cell) refl ∙ ap (λ (i : ℕ). in_cell k (get_or cells i empty_cell)) (mod-double (bits shift k) m)
+    let at = ap (λ (n : ℕ). get_or wide (home shift n k) empty_bucket) long ∙ are place less in
+    ap (in_bucket k) at ∙ moved_bucket shift (m * 2) place k (get_or buckets (place % m) empty_bucket) refl ∙ ap (λ (i : ℕ). in_bucket k (get_or buckets i empty_bucket)) (mod-double (bits shift k) m)

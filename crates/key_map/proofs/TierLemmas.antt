@@ -5,7 +5,7 @@ use Rattle.std.proofs.lemmas.Bool.Decides.{nat_tests}
 use Rattle.key_map.proofs.CellLemmas.{same-or}
 
 -- of two options of which one is taken, neither is there
-none_above : (a b : Option ℕ) → option_or a b ≡ None → a ≡ None
+pub none_above : (a b : Option ℕ) → option_or a b ≡ None → a ≡ None
 none_above None b none = refl
 none_above (Some n) b none = none
 

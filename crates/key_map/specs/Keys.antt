@@ -18,9 +18,7 @@ key_of key (byte ∷ bytes) = key_of (key_with key byte) bytes
 -- the number at a key, in the first tier that has one, else in the tree below the tiers
 unfoldable pub at_key : KeyMap → ℕ → Option ℕ
 at_key map key =
-    option_or (kept map.tiers.cells.items map.tiers.shift key)
-    (option_or (kept map.tiers.rest.cells.items map.tiers.rest.shift key)
-    (option_or (kept map.tiers.rest.rest.cells.items map.tiers.rest.rest.shift key)
-    (option_or (kept map.tiers.rest.rest.rest.cells.items map.tiers.rest.rest.rest.shift key)
-    (option_or (kept map.tiers.rest.rest.rest.rest.cells.items map.tiers.rest.rest.rest.rest.shift key)
-    (get nat_cmp map.tiers.rest.rest.rest.rest.rest.numbers key)))))
+    option_or (kept map.tiers.buckets.items map.tiers.shift key)
+    (option_or (kept map.tiers.rest.buckets.items map.tiers.rest.shift key)
+    (option_or (kept map.tiers.rest.rest.buckets.items map.tiers.rest.rest.shift key)
+    (get nat_cmp map.tiers.rest.rest.rest.numbers key)))

@@ -7,27 +7,28 @@ use crate::tier::Tier;
 use crate::tree::Tree;
 use std::alloc::{AllocError, Global};
 
-/// Numbers by keys. A key's number stands in the first tier in which the key's cell was empty, and in a tree if none
-/// was. At 64,000 keys of names some 200 stand in the tree, and a search looks at 1.7 cells. However keys are chosen, it
-/// looks at five cells and goes one way down the tree.
+/// How many cells a bucket has.
+const CELLS: usize = 4;
+
+/// Numbers by keys. A key's number stands in the first tier in which the key's bucket had an empty cell, and in a tree
+/// if none had. Of 64,000 keys of names none stands in the tree, and a search for one looks at 1.2 buckets. However
+/// keys are chosen, a search looks at three buckets and goes one way down the tree.
 #[derive(Drop)]
 pub struct KeyMap {
-    tiers: Tier<Tier<Tier<Tier<Tier<Tree>>>>>,
+    tiers: Tier<Tier<Tier<Tree>>>,
     /// How many numbers there are.
     held: usize,
 }
 
 impl KeyMap {
-    /// Makes a map without numbers. Each tier has half as many cells as the tier above it.
+    /// Makes a map without numbers. Each tier has half as many buckets as the tier above it.
     #[tactic(auto, unfolding(crate::specs::Keys::at_key))]
     pub fn new(alloc: Global) -> KeyMap
         ensures empty { (key : ℕ) → at_key result key ≡ None }
     {
-        let fifth = Tier::over(alloc, 24, 1, Tree::new(alloc));
-        let fourth = Tier::over(alloc, 40, 2, fifth);
-        let third = Tier::over(alloc, 0, 4, fourth);
-        let second = Tier::over(alloc, 16, 8, third);
-        let tiers = Tier::over(alloc, 32, 16, second);
+        let third = Tier::over(alloc, 0, 1, Tree::new(alloc));
+        let second = Tier::over(alloc, 16, 2, third);
+        let tiers = Tier::over(alloc, 32, 4, second);
         KeyMap { tiers, held: 0 }
     }
 
@@ -46,11 +47,20 @@ impl KeyMap {
         ensures ok { OnOk result ((k : ℕ) → at_key self.new k ≡ (if k == key then Some number else at_key self.old k)) }
         ensures err { OnErr result ((k : ℕ) → at_key self.new k ≡ at_key self.old k) }
     {
-        if self.held >= self.tiers.len() {
-            self.tiers.widen(alloc)?;
-        }
+        self.make_room(alloc)?;
         self.tiers.insert(key, number)?;
         self.held = self.held.saturating_add(1);
+        Ok(())
+    }
+
+    /// Makes twice as many buckets, if there are as many numbers as cells in the first tier.
+    #[tactic(auto, unfolding(crate::specs::Keys::at_key))]
+    fn make_room(&mut self, alloc: Global) -> Result<(), AllocError>
+        ensures same { (k : ℕ) → at_key self.new k ≡ at_key self.old k }
+    {
+        if self.held / CELLS >= self.tiers.len() {
+            self.tiers.widen(alloc)?;
+        }
         Ok(())
     }
 

@@ -1,6 +1,8 @@
-//! Numbers by keys of 64 bits, most of them found at the first or second look.
+//! Numbers by keys of 64 bits, most of them found at the first look.
 #![tactic(auto)]
 
+mod bucket;
+mod buckets;
 mod cells;
 mod key;
 mod key_map;

@@ -22,7 +22,7 @@ pub(crate) trait Numbers {
     fn remove(&mut self, key: u64)
         ensures removed { (k : ℕ) → at self.new k ≡ (if k == key then None else at self.old k) };
 
-    /// Makes twice as many cells.
+    /// Makes twice as many buckets.
     fn widen(&mut self, alloc: Global) -> Result<(), AllocError>
         ensures same { (k : ℕ) → at self.new k ≡ at self.old k };
 }

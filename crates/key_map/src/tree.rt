@@ -1,4 +1,4 @@
-//! The numbers whose cells were taken in each tier.
+//! The numbers whose buckets were full in each tier.
 ghost use Rattle.std.specs.Prelude.{◌≡◌, ℕ, ◌==◌, None, Some, OnOk, OnErr, if◌then◌else◌};
 ghost use Rattle.std.specs.Ordering.{nat_cmp};
 ghost use Rattle.std.specs.BTreeMap.{get};

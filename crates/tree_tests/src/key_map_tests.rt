@@ -1,4 +1,4 @@
-//! Numbers by keys: many keys, keys that share each of their cells, and keys that come and go.
+//! Numbers by keys: many keys, keys that share each of their buckets, and keys that come and go.
 use key_map::{KeyMap, key_of};
 use std::alloc::Global;
 
@@ -10,7 +10,7 @@ struct Keys {
 }
 
 /// Random keys up to a manifest's lines, keys in a row, and keys that differ in their highest bits alone, so that each
-/// of them has the same cells.
+/// of them has the same buckets.
 static KEYS: [Keys; 4] = [
     Keys {
         count: 65_535,
