@@ -3,6 +3,7 @@ pub(crate) mod deeds;
 pub(crate) mod events;
 mod facts;
 mod lines;
+mod moves_tests;
 mod orders;
 mod parts_tests;
 mod refused_row_tests;
