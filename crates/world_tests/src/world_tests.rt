@@ -4,6 +4,7 @@ pub(crate) mod events;
 mod facts;
 mod lines;
 mod moves_tests;
+mod order_tests;
 mod orders;
 mod parts_tests;
 mod refused_row_tests;
