@@ -10,6 +10,7 @@ mod parts_tests;
 mod refused_row_tests;
 pub(crate) mod refused_tests;
 pub(crate) mod runs;
+mod sequence_tests;
 mod stop_tests;
 mod takeover_tests;
 
