@@ -3,11 +3,14 @@ pub(crate) mod deeds;
 pub(crate) mod events;
 mod facts;
 mod lines;
+mod moves_tests;
+mod order_tests;
 mod orders;
 mod parts_tests;
 mod refused_row_tests;
 pub(crate) mod refused_tests;
 pub(crate) mod runs;
+mod sequence_tests;
 mod stop_tests;
 mod takeover_tests;
 

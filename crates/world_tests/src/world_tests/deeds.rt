@@ -10,7 +10,14 @@ pub enum Wish {
     Create(u64, &'static [u8]),
     /// CREATE of a name of 255 bytes in the root, which ends with this number in digits.
     CreateLong(u64),
+    Mkdir(u64, &'static [u8]),
     Unlink(u64, &'static [u8]),
+    /// RENAME of a name in a directory to a name in a directory.
+    Rename(u64, &'static [u8], u64, &'static [u8]),
+    /// LOOKUP of the name of 255 bytes in the root that ends with this number in digits.
+    LookUpLong(u64),
+    /// RENAME between two such names, the old one first.
+    RenameLong(u64, u64),
     Getattr(u64),
     Open(u64),
     Forget(u64, u64),

@@ -58,27 +58,63 @@ fn batch(alloc: Global) -> Option<Batch> {
     }
 }
 
+fn look_up(dir: u64, name: Name) -> Request {
+    Request::Lookup {
+        dir: Number(dir),
+        name,
+    }
+}
+
+fn create(dir: u64, name: Name) -> Request {
+    Request::Create {
+        dir: Number(dir),
+        name,
+        perm: Perm { bits: 0o644 },
+    }
+}
+
+/// Makes a RENAME of the directory and name of `place` to those of `target`.
+fn rename(place: (u64, Name), target: (u64, Name)) -> Request {
+    Request::Rename {
+        dir: Number(place.0),
+        name: place.1,
+        to_dir: Number(target.0),
+        to_name: target.1,
+    }
+}
+
+/// Makes the RENAME of `wish`, or returns none if `wish` is another one, or memory was refused.
+fn rename_of(alloc: Global, wish: Wish) -> Option<Request> {
+    match wish {
+        Wish::Rename(dir, bytes, to_dir, to_bytes) => {
+            let place = (dir, name(alloc, bytes)?);
+            Some(rename(place, (to_dir, name(alloc, to_bytes)?)))
+        }
+        Wish::RenameLong(number, to_number) => {
+            let place = (1, long_name(alloc, number)?);
+            Some(rename(place, (1, long_name(alloc, to_number)?)))
+        }
+        _other => None,
+    }
+}
+
 /// Makes the request of `wish`, or returns none if memory was refused.
 fn request(alloc: Global, wish: Wish) -> Option<Request> {
     match wish {
-        Wish::LookUp(dir, bytes) => Some(Request::Lookup {
+        Wish::LookUp(dir, bytes) => Some(look_up(dir, name(alloc, bytes)?)),
+        Wish::LookUpLong(number) => Some(look_up(1, long_name(alloc, number)?)),
+        Wish::Create(dir, bytes) => Some(create(dir, name(alloc, bytes)?)),
+        Wish::CreateLong(number) => Some(create(1, long_name(alloc, number)?)),
+        Wish::Mkdir(dir, bytes) => Some(Request::Mkdir {
             dir: Number(dir),
             name: name(alloc, bytes)?,
-        }),
-        Wish::Create(dir, bytes) => Some(Request::Create {
-            dir: Number(dir),
-            name: name(alloc, bytes)?,
-            perm: Perm { bits: 0o644 },
-        }),
-        Wish::CreateLong(number) => Some(Request::Create {
-            dir: Number::ROOT,
-            name: long_name(alloc, number)?,
-            perm: Perm { bits: 0o644 },
+            perm: Perm::DIRECTORY,
         }),
         Wish::Unlink(dir, bytes) => Some(Request::Unlink {
             dir: Number(dir),
             name: name(alloc, bytes)?,
         }),
+        Wish::Rename(..) | Wish::RenameLong(..) => rename_of(alloc, wish),
         Wish::Getattr(node) => Some(Request::Getattr { node: Number(node) }),
         Wish::Open(node) => Some(Request::Other {
             opcode: 14,

@@ -25,8 +25,9 @@ fn attr(look: Look) -> Attr {
     }
 }
 
-fn reply(unique: u64, said: Said) -> Reply {
-    let answer = match said {
+/// Returns what is said as a daemon answers it.
+pub(crate) fn answer(said: Said) -> Answer {
+    match said {
         Said::Entry(number, look) => Answer::Entry {
             number: Number(number),
             attr: attr(look),
@@ -41,7 +42,11 @@ fn reply(unique: u64, said: Said) -> Reply {
         },
         Said::Done => Answer::Done,
         Said::Error(errno) => Answer::Error(errno),
-    };
+    }
+}
+
+fn reply(unique: u64, said: Said) -> Reply {
+    let answer = answer(said);
     Reply { unique, answer }
 }
 

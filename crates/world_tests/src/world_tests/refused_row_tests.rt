@@ -37,6 +37,11 @@ static ERRORS: Row = (
     b"daemon 1\nmounted 1\nanswer 1 error ENOTEMPTY\nanswer 2 error EISDIR\nanswer 3 error ENOTDIR\nanswer 4 error ENOENT\nanswer 5 entry 2 dir 0700 0 2\nanswer 6 error EEXIST\nanswer 7 done\nanswer 8 error ENOENT\nanswer 9 attr 2 dir 0700 0 0\nanswer 10 error ENOSYS\nrefused NotHeld\n",
 );
 
+static MOVES: Row = (
+    b"start\nmount 1\ndo lookup 1 src\ndo lookup 2 a\ndo lookup 1 README\ndo rename 2 1 a/README\ndo getattr 3\ndo getattr 4\ndo rename 1 1 src/s\ndo lookup 1 s\ndo rename 1 2 README/a\ndo rename 1 2 s/x\nshow",
+    b"daemon 1\nmounted 1\nanswer 1 entry 2 dir 0755 0 2\nanswer 2 entry 3 file 0644 12 1\nanswer 3 entry 4 file 0644 7 1\nanswer 4 done\nanswer 5 attr 3 file 0644 12 1\nanswer 6 attr 4 file 0644 7 0\nanswer 7 done\nanswer 8 entry 2 dir 0755 0 2\nanswer 9 done\nanswer 10 error EINVAL\nseat 1 1 next 5\nnumber 2 held 2 up 0 down 0 count 2 at 1 s\nnumber 3 held 1 up 0 down 0 count 1 at 2 a\nnumber 4 held 1 up 0 down 0 count 1 unlinked 5\n",
+);
+
 /// The lines of a takeover in parts, after the lookups, and what they print before the numbers that `show` prints.
 static PARTS: Row = (
     b"start 1 2\nhear 1 2\nhear 2 3\ndrained 1\nhear 2 4\nhear 1 5\nhear 2 7\nhear 2 6\nhear 2 6\nhear 2 7\nclaim 2\nshow",
@@ -241,6 +246,11 @@ fn takes_over(rt: HostRuntime) {
 #[test]
 fn answers_each_error(rt: HostRuntime) {
     assert!(rt; prints_row(rt.alloc(), &ERRORS));
+}
+
+#[test]
+fn moves(rt: HostRuntime) {
+    assert!(rt; prints_row(rt.alloc(), &MOVES));
 }
 
 /// Writes a script that looks up each of the 200 files, and then makes a takeover in parts.

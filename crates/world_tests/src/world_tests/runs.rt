@@ -125,7 +125,7 @@ fn is_stepped(world: &mut World, event: &Event, told: Told) -> bool {
 }
 
 /// Lets the event of `deed` happen, and returns whether its outcome is `told`.
-fn goes_so(alloc: Global, world: &mut World, deed: Deed, told: Told) -> bool {
+pub(crate) fn goes_so(alloc: Global, world: &mut World, deed: Deed, told: Told) -> bool {
     match event(alloc, deed) {
         Some(event) => {
             let went_so = is_stepped(world, &event, told);
