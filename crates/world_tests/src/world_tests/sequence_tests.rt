@@ -3,7 +3,7 @@ mod plain;
 
 use self::plain::{Asked, Listed, Made, Plain, Spot};
 use super::events::{item, start};
-use super::refused_tests::last_told;
+use super::refused_tests::{last_told, reply_told};
 use super::runs::world_of;
 use broker_core::Broker;
 use eden_base::{DaemonId, Name, Number, Perm, Place};
@@ -112,10 +112,18 @@ fn request(alloc: Global, plain: &Plain, asked: Asked) -> Option<Request> {
 
 /// Returns whether `told` is what `made` is.
 fn is_told(told: Option<Happened>, made: Made) -> bool {
-    match (told, made) {
-        (Some(Happened::Answered(reply)), Made::Answered(answer)) => reply.answer == answer,
-        (Some(Happened::Forgot { forgot, .. }), Made::Forgot(expected)) => forgot == expected,
-        _other => false,
+    let Some(told) = told else {
+        return false;
+    };
+    match made {
+        Made::Answered(answer) => match reply_told(&told) {
+            Some(reply) => reply.answer == answer,
+            None => false,
+        },
+        Made::Forgot(expected) => match told {
+            Happened::Forgot { forgot, .. } => forgot == expected,
+            _other => false,
+        },
     }
 }
 

@@ -6,5 +6,5 @@ use Rattle.daemon_process.proofs.process.serve_mount.Goals as goal
 pub returns-in-Err : goal.returns-in-Err
 returns-in-Err g c = record {
   prints = inl (serving-none _);
-  heeds = heeded c.args.orders.now.until_closed _ c.ending_before.ensures.closes;
+  heeds = heeded c.args.orders.now.until_closed _ c.ending_before-ending.ensures.closes;
 }
