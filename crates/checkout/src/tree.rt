@@ -10,7 +10,7 @@ ghost use Rattle.checkout.specs.Changed.{changed, IsChangeRefusal};
 ghost use Rattle.checkout.specs.Changes.{AreChanges};
 ghost use Rattle.checkout.specs.declared.changes.Changes.{Changes as ChangesState};
 ghost use Rattle.checkout.specs.Create.{IsCreateRefusal};
-ghost use Rattle.manifest.specs.Tree.{Tree as TreeState, IsTree, tree_of, child_of, kind_of, file_of};
+ghost use Rattle.manifest.specs.Tree.{Tree as TreeState, IsTree, tree_of, child_of, kind_of, file_of, nlink_of_kind};
 ghost use Rattle.checkout.specs.ChangedTree.{attr_of, perm_made, next_file, nlink_of, has_links, is_empty_dir, is_full_dir, is_linked, is_unlinked, created, removed};
 ghost use Rattle.checkout.specs.RenamedTree.{can_replace, renamed, IsAtOrAbove};
 
@@ -289,6 +289,8 @@ impl Tree {
         requires free { child_of self.old dir name.now ≡ None }
         ensures created { OnOk result (self.new ≡ created self.old dir name.now kind perm) }
         ensures file { IfOk result (λ file. file ≡ next_file self.old) }
+        ensures attr { IfOk result (λ file. attr_of self.new file
+            ≡ Some (record { kind = kind; perm = perm; size = 0; nlink = nlink_of_kind kind })) }
         ensures refused { IfErr result (IsCreateRefusal self.old) }
         ensures unchanged { OnErr result (self.new ≡ self.old) }
         ensures is_tree { IsTree self.new }

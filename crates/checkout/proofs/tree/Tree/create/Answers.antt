@@ -1,7 +1,10 @@
 -- The file is made, or nothing is changed.
-use Rattle.std.proofs.Common.{refl}
+use Rattle.std.proofs.Common.{refl, ap, ◌∙◌}
+use Rattle.eden_base.specs.declared.number.FileId.{FileId}
+use Rattle.checkout.specs.ChangedTree.{attr_of, created, next_file}
 use Rattle.checkout.specs.UnlinkedFiles.{is_gone}
 use Rattle.manifest.specs.Tally.{count_of}
+use Rattle.checkout.proofs.AttrLaws.{attr_of-created}
 use Rattle.checkout.proofs.OverlaySteps.{create-step, next_is_new, none_there, undone}
 use Rattle.checkout.proofs.tree.Tree.create.Goals as goal
 
@@ -48,3 +51,11 @@ pub returns-clause-is_tree : goal.returns-clause-is_tree
 returns-clause-is_tree c =
     let i = c.self.inside in
     (create-step i.manifest i.made i.added (is_gone i.gone) (count_of i.lost) i.next_file c.self.invariant.0 _ c.self.view_is c.args.dir c.args.name.now c.requires.free c.args.kind c.args.perm _ _ _ c.requires.dir c.requires.reached c.bytes.ensures.is_name c.if-self-ge-END_OF_FILES.false c.bytes.ensures.bytes c.in-Ok-insert.ensures.ok c.in-Ok.ensures.ok).0.is_tree
+
+pub returns-clause-attr : goal.returns-clause-attr
+returns-clause-attr c =
+    let file : FileId = record { 0 = c.self.inside.next_file } in
+    let old = c.args.self.now in
+    ap (λ tree. attr_of tree file) (returns-clause-created c)
+    ∙ ap (attr_of (created old c.args.dir c.args.name.now c.args.kind c.args.perm)) (ap next_file c.self.view_is)
+    ∙ attr_of-created old c.args.dir c.args.name.now c.args.kind c.args.perm
