@@ -213,7 +213,7 @@ impl Tree {
     pub fn child(&self, dir: FileId, name: &Name) -> Option<FileId>
         ensures child { result ≡ child_of self.now dir name.now }
     {
-        if let Some(file) = self.added.links().get(dir, name.bytes()) {
+        if let Some(file) = self.added.links().get(dir, name) {
             return Some(file);
         }
         let file = self.manifest.child(dir, name.bytes())?;
@@ -299,12 +299,12 @@ impl Tree {
             return Err(CreateFault::NoFileId);
         }
         let file = FileId(self.next_file);
-        let Ok(()) = self.added.insert(self.alloc, dir, name.bytes(), file) else {
+        let Ok(()) = self.added.insert(self.alloc, dir, name, file) else {
             return Err(CreateFault::NoMemory);
         };
         let made = MadeFile { kind, perm };
         let Ok(()) = self.made.insert(file, made) else {
-            self.added.remove(dir, name.bytes());
+            self.added.remove(dir, name);
             return Err(CreateFault::NoMemory);
         };
         self.next_file += 1;
@@ -320,7 +320,7 @@ impl Tree {
         ensures removed { self.new ≡ removed self.old dir name.now }
         ensures is_tree { IsTree self.new }
     {
-        if let Some(file) = self.added.remove(dir, name.bytes()) {
+        if let Some(file) = self.added.remove(dir, name) {
             return file;
         }
         let file = self.manifest.child(dir, name.bytes()).unwrap();
@@ -353,7 +353,8 @@ impl Tree {
     {
         let file = self.child(dir, name).unwrap();
         let replaced = self.child(to_dir, to_name);
-        self.added.rename(self.alloc, dir, name.bytes(), to_dir, to_name.bytes(), file)?;
+        self.added
+            .rename(self.alloc, dir, name, to_dir, to_name, file)?;
         let (gone, lost) = (&mut self.gone, &mut self.lost);
         overlay::lose(&self.manifest, gone, lost, dir, name.bytes());
         overlay::lose(&self.manifest, gone, lost, to_dir, to_name.bytes());
