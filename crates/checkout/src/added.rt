@@ -1,9 +1,10 @@
 //! The links that were added since the manifest, by name and by file.
 ghost use Rattle.std.specs.Prelude.{◌≡◌, ◌≢◌, List, ℕ, None, Some, false, IfSome, MatchOption, OnErr, OnOk};
 ghost use Rattle.std.specs.FinMap.{empty, get, insert, remove};
+ghost use Rattle.eden_base.specs.Name.{IsNameText};
 ghost use Rattle.checkout.specs.Added.{gives};
 
-use eden_base::{FileId, NoMemory};
+use eden_base::{FileId, Name, NoMemory};
 use manifest::Links;
 use std::alloc::Global;
 use std::collections::HashMap;
@@ -70,12 +71,13 @@ impl Added {
         &mut self,
         alloc: Global,
         dir: FileId,
-        name: &[u8],
+        name: &Name,
         file: FileId,
     ) -> Result<(), NoMemory>
         requires free { get self.old (dir.0, name.now) ≡ None }
         requires new { gives self.old file ≡ false }
         ensures ok { OnOk result (self.new ≡ insert self.old (dir.0, name.now) file) }
+        ensures name { OnOk result (IsNameText name.now) }
         ensures err { OnErr result (self.new ≡ self.old) }
     {
         self.dirs.insert(file.0, dir)?;
@@ -88,7 +90,7 @@ impl Added {
 
     /// Removes the added link under `name` in `dir`, and returns its file, or none if there is no such link. Takes no
     /// memory.
-    pub fn remove(&mut self, dir: FileId, name: &[u8]) -> Option<FileId>
+    pub fn remove(&mut self, dir: FileId, name: &Name) -> Option<FileId>
         ensures value { result ≡ get self.old (dir.0, name.now) }
         ensures links { self.new ≡ remove self.old (dir.0, name.now) }
     {
@@ -103,9 +105,9 @@ impl Added {
         &mut self,
         alloc: Global,
         dir: FileId,
-        name: &[u8],
+        name: &Name,
         to_dir: FileId,
-        to_name: &[u8],
+        to_name: &Name,
         file: FileId,
     ) -> Result<(), NoMemory>
         requires there { IfSome (get self.old (dir.0, name.now)) (λ other. other ≡ file) }

@@ -10,7 +10,7 @@ ghost use Rattle.checkout.specs.Changed.{changed, IsChangeRefusal};
 ghost use Rattle.checkout.specs.Changes.{AreChanges};
 ghost use Rattle.checkout.specs.declared.changes.Changes.{Changes as ChangesState};
 ghost use Rattle.checkout.specs.Create.{IsCreateRefusal};
-ghost use Rattle.manifest.specs.Tree.{Tree as TreeState, IsTree, tree_of, child_of, kind_of, file_of};
+ghost use Rattle.manifest.specs.Tree.{Tree as TreeState, IsTree, tree_of, child_of, kind_of, file_of, nlink_of_kind};
 ghost use Rattle.checkout.specs.ChangedTree.{attr_of, perm_made, next_file, nlink_of, has_links, is_empty_dir, is_full_dir, is_linked, is_unlinked, created, removed};
 ghost use Rattle.checkout.specs.RenamedTree.{can_replace, renamed, IsAtOrAbove};
 
@@ -213,7 +213,7 @@ impl Tree {
     pub fn child(&self, dir: FileId, name: &Name) -> Option<FileId>
         ensures child { result ≡ child_of self.now dir name.now }
     {
-        if let Some(file) = self.added.links().get(dir, name.bytes()) {
+        if let Some(file) = self.added.links().get(dir, name) {
             return Some(file);
         }
         let file = self.manifest.child(dir, name.bytes())?;
@@ -289,6 +289,8 @@ impl Tree {
         requires free { child_of self.old dir name.now ≡ None }
         ensures created { OnOk result (self.new ≡ created self.old dir name.now kind perm) }
         ensures file { IfOk result (λ file. file ≡ next_file self.old) }
+        ensures attr { IfOk result (λ file. attr_of self.new file
+            ≡ Some (record { kind = kind; perm = perm; size = 0; nlink = nlink_of_kind kind })) }
         ensures refused { IfErr result (IsCreateRefusal self.old) }
         ensures unchanged { OnErr result (self.new ≡ self.old) }
         ensures is_tree { IsTree self.new }
@@ -297,12 +299,12 @@ impl Tree {
             return Err(CreateFault::NoFileId);
         }
         let file = FileId(self.next_file);
-        let Ok(()) = self.added.insert(self.alloc, dir, name.bytes(), file) else {
+        let Ok(()) = self.added.insert(self.alloc, dir, name, file) else {
             return Err(CreateFault::NoMemory);
         };
         let made = MadeFile { kind, perm };
         let Ok(()) = self.made.insert(file, made) else {
-            self.added.remove(dir, name.bytes());
+            self.added.remove(dir, name);
             return Err(CreateFault::NoMemory);
         };
         self.next_file += 1;
@@ -318,7 +320,7 @@ impl Tree {
         ensures removed { self.new ≡ removed self.old dir name.now }
         ensures is_tree { IsTree self.new }
     {
-        if let Some(file) = self.added.remove(dir, name.bytes()) {
+        if let Some(file) = self.added.remove(dir, name) {
             return file;
         }
         let file = self.manifest.child(dir, name.bytes()).unwrap();
@@ -351,7 +353,8 @@ impl Tree {
     {
         let file = self.child(dir, name).unwrap();
         let replaced = self.child(to_dir, to_name);
-        self.added.rename(self.alloc, dir, name.bytes(), to_dir, to_name.bytes(), file)?;
+        self.added
+            .rename(self.alloc, dir, name, to_dir, to_name, file)?;
         let (gone, lost) = (&mut self.gone, &mut self.lost);
         overlay::lose(&self.manifest, gone, lost, dir, name.bytes());
         overlay::lose(&self.manifest, gone, lost, to_dir, to_name.bytes());

@@ -67,7 +67,7 @@ impl UnlinkedFiles {
     {
         for file in &self.files {
             let line = &lines[*file as usize - 2];
-            if added.get(line.dir, line.name.bytes()).is_none() {
+            if added.get(line.dir, &line.name).is_none() {
                 links.push(LinkChange {
                     dir: line.dir,
                     name: line.name.copy(alloc)?,

@@ -1,25 +1,21 @@
 -- Lookups in the indexes, as lookups in the maps that they hold.
-use Rattle.std.proofs.Common.{◌≡◌, ◌==◌, nat_eq, length, arith, eq-eqb, ℕ, Bool, true, false, cond, subst, List, [], ◌∷◌, ◌++◌, Option, Some, None, refl, sym, ap, ◌∙◌}
-use Rattle.std.specs.Ordering.{nat_cmp, is_eq, eq_by_cmp, ordering_then, match_ordering}
+use Rattle.std.proofs.Common.{◌≡◌, ◌==◌, nat_eq, arith, eq-eqb, ℕ, Bool, true, false, cond, subst, List, [], ◌∷◌, ◌++◌, Option, Some, None, refl, sym, ap, ◌∙◌}
+use Rattle.std.specs.Ordering.{nat_cmp, is_eq, eq_by_cmp, ordering_then}
 use Rattle.std.specs.declared.cmp.Ordering.{Ordering}
 use Rattle.std.specs.declared.cmp.Ordering.TheVariants.{Less, Equal, Greater}
 use Rattle.std.specs.Cmp.{IsTotalOrder, nat_cmp_total, on_total, then_total, unsigned_tied, unsigned_ties}
 use Rattle.std.specs.Cmp.Lexicographic.{slice_cmp, nat_list_cmp_total}
-use Rattle.std.specs.FinMap.{FinMap, empty, get-empty, entries, get, insert, remove, from_entries, find, put, IsAntisymmetric, nat_cmp-IsAntisymmetric, slice_cmp-IsAntisymmetric, get-entries, get-from_entries, get-insert, get-remove, same_map}
-use Rattle.std.specs.FinMap.Entries.{find-put, by_order}
+use Rattle.std.specs.FinMap.{FinMap, entries, get, insert, remove, from_entries, find, IsAntisymmetric, nat_cmp-IsAntisymmetric, slice_cmp-IsAntisymmetric, get-entries, get-from_entries, get-insert, get-remove, same_map}
 use Rattle.std.specs.Map.{lookup, keys_of}
 use Rattle.std.specs.List.{AllByRecursion, IsDistinct}
 use Rattle.std.proofs.lemmas.Map.Keys.{IsDistinct-head, IsDistinct-tail}
-use Rattle.std.specs.BTreeMap.{insert_entry, is_at}
 use Rattle.std.specs.Option.{option_and_then, option_or}
-use Rattle.std.specs.declared.alloc.Global.{Global}
-use Rattle.std.specs.declared.vec.Vec.{Vec}
 use Rattle.eden_base.proofs.NumberTests.{true-eq}
 use Rattle.eden_base.specs.declared.number.FileId.{FileId}
 use Rattle.std.specs.List.{list_any}
 use Rattle.std.proofs.lemmas.Bool.Decides.{nat_tests}
-use Rattle.manifest.proofs.MapLemmas.{get-insert_same, any_key-entries, key_from_any}
-use Rattle.manifest.specs.Flat.{vec_cmp, by_bytes, in_directory, in_directories}
+use Rattle.manifest.proofs.MapLemmas.{any_key-entries, key_from_any}
+use Rattle.manifest.specs.Flat.{in_directory, in_directories}
 use Rattle.manifest.specs.Tree.{link_cmp}
 
 -- names, by their bytes
@@ -31,30 +27,6 @@ name_cmp-same = slice_cmp-IsAntisymmetric nat_cmp-IsAntisymmetric
 
 pub link_cmp_total : IsTotalOrder link_cmp
 link_cmp_total = then_total (on_total (λ (k : ℕ × List ℕ). k.0) nat_cmp_total) (on_total (λ (k : ℕ × List ℕ). k.1) nat_list_cmp_total)
-
--- a name of a directory is found among its entries by its bytes
-find-by_bytes : (es : List (Vec ℕ Global × FileId)) (name : List ℕ) → find name_cmp name (by_bytes es) ≡ lookup (is_at (λ (k : Vec ℕ Global). name_cmp name k.items)) es
-find-by_bytes [] name = refl
-find-by_bytes (e ∷ es) name = ap (cond (is_eq (name_cmp name e.0.items)) (Some e.1)) (find-by_bytes es name)
-
-pub get-by_bytes : (es : List (Vec ℕ Global × FileId)) (name : List ℕ) → get (from_entries {R = name_cmp} (by_bytes es)) name ≡ lookup (is_at (λ (k : Vec ℕ Global). name_cmp name k.items)) es
-get-by_bytes es name = get-from_entries nat_list_cmp_total (by_bytes es) name ∙ find-by_bytes es name
-
--- an insertion by bytes is an insertion
-by_bytes-insert_entry : (es : List (Vec ℕ Global × FileId)) (k : Vec ℕ Global) (file : FileId) → by_bytes (insert_entry vec_cmp es k file) ≡ put name_cmp k.items file (by_bytes es)
-by_bytes-insert_entry [] k file = refl
-by_bytes-insert_entry (e ∷ es) k file =
-    elim (name_cmp k.items e.0.items) as (λ o. by_bytes (match_ordering o ((k, file) ∷ e ∷ es) ((e.0, file) ∷ es) (e ∷ insert_entry vec_cmp es k file)) ≡ by_order o ((k.items, file) ∷ (e.0.items, e.1) ∷ by_bytes es) ((e.0.items, file) ∷ by_bytes es) ((e.0.items, e.1) ∷ put name_cmp k.items file (by_bytes es))) [
-      | Less ↦ refl
-      | Equal ↦ refl
-      | Greater ↦ ap (λ xs. (e.0.items, e.1) ∷ xs) (by_bytes-insert_entry es k file)
-    ]
-
-pub from_entries-by_bytes-insert : (es : List (Vec ℕ Global × FileId)) (k : Vec ℕ Global) (file : FileId) → from_entries {R = name_cmp} (by_bytes (insert_entry vec_cmp es k file)) ≡ insert (from_entries (by_bytes es)) k.items file
-from_entries-by_bytes-insert es k file =
-    let o = nat_list_cmp_total in
-    same_map o name_cmp-same _ _ (λ q. get-from_entries o _ q ∙ ap (find name_cmp q) (by_bytes-insert_entry es k file) ∙ find-put name_cmp o q k.items file (by_bytes es)
-    ∙ sym (get-insert o _ k.items file q ∙ ap (cond (eq_by_cmp name_cmp q k.items) (Some file)) (get-from_entries o (by_bytes es) q)))
 
 -- the files of one directory, among all links
 pub find-in_directory : (d dir : ℕ) (name : List ℕ) (es : List (List ℕ × FileId)) → find link_cmp (dir, name) (in_directory d es) ≡ cond (is_eq (nat_cmp dir d)) (find name_cmp name es) None
@@ -162,15 +134,6 @@ pub remove-in_directories : (m n : List (ℕ × FinMap name_cmp FileId)) (dir : 
 remove-in_directories m n dir name files apart_m apart_n before after =
     changed-in_directories m n dir name None files (remove files name) (remove (from_entries (in_directories m)) (dir, name)) apart_m apart_n before after
     (λ x. get-remove nat_list_cmp_total files name x) (λ q. get-remove link_cmp_total (from_entries (in_directories m)) (dir, name) q)
-
-pub empty_by_bytes : (es : List (Vec ℕ Global × FileId)) → (length es ≡ 0 → from_entries {R = name_cmp} (by_bytes es) ≡ empty) × (from_entries {R = name_cmp} (by_bytes es) ≡ empty → length es ≡ 0)
-empty_by_bytes [] = (λ _. refl, λ _. refl)
-empty_by_bytes (e ∷ es) = (
-  λ h. absurd (omega arith),
-  λ h. let found = get-insert_same nat_list_cmp_total (from_entries {R = name_cmp} (by_bytes es)) e.0.items e.1 in
-      let none = ap (λ (m : FinMap name_cmp FileId). get m e.0.items) h ∙ get-empty name_cmp e.0.items in
-      absurd (cc),
-)
 
 -- a link in a directory is among all links, and only it shows that there is one
 pub has_link : (m : FinMap link_cmp FileId) (dir : ℕ) (name : List ℕ) (file : FileId) → get m (dir, name) ≡ Some file → list_any (λ (link : (ℕ × List ℕ) × FileId). link.0.0 == dir) (entries m) ≡ true

@@ -11,8 +11,9 @@ pub mod ManifestIsTree
 pub mod ManifestTree
 pub mod MapLemmas
 pub mod MoreLines
-pub mod NameLemmas
 pub mod OpenedDirectories
+pub mod OrderedMaps
+pub mod OtherPlaces
 pub mod PartsLaws
 pub mod PathLaws
 pub mod PlaceLaws

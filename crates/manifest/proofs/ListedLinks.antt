@@ -1,14 +1,13 @@
 -- The names of all directories, in whatever order the directories are listed.
 use Rattle.std.proofs.Common.{◌≡◌, ℕ, nat_eq, T, cond, List, [], ◌∷◌, ◌++◌, Some, None, refl, sym, ap, subst, ◌∙◌}
 use Rattle.std.proofs.Math.Facts.{and_yes}
-use Rattle.std.proofs.lemmas.List.Elements.{All-from_recursion, recursion_from_All}
-use Rattle.std.proofs.lemmas.List.Sorted.{All-permutation, IsPermutation-append_comm, IsPermutation-append_left, IsPermutation-cons, IsPermutation-refl, IsPermutation-trans}
+use Rattle.std.proofs.lemmas.List.Sorted.{IsPermutation-append_comm, IsPermutation-append_left, IsPermutation-cons, IsPermutation-refl, IsPermutation-trans}
 use Rattle.std.proofs.lemmas.Map.Keys.{IsDistinct-head, IsDistinct-tail}
 use Rattle.std.specs.Bool.{⊤}
 use Rattle.std.specs.Cmp.{IsTotalOrder, nat_cmp_total, tied_itself}
 use Rattle.std.specs.FinMap.{FinMap, IsAntisymmetric, entries, entries-insert, entries_sorted, find, from_entries, get-entries, get-from_entries, is_sorted, put}
 use Rattle.std.specs.FinMap.Entries.{below_all, by_order}
-use Rattle.std.specs.List.{AllByRecursion, IsDistinct}
+use Rattle.std.specs.List.{IsDistinct}
 use Rattle.std.specs.List.Sorted.{IsPermutation}
 use Rattle.std.specs.Map.{keys_of}
 use Rattle.std.specs.Option.{option_or}
@@ -19,7 +18,7 @@ use Rattle.eden_base.specs.declared.number.FileId.{FileId}
 use Rattle.manifest.specs.Flat.{in_directory, in_directories}
 use Rattle.manifest.specs.Tree.{link_cmp}
 use Rattle.manifest.proofs.FlatLemmas.{find-append, find-in_directory, link_cmp-same, link_cmp_total, name_cmp, none_elsewhere}
-use Rattle.manifest.proofs.ListLemmas.{entries-rising}
+use Rattle.manifest.proofs.OrderedMaps.{entries-rising}
 
 -- two entries change places
 turned : {X : Type 0} (x y : X) (xs : List X) → IsPermutation (x ∷ y ∷ xs) (y ∷ x ∷ xs)
@@ -80,7 +79,3 @@ directories-apart (d ∷ ds) h =
 -- all names, as they are listed
 pub all_names : (ds : List (ℕ × FinMap name_cmp FileId)) → IsDistinct nat_eq (keys_of ds) → IsPermutation (in_directories ds) (entries (from_entries {R = link_cmp} (in_directories ds)))
 all_names ds h = entries-moved link_cmp link_cmp_total link_cmp-same (in_directories ds) (directories-apart ds h)
-
--- what holds of each of a list holds in another order
-pub all-moved : {X : Type 0} (P : X → Type 0) (xs ys : List X) → IsPermutation xs ys → AllByRecursion P xs → AllByRecursion P ys
-all-moved P xs ys moved all = recursion_from_All P ys (All-permutation P xs ys moved (All-from_recursion P xs all))

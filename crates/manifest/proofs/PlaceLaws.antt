@@ -2,7 +2,7 @@
 use Rattle.std.proofs.Common.{◌≡◌, ℕ, ◌+◌, ◌-◌, ◌≤◌, ◌==◌, ◌&&◌, Bool, true, false, nat_lt, List, [], Option, Some, None, is_some, refl, sym, ap, ◌∙◌, ◌⊎◌, inl, inr, arith}
 use Rattle.std.specs.Prelude.{nat_eq}
 use Rattle.std.specs.Cmp.Lexicographic.{pointwise, same_text, nat_list_eq_equiv}
-use Rattle.std.specs.FinMap.{empty, get, get-empty}
+use Rattle.std.specs.FinMap.{get}
 use Rattle.std.specs.List.{slice_get}
 use Rattle.std.specs.Option.{option_map_or}
 use Rattle.std.proofs.lemmas.Bool.Decides.{nat_tests}
@@ -10,14 +10,14 @@ use Rattle.eden_base.proofs.NumberTests.{true-eq, eq-true}
 use Rattle.eden_base.specs.declared.number.FileId.{FileId}
 use Rattle.key_map.specs.Keys.{at_key, key_of}
 use Rattle.manifest.specs.Manifest.{Line, AreLines, line_of}
-use Rattle.manifest.specs.Places.{stands, IsPlaces}
-use Rattle.manifest.specs.Tree.{link_cmp, links_from}
+use Rattle.manifest.specs.Places.{other_at, stands, IsPlaces}
+use Rattle.manifest.specs.Tree.{links_from}
 use Rattle.manifest.specs.declared.places.Places.{Places}
 use Rattle.manifest.proofs.ManifestTree.{IsLinkOf, file_with, line_of_link, link_of_line}
 use Rattle.manifest.proofs.MoreLines.{apart}
 
 -- both tests hold
-both : (a b : Bool) → (a && b) ≡ true → (a ≡ true) × (b ≡ true)
+pub both : (a b : Bool) → (a && b) ≡ true → (a ≡ true) × (b ≡ true)
 both true b h = (refl, h)
 both false b h = absurd (let no : ⊥ = cc in no)
 
@@ -61,7 +61,7 @@ module _ (lines : List Line) (places : Places) (is : IsPlaces lines places) (dir
 
   -- what the index has of a line that stands at the place
   found_of : (file : FileId) → get (links_from 2 lines) (dir.0, name) ≡ Some file →
-      (at_key places.files (key_of dir.0 name) ≡ Some file.0) ⊎ ((is_some (at_key places.files (key_of dir.0 name)) ≡ true) × (get places.others (dir.0, name) ≡ Some file))
+      (at_key places.files (key_of dir.0 name) ≡ Some file.0) ⊎ ((is_some (at_key places.files (key_of dir.0 name)) ≡ true) × (other_at places.others dir.0 name ≡ Some file))
   found_of file h = in_ (is.found r.place r.line r.here) where
     r : IsLinkOf lines 2 dir.0 name file
     r = line_of_link lines 2 dir.0 name file h
@@ -75,10 +75,10 @@ module _ (lines : List Line) (places : Places) (is : IsPlaces lines places) (dir
     key_is : at_key places.files (key_of r.line.dir.0 r.line.name) ≡ at_key places.files (key_of dir.0 name)
     key_is = ap (λ (k : ℕ × List ℕ). at_key places.files (key_of k.0 k.1)) at
 
-    in_ : (at_key places.files (key_of r.line.dir.0 r.line.name) ≡ Some (r.place + 2)) ⊎ ((is_some (at_key places.files (key_of r.line.dir.0 r.line.name)) ≡ true) × (get places.others (r.line.dir.0, r.line.name) ≡ Some (record { 0 = r.place + 2 }))) →
-        (at_key places.files (key_of dir.0 name) ≡ Some file.0) ⊎ ((is_some (at_key places.files (key_of dir.0 name)) ≡ true) × (get places.others (dir.0, name) ≡ Some file))
+    in_ : (at_key places.files (key_of r.line.dir.0 r.line.name) ≡ Some (r.place + 2)) ⊎ ((is_some (at_key places.files (key_of r.line.dir.0 r.line.name)) ≡ true) × (other_at places.others r.line.dir.0 r.line.name ≡ Some (record { 0 = r.place + 2 }))) →
+        (at_key places.files (key_of dir.0 name) ≡ Some file.0) ⊎ ((is_some (at_key places.files (key_of dir.0 name)) ≡ true) × (other_at places.others dir.0 name ≡ Some file))
     in_ (inl e) = inl (sym key_is ∙ e ∙ ap Some id)
-    in_ (inr w) = inr (ap is_some (sym key_is) ∙ w.0, ap (get places.others) (sym at) ∙ w.1 ∙ ap (λ (m : ℕ). Some (file_with m)) id)
+    in_ (inr w) = inr (ap is_some (sym key_is) ∙ w.0, ap (λ (k : ℕ × List ℕ). other_at places.others k.0 k.1) (sym at) ∙ w.1 ∙ ap (λ (m : ℕ). Some (file_with m)) id)
 
   -- a place whose key has no file has no line
   pub none_at_key : at_key places.files (key_of dir.0 name) ≡ None → get (links_from 2 lines) (dir.0, name) ≡ None
@@ -91,9 +91,9 @@ module _ (lines : List Line) (places : Places) (is : IsPlaces lines places) (dir
     ])
 
   -- a place whose key another place took has what stands under its name
-  pub other_at_key : (file : FileId) → at_key places.files (key_of dir.0 name) ≡ Some file.0 → stands lines file dir name ≡ false → get places.others (dir.0, name) ≡ get (links_from 2 lines) (dir.0, name)
-  other_at_key file there other = in_ (get places.others (dir.0, name)) refl (get (links_from 2 lines) (dir.0, name)) refl where
-    in_ : (o : Option FileId) → get places.others (dir.0, name) ≡ o → (p : Option FileId) → get (links_from 2 lines) (dir.0, name) ≡ p → o ≡ p
+  pub other_at_key : (file : FileId) → at_key places.files (key_of dir.0 name) ≡ Some file.0 → stands lines file dir name ≡ false → other_at places.others dir.0 name ≡ get (links_from 2 lines) (dir.0, name)
+  other_at_key file there other = in_ (other_at places.others dir.0 name) refl (get (links_from 2 lines) (dir.0, name)) refl where
+    in_ : (o : Option FileId) → other_at places.others dir.0 name ≡ o → (p : Option FileId) → get (links_from 2 lines) (dir.0, name) ≡ p → o ≡ p
     in_ (Some f) e p q = sym (sym q ∙ is.others dir.0 name f e)
     in_ None e None q = refl
     in_ None e (Some f) q = absurd (elim (found_of f q) [
@@ -106,8 +106,8 @@ module _ (lines : List Line) (places : Places) (is : IsPlaces lines places) (dir
     ])
 
 -- no line has a place
-pub no_places : (places : Places) → ((key : ℕ) → at_key places.files key ≡ None) → places.others ≡ empty → IsPlaces [] places
+pub no_places : (places : Places) → ((key : ℕ) → at_key places.files key ≡ None) → ((dir : ℕ) (name : List ℕ) → other_at places.others dir name ≡ None) → IsPlaces [] places
 no_places places files others = record {
   found = λ i line here. absurd (let no : ⊥ = cc in no);
-  others = λ dir name file h. absurd (let none : get places.others (dir, name) ≡ None = ap (λ m. get m (dir, name)) others ∙ get-empty {X = FileId} link_cmp (dir, name) in let no : ⊥ = cc in no);
+  others = λ dir name file h. absurd (let none : other_at places.others dir name ≡ None = others dir name in let no : ⊥ = cc in no);
 }

@@ -1,26 +1,29 @@
 -- The index of the lines' places, with one more line.
 use Rattle.std.proofs.Common.{◌≡◌, ℕ, ◌+◌, ◌==◌, ◌&&◌, Bool, true, false, not, if◌then◌else◌, List, [], ◌∷◌, ◌++◌, length, Option, Some, None, is_some, refl, sym, ap, subst, ◌∙◌, ◌⊎◌, inl, inr, arith}
+use Rattle.std.specs.Prelude.{nat_eq}
+use Rattle.std.specs.Cmp.Lexicographic.{nat_list_eq_equiv, pointwise, same_text}
 use Rattle.std.specs.FinMap.{FinMap, get, insert}
 use Rattle.eden_base.proofs.NumberTests.{eq-true, true-eq}
 use Rattle.eden_base.specs.declared.number.FileId.{FileId}
 use Rattle.key_map.specs.Keys.{at_key, key_of}
 use Rattle.manifest.specs.Manifest.{Line}
-use Rattle.manifest.specs.Places.{IsPlaces}
+use Rattle.manifest.specs.Places.{is_place, other_at, IsPlaces}
 use Rattle.manifest.specs.Tree.{link_cmp, links_from}
 use Rattle.manifest.specs.declared.places.Places.{Places}
 use Rattle.manifest.proofs.FlatLemmas.{link_cmp_total, link_cmp-same}
 use Rattle.manifest.proofs.ManifestTree.{file_with, links_from-push}
-use Rattle.manifest.proofs.MapLemmas.{get-insert_cases, get-insert_same, get-insert_other}
+use Rattle.manifest.proofs.MapLemmas.{get-insert_same, get-insert_other}
 use Rattle.manifest.proofs.MoreLines.{slice_get-push}
+use Rattle.manifest.proofs.PlaceLaws.{both}
 
 -- an index that has for each place what another has
-pub same_places : (lines : List Line) (old new : Places) → IsPlaces lines old → ((k : ℕ) → at_key new.files k ≡ at_key old.files k) → new.others ≡ old.others → IsPlaces lines new
+pub same_places : (lines : List Line) (old new : Places) → IsPlaces lines old → ((k : ℕ) → at_key new.files k ≡ at_key old.files k) → ((dir : ℕ) (name : List ℕ) → other_at new.others dir name ≡ other_at old.others dir name) → IsPlaces lines new
 same_places lines old new is files others = record {
   found = λ i line here. elim (is.found i line here) [
     | inl e ↦ inl (files (key_of line.dir.0 line.name) ∙ e)
-    | inr w ↦ inr (ap is_some (files (key_of line.dir.0 line.name)) ∙ w.0, ap (λ m. get m (line.dir.0, line.name)) others ∙ w.1)
+    | inr w ↦ inr (ap is_some (files (key_of line.dir.0 line.name)) ∙ w.0, others line.dir.0 line.name ∙ w.1)
   ];
-  others = λ dir name file h. is.others dir name file (ap (λ m. get m (dir, name)) (sym others) ∙ h);
+  others = λ dir name file h. is.others dir name file (sym (others dir name) ∙ h);
 }
 
 -- the files at keys have one more at the key of a place, unless that key was taken
@@ -31,7 +34,7 @@ FilesAfter old new dir name id =
 -- the files under names have one more where that key was taken
 abbrev pub OthersAfter : Places → Places → ℕ → List ℕ → ℕ → Type 0
 OthersAfter old new dir name id =
-    new.others ≡ (if is_some (at_key old.files (key_of dir name)) then insert old.others (dir, name) (file_with id) else old.others)
+    (d : ℕ) (q : List ℕ) → other_at new.others d q ≡ (if is_place d q dir name && is_some (at_key old.files (key_of dir name)) then Some (file_with id) else other_at old.others d q)
 
 module _ (lines : List Line) (line : Line) (old new : Places) (is : IsPlaces lines old)
     (new_place : get (links_from 2 lines) (line.dir.0, line.name) ≡ None)
@@ -68,31 +71,41 @@ module _ (lines : List Line) (line : Line) (old new : Places) (is : IsPlaces lin
   given dir name file h =
       ap (λ m. get m (dir, name)) all_is ∙ get-insert_other link_cmp_total link_cmp-same (links_from 2 lines) (line.dir.0, line.name) (file_with (length lines + 2)) (dir, name) (other_place dir name file h) ∙ h
 
-  others_stay : (dir : ℕ) (name : List ℕ) (file : FileId) → get old.others (dir, name) ≡ Some file → get new.others (dir, name) ≡ Some file
-  others_stay dir name file h = ap (λ m. get m (dir, name)) others ∙ in_ (is_some (at_key old.files (key_of line.dir.0 line.name))) where
-    in_ : (b : Bool) → get (if b then insert old.others (line.dir.0, line.name) (file_with (length lines + 2)) else old.others) (dir, name) ≡ Some file
-    in_ false = h
-    in_ true = get-insert_other link_cmp_total link_cmp-same old.others (line.dir.0, line.name) (file_with (length lines + 2)) (dir, name) (other_place dir name file (is.others dir name file h)) ∙ h
+  -- the line's own place, and no other
+  own_place : is_place line.dir.0 line.name line.dir.0 line.name ≡ true
+  own_place = rw (eq-true line.dir.0 line.dir.0 refl) (nat_list_eq_equiv.refl line.name)
+
+  at_place : (dir : ℕ) (name : List ℕ) → is_place dir name line.dir.0 line.name ≡ true → ◌≡◌ {A = ℕ × List ℕ} (dir, name) (line.dir.0, line.name)
+  at_place dir name t =
+      let tests = both (dir == line.dir.0) (pointwise nat_eq name line.name) t in
+      let d = true-eq dir line.dir.0 tests.0 in
+      let n = same_text name line.name (sym tests.1) in
+      λ i. (d i, n i)
+
+  others_stay : (dir : ℕ) (name : List ℕ) (file : FileId) → get (links_from 2 lines) (dir, name) ≡ Some file → other_at old.others dir name ≡ Some file → other_at new.others dir name ≡ Some file
+  others_stay dir name file given h = others dir name ∙ in_ (is_place dir name line.dir.0 line.name) refl where
+    in_ : (b : Bool) → is_place dir name line.dir.0 line.name ≡ b → (if b && is_some (at_key old.files (key_of line.dir.0 line.name)) then Some (file_with (length lines + 2)) else other_at old.others dir name) ≡ Some file
+    in_ false t = h
+    in_ true t = absurd (other_place dir name file given (at_place dir name t))
 
   -- the line itself is found
-  own : (at_key new.files (key_of line.dir.0 line.name) ≡ Some (length lines + 2)) ⊎ ((is_some (at_key new.files (key_of line.dir.0 line.name)) ≡ true) × (get new.others (line.dir.0, line.name) ≡ Some (file_with (length lines + 2))))
+  own : (at_key new.files (key_of line.dir.0 line.name) ≡ Some (length lines + 2)) ⊎ ((is_some (at_key new.files (key_of line.dir.0 line.name)) ≡ true) × (other_at new.others line.dir.0 line.name ≡ Some (file_with (length lines + 2))))
   own = in_ (is_some (at_key old.files (key_of line.dir.0 line.name))) refl where
     in_ : (b : Bool) → is_some (at_key old.files (key_of line.dir.0 line.name)) ≡ b →
-        (at_key new.files (key_of line.dir.0 line.name) ≡ Some (length lines + 2)) ⊎ ((is_some (at_key new.files (key_of line.dir.0 line.name)) ≡ true) × (get new.others (line.dir.0, line.name) ≡ Some (file_with (length lines + 2))))
+        (at_key new.files (key_of line.dir.0 line.name) ≡ Some (length lines + 2)) ⊎ ((is_some (at_key new.files (key_of line.dir.0 line.name)) ≡ true) × (other_at new.others line.dir.0 line.name ≡ Some (file_with (length lines + 2))))
     in_ false t = inl (files (key_of line.dir.0 line.name) ∙ (rw (eq-true (key_of line.dir.0 line.name) (key_of line.dir.0 line.name) refl, t) refl))
     in_ true t = inr (
       stays_some (key_of line.dir.0 line.name) t,
-      ap (λ m. get m (line.dir.0, line.name)) (others ∙ (rw t refl)) ∙ get-insert_same link_cmp_total old.others (line.dir.0, line.name) (file_with (length lines + 2)),
+      others line.dir.0 line.name ∙ (rw (own_place, t) refl),
     )
 
-  more_others : (dir : ℕ) (name : List ℕ) (file : FileId) → get new.others (dir, name) ≡ Some file → get all (dir, name) ≡ Some file
-  more_others dir name file h = in_ (is_some (at_key old.files (key_of line.dir.0 line.name))) (ap (λ m. get m (dir, name)) (sym others) ∙ h) where
-    in_ : (b : Bool) → get (if b then insert old.others (line.dir.0, line.name) (file_with (length lines + 2)) else old.others) (dir, name) ≡ Some file → get all (dir, name) ≡ Some file
-    in_ false g = given dir name file (is.others dir name file g)
-    in_ true g = elim (get-insert_cases link_cmp_total link_cmp-same old.others (line.dir.0, line.name) (file_with (length lines + 2)) (dir, name) file g) [
-      | inl w ↦ ap (λ m. get m (dir, name)) all_is ∙ ap (get (insert (links_from 2 lines) (line.dir.0, line.name) (file_with (length lines + 2)))) w.0 ∙ get-insert_same link_cmp_total (links_from 2 lines) (line.dir.0, line.name) (file_with (length lines + 2)) ∙ ap Some w.1
-      | inr k ↦ given dir name file (is.others dir name file k)
-    ]
+  more_others : (dir : ℕ) (name : List ℕ) (file : FileId) → other_at new.others dir name ≡ Some file → get all (dir, name) ≡ Some file
+  more_others dir name file h = in_ (is_place dir name line.dir.0 line.name) refl (is_some (at_key old.files (key_of line.dir.0 line.name))) (sym (others dir name) ∙ h) where
+    in_ : (b : Bool) → is_place dir name line.dir.0 line.name ≡ b → (taken : Bool) → (if b && taken then Some (file_with (length lines + 2)) else other_at old.others dir name) ≡ Some file → get all (dir, name) ≡ Some file
+    in_ false t taken g = given dir name file (is.others dir name file g)
+    in_ true t false g = given dir name file (is.others dir name file g)
+    in_ true t true g =
+        ap (get all) (at_place dir name t) ∙ ap (λ m. get m (line.dir.0, line.name)) all_is ∙ get-insert_same link_cmp_total (links_from 2 lines) (line.dir.0, line.name) (file_with (length lines + 2)) ∙ g
 
   pushed_places : IsPlaces (lines ++ line ∷ []) new
   unfolding all
@@ -100,7 +113,7 @@ module _ (lines : List Line) (line : Line) (old new : Places) (is : IsPlaces lin
     found = λ i x here. elim (slice_get-push lines line i x here) [
       | inl at ↦ elim (is.found i x at) [
         | inl e ↦ inl (stays (key_of x.dir.0 x.name) (i + 2) e)
-        | inr w ↦ inr (stays_some (key_of x.dir.0 x.name) w.0, others_stay x.dir.0 x.name (file_with (i + 2)) w.1)
+        | inr w ↦ inr (stays_some (key_of x.dir.0 x.name) w.0, others_stay x.dir.0 x.name (file_with (i + 2)) (is.others x.dir.0 x.name (file_with (i + 2)) w.1) w.1)
       ]
       | inr last ↦ rw (last.0, sym last.1) own
     ];

@@ -3,7 +3,6 @@ ghost use Rattle.std.specs.Prelude.{◌≡◌, ◌↔◌, ◌++◌, map, IsTrue,
 ghost use Rattle.std.specs.Ordering.{nat_cmp};
 ghost use Rattle.std.specs.Cmp.Lexicographic.{slice_cmp};
 ghost use Rattle.std.specs.FinMap.{FinMap, empty, entries, get, insert, remove};
-ghost use Rattle.std.specs.List.{AllByRecursion};
 ghost use Rattle.eden_base.specs.Name.{IsNameText};
 ghost use Rattle.manifest.specs.Flat.{in_directory};
 ghost use Rattle.manifest.specs.Links.{added_change};
@@ -14,10 +13,10 @@ use std::alloc::Global;
 use std::collections::BTreeMap;
 use std::marker::Model;
 
-/// The names of one directory. They are kept as bytes, so that a lookup takes no memory.
+/// The names of one directory. A short name stands in the map itself, and names are compared eight bytes at a time.
 #[derive(Drop)]
 pub struct Directory {
-    files: BTreeMap<Vec<u8>, FileId>,
+    files: BTreeMap<Name, FileId>,
 }
 
 impl Model for Directory {
@@ -27,15 +26,14 @@ impl Model for Directory {
     ghost use Rattle.eden_base.specs.declared.number.FileId.{FileId};
     ghost use Rattle.manifest.specs.Codes.{directory_code};
     ghost use Rattle.std.specs.BTreeMap.{IsOrdered};
-    ghost use Rattle.manifest.specs.Flat.{by_bytes, vec_cmp};
 
     ghost Value = { FinMap (slice_cmp nat_cmp) FileId };
 
     ghost coded = { directory_code };
 
-    ghost view = { λ a. from_entries (by_bytes a.files.entries) };
+    ghost view = { λ a. from_entries a.files.entries };
 
-    ghost invariant = { λ a. IsOrdered vec_cmp a.files };
+    ghost invariant = { λ a. IsOrdered (slice_cmp nat_cmp) a.files };
 }
 
 impl Directory {
@@ -49,7 +47,7 @@ impl Directory {
     }
 
     /// Returns the file under `name`, if there is one.
-    pub fn get(&self, name: &[u8]) -> Option<FileId>
+    pub fn get(&self, name: &Name) -> Option<FileId>
         ensures { result ≡ get self.now name.now }
     {
         self.files.get(name).copied()
@@ -69,12 +67,11 @@ impl Directory {
         dir: FileId,
         links: &mut Vec<LinkChange>,
     ) -> Result<(), NoMemory>
-        requires names { AllByRecursion (λ e. IsNameText e.0) (entries self.now) }
         ensures { OnOk result (links.new.items ≡ links.old.items
             ++ map added_change (in_directory dir.0 (entries self.now))) }
     {
         for (name, file) in &self.files {
-            let name = Name::of(alloc, name.as_slice())?;
+            let name = name.copy(alloc)?;
             links.push(LinkChange {
                 dir,
                 name,
@@ -85,17 +82,18 @@ impl Directory {
     }
 
     /// Makes `name` lead to `file`.
-    pub fn insert(&mut self, alloc: Global, name: &[u8], file: FileId) -> Result<(), NoMemory>
+    pub fn insert(&mut self, alloc: Global, name: &Name, file: FileId) -> Result<(), NoMemory>
         ensures ok { OnOk result (self.new ≡ insert self.old name.now file) }
+        ensures name { OnOk result (IsNameText name.now) }
         ensures err { OnErr result (self.new ≡ self.old) }
     {
-        let name = Vec::from_slice(alloc, name)?;
+        let name = Name::of(alloc, name.bytes())?;
         self.files.insert(name, file)?;
         Ok(())
     }
 
     /// Removes `name`, and returns the file to which it led, if any. Takes no memory.
-    pub fn remove(&mut self, name: &[u8]) -> Option<FileId>
+    pub fn remove(&mut self, name: &Name) -> Option<FileId>
         ensures value { result ≡ get self.old name.now }
         ensures files { self.new ≡ remove self.old name.now }
     {

@@ -1,7 +1,7 @@
 //! The names in every directory, and the file to which each of them leads.
 ghost use Rattle.std.specs.Prelude.{◌≡◌, ◌==◌, ◌++◌, map, OnOk, OnErr};
 ghost use Rattle.std.specs.FinMap.{FinMap, empty, entries, get, insert, remove};
-ghost use Rattle.std.specs.List.{AllByRecursion, list_any};
+ghost use Rattle.std.specs.List.{list_any};
 ghost use Rattle.std.specs.List.Sorted.{IsPermutation};
 ghost use Rattle.eden_base.specs.Name.{IsNameText};
 ghost use Rattle.manifest.specs.Links.{added_change};
@@ -57,7 +57,7 @@ impl Links {
     }
 
     /// Returns the file under a name in a directory, if there is one.
-    pub fn get(&self, dir: FileId, name: &[u8]) -> Option<FileId>
+    pub fn get(&self, dir: FileId, name: &Name) -> Option<FileId>
         ensures { result ≡ get self.now (dir.0, name.now) }
     {
         self.directories.get(&dir.0)?.get(name)
@@ -75,7 +75,6 @@ impl Links {
 
     /// Appends each name to `links`, as a link that was added. The names of one directory stand together.
     pub fn list(&self, alloc: Global, links: &mut Vec<LinkChange>) -> Result<(), NoMemory>
-        requires names { AllByRecursion (λ link. IsNameText link.0.1) (entries self.now) }
         ensures { OnOk result (IsPermutation (links.old.items ++ map added_change (entries self.now)) links.new.items) }
     {
         for (dir, directory) in &self.directories {
@@ -89,10 +88,11 @@ impl Links {
         &mut self,
         alloc: Global,
         dir: FileId,
-        name: &[u8],
+        name: &Name,
         file: FileId,
     ) -> Result<(), NoMemory>
         ensures ok { OnOk result (self.new ≡ insert self.old (dir.0, name.now) file) }
+        ensures name { OnOk result (IsNameText name.now) }
         ensures err { OnErr result (self.new ≡ self.old) }
     {
         let none = Directory::new(alloc);
@@ -101,7 +101,7 @@ impl Links {
     }
 
     /// Removes a name from a directory, and returns the file to which it led, if any. Takes no memory.
-    pub fn remove(&mut self, dir: FileId, name: &[u8]) -> Option<FileId>
+    pub fn remove(&mut self, dir: FileId, name: &Name) -> Option<FileId>
         ensures value { result ≡ get self.old (dir.0, name.now) }
         ensures links { self.new ≡ remove self.old (dir.0, name.now) }
     {

@@ -57,7 +57,7 @@ pub fn added(alloc: Global, links: &[LinkChange]) -> Result<Added, NoMemory>
     let mut added = Added::new(alloc);
     for change in links {
         if let Some(file) = change.target {
-            added.insert(alloc, change.dir, change.name.bytes(), file)?;
+            added.insert(alloc, change.dir, &change.name, file)?;
         }
     }
     Ok(added)

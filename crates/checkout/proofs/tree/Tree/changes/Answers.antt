@@ -1,33 +1,20 @@
 -- What the parts of the overlay list is what tells the tree from its manifest's.
 use Rattle.std.proofs.Common.{◌++◌, map, refl, ap, sym, subst, ◌∙◌}
 use Rattle.std.proofs.lemmas.List.Sorted.{IsPermutation-append_left}
-use Rattle.std.specs.FinMap.{entries, entries_sorted, get-entries}
-use Rattle.std.specs.List.{AllByRecursion}
+use Rattle.std.specs.FinMap.{entries}
 use Rattle.std.specs.List.Sorted.{IsPermutation}
-use Rattle.eden_base.specs.Name.{IsNameText}
 use Rattle.checkout.specs.Changes.{AreLinkChanges, AreMade}
 use Rattle.checkout.specs.UnlinkedFiles.{is_gone}
 use Rattle.checkout.specs.Listing.{gone_changes, listed_file, HaveLines}
 use Rattle.manifest.specs.Links.{added_change}
 use Rattle.manifest.specs.Tally.{count_of}
 use Rattle.manifest.specs.Tree.{IsTree, tree_of}
-use Rattle.checkout.proofs.ChangeLists.{all_entries}
 use Rattle.checkout.proofs.ChangesLaws.{changed_names, one_changes, one_tree}
-use Rattle.manifest.proofs.FlatLemmas.{link_cmp_total}
 use Rattle.checkout.proofs.UnlinkedListing.{all_gone, all_have_lines}
 use Rattle.checkout.proofs.LinkPlaces.{AreLinkChanges-over}
 use Rattle.checkout.proofs.MadeChanges.{AreMade-over}
 use Rattle.manifest.proofs.ManifestIsTree.{tree_of-IsTree}
-use Rattle.checkout.proofs.OverlayLaws.{child_added}
 use Rattle.checkout.proofs.tree.Tree.changes.Goals as goal
-
-pub list-requires-2 : goal.list-requires-2
-list-requires-2 c =
-    let i = c.self.inside in
-    let o = c.self.invariant.0 in
-    let names = all_entries link_cmp_total (λ link. IsNameText link.0.1) (entries i.added) (entries_sorted i.added) (λ k v found.
-    o.is_tree.links_have_names (record { 0 = k.0 }) k.1 v (child_added i.manifest i.made i.added (is_gone i.gone) (count_of i.lost) i.next_file o.parts (record { 0 = k.0 }) k.1 v (get-entries i.added k ∙ found))) in
-    record { names = subst (λ links. AllByRecursion (λ link. IsNameText link.0.1) (entries links)) (sym c.links-added.ensures) names }
 
 pub list-requires-3 : goal.list-requires-3
 list-requires-3 c =

@@ -25,7 +25,7 @@ loop-file-preserved c =
     let have = c.loop-file.invariant.have_lines in
     let so_far = ap (λ rest. c.loop-file.links.items ++ rest) (sym (gone_first added lines files i within have line is)) ∙ c.loop-file.invariant.listed in
     let view = c.line.view_is in
-    let found = ap (λ l. is_some (get added (l.dir.0, l.name))) (sym view) ∙ ap (λ n. is_some (get added (c.line.inside.dir.0, n))) (sym c.bytes.ensures.bytes) ∙ ap is_some (sym c.get.ensures) ∙ c.is_none.ensures in
+    let found = ap (λ l. is_some (get added (l.dir.0, l.name))) (sym view) ∙ ap is_some (sym c.get.ensures) ∙ c.is_none.ensures in
     record {
       listed = elim c.if-is_none.branch [
         | then-is_none+in_ok-copy+in_ok-push w ↦

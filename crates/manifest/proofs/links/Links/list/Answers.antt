@@ -3,13 +3,11 @@ use Rattle.std.proofs.Common.{◌≡◌, ◌++◌, map, ap, sym, subst, ◌∙�
 use Rattle.std.proofs.lemmas.List.{append-nil, map-append}
 use Rattle.std.proofs.lemmas.List.Sorted.{IsPermutation-append_right, IsPermutation-map, IsPermutation-sym}
 use Rattle.std.specs.FinMap.{entries}
-use Rattle.std.specs.List.{AllByRecursion}
 use Rattle.std.specs.List.Sorted.{IsPermutation}
-use Rattle.eden_base.specs.Name.{IsNameText}
 use Rattle.manifest.specs.Flat.{in_directory, in_directories}
 use Rattle.manifest.specs.Links.{added_change}
-use Rattle.manifest.proofs.ListLemmas.{listed_more, names_here, names_later}
-use Rattle.manifest.proofs.ListedLinks.{all_names, all-moved}
+use Rattle.manifest.proofs.ListLemmas.{listed_more}
+use Rattle.manifest.proofs.ListedLinks.{all_names}
 use Rattle.manifest.proofs.links.Links.list.Goals as goal
 
 pub loop-dir-init : goal.loop-dir-init
@@ -19,31 +17,19 @@ loop-dir-init c =
     let all : IsPermutation (entries c.args.self.now) (in_directories it) =
     subst (λ es. IsPermutation (entries c.args.self.now) (in_directories es)) (sym gives)
     (subst (λ m. IsPermutation (entries m) (in_directories c.self.inside.directories.entries)) c.self.view_is (IsPermutation-sym _ _ (all_names c.self.inside.directories.entries c.self.invariant))) in
-    record {
-      listed = IsPermutation-append_right c.args.links.now.items _ _ (IsPermutation-map added_change (entries c.args.self.now) (in_directories it) all);
-      names = all-moved (λ link. IsNameText link.0.1) (entries c.args.self.now) (in_directories it) all c.requires.names;
-    }
-
-pub list-requires : goal.list-requires
-list-requires c =
-    let names = subst (λ it. AllByRecursion (λ link. IsNameText link.0.1) (in_directories it)) c.in-Some.ensures.steps c.loop-dir.invariant.names in
-    record { names = names_here c.in-Some.dir.now (entries c.in-Some.directory.now) (in_directories c.next.new.self) names }
+    IsPermutation-append_right c.args.links.now.items _ _ (IsPermutation-map added_change (entries c.args.self.now) (in_directories it) all)
 
 pub loop-dir-preserved : goal.loop-dir-preserved
 loop-dir-preserved c =
-    let names = subst (λ it. AllByRecursion (λ link. IsNameText link.0.1) (in_directories it)) c.in-Some.ensures.steps c.loop-dir.invariant.names in
     let here = in_directory c.in-Some.dir.now (entries c.in-Some.directory.now) in
     let left = in_directories c.next.new.self in
     let before = c.loop-dir.links.items in
     let cut = ap (λ es. before ++ es) (sym (map-append added_change here left)) ∙ ap (λ it. before ++ map added_change (in_directories it)) (sym c.in-Some.ensures.steps) in
     let moved = listed_more before _ (map added_change here) (map added_change left) _ cut c.in_ok-list.ensures in
-    record {
-      listed = subst (IsPermutation (c.args.links.now.items ++ map added_change (entries c.args.self.now))) (sym moved) c.loop-dir.invariant.listed;
-      names = names_later c.in-Some.dir.now (entries c.in-Some.directory.now) left names;
-    }
+    subst (IsPermutation (c.args.links.now.items ++ map added_change (entries c.args.self.now))) (sym moved) c.loop-dir.invariant
 
 pub returns : goal.returns
 returns c =
     let so_far = c.loop-dir.links.items in
     let none = ap (λ it. so_far ++ map added_change (in_directories it)) c.in-None.ensures.steps.0 ∙ append-nil so_far in
-    subst (IsPermutation (c.args.links.now.items ++ map added_change (entries c.args.self.now))) none c.loop-dir.invariant.listed
+    subst (IsPermutation (c.args.links.now.items ++ map added_change (entries c.args.self.now))) none c.loop-dir.invariant

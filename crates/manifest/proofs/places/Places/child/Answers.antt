@@ -18,5 +18,5 @@ pub returns : goal.returns
 returns c =
     let there : at_key c.args.self.now.files (key_of c.args.dir.0 c.args.name.now) ≡ Some c.in_ok-get.field-0 = ap (at_key c.args.self.now.files) (sym c.key_of.ensures.key) ∙ sym c.get.ensures.number ∙ c.in_ok-get.was in
     record {
-      child = c.get-2.ensures ∙ other_at_key c.args.lines.now c.args.self.now c.requires.places c.args.dir c.args.name.now (record { 0 = c.in_ok-get.field-0 }) there (sym c.stands.ensures.stands ∙ c.if-stands.false);
+      child = c.other_at.ensures ∙ other_at_key c.args.lines.now c.args.self.now c.requires.places c.args.dir c.args.name.now (record { 0 = c.in_ok-get.field-0 }) there (sym c.stands.ensures.stands ∙ c.if-stands.false);
     }
