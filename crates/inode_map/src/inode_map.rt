@@ -249,22 +249,20 @@ impl InodeMap {
         self.table.reserve(alloc)
     }
 
-    /// Gives out the number of a name in a directory, as `give` does, in the room that `reserve` made.
+    /// Gives out the next number, as `give_next` does, in the room that `reserve` made. Takes no memory.
     pub fn give_ready(&mut self, parent: Number, name: Name) -> Result<Number, GiveFault>
         requires room { self.old.spare ≡ 1 }
+        requires free { entry_at self.old.entries parent.0 name ≡ None }
         ensures number { IfOk result (λ number. number ≡ number_given self.old parent.0 name) }
         ensures given { OnOk result (self.new ≡ given self.old parent name) }
         ensures accepted { OnOk result (give_fault self.old parent.0 name ≡ None) }
         ensures refused { IfErr result (λ fault. give_fault self.old parent.0 name ≡ Some fault) }
         ensures unchanged { OnErr result (self.new ≡ self.old) }
     {
-        if let Some(number) = self.table.find(parent, &name) {
-            return self.give_again(parent, &name, number);
+        if self.table.next() < END_OF_NUMBERS {
+            return Ok(self.table.add(parent, name));
         }
-        if self.table.next() >= END_OF_NUMBERS {
-            return Err(GiveFault::NoNumber);
-        }
-        Ok(self.table.add(parent, name))
+        Err(GiveFault::NoNumber)
     }
 
     /// Gives out the number that a name has, as `give` does. A forget with `k` 1 undoes this. Takes no memory.

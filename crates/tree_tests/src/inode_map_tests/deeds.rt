@@ -67,7 +67,8 @@ pub(crate) fn given(
     }
 }
 
-/// Makes room, once more if memory was refused, and gives a number to `name` in `parent` there.
+/// Makes room, once more if memory was refused, and gives a number to `name` in `parent` there. A number that the name
+/// has is given again.
 pub(crate) fn given_ready(
     alloc: Global,
     map: &mut InodeMap,
@@ -76,6 +77,9 @@ pub(crate) fn given_ready(
 ) -> Option<Number> {
     if map.reserve(alloc).is_err() {
         map.reserve(alloc).ok()?;
+    }
+    if let Some(number) = map.number_for(parent, &name) {
+        return map.give_again(parent, &name, number).ok();
     }
     map.give_ready(parent, name).ok()
 }

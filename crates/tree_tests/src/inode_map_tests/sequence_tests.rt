@@ -222,7 +222,7 @@ fn relink(
     Ok(())
 }
 
-/// Gives a number to `name` in `parent`. If `is_reserved`, makes room first and gives the number there.
+/// Gives a number to `name` in `parent`. If `is_reserved`, makes room first, and gives a new number there.
 fn given(
     alloc: Global,
     map: &mut InodeMap,
@@ -230,7 +230,7 @@ fn given(
     name: Name,
     is_reserved: bool,
 ) -> Result<Number, GiveFault> {
-    if is_reserved && map.reserve(alloc).is_ok() {
+    if is_reserved && map.reserve(alloc).is_ok() && map.number_for(parent, &name).is_none() {
         return map.give_ready(parent, name);
     }
     let given = map.give(alloc, parent, &name);

@@ -5,14 +5,14 @@ use Rattle.checkout.proofs.AttrLaws.{attr_of-created}
 use Rattle.eden_base.specs.declared.number.FileId.{FileId}
 use Rattle.manifest.specs.Tree.{Tree}
 use Rattle.checkout.specs.ChangedTree.{attr_of, next_file}
-use Rattle.entry_table.specs.Entries.{entry_of, IsFileOf}
+use Rattle.entry_table.specs.Entries.{entry_at, entry_of, IsFileOf}
 use Rattle.inode_map.specs.InodeMap.{MapState, given, number_given}
 use Rattle.std.specs.Prelude.{IsSome}
 use Rattle.fuse_ops.specs.Loading.{LoadsTold}
 use Rattle.fuse_ops.specs.Gifts.{served_over}
 use Rattle.fuse_ops.specs.Served.{ServedState, plain}
 use Rattle.fuse_ops.specs.Work.{Makes}
-use Rattle.fuse_ops.proofs.Making.{may-make, next-refused, sound-plainly}
+use Rattle.fuse_ops.proofs.Making.{may-make, absent, next-refused, sound-plainly}
 use Rattle.fuse_ops.proofs.ReadyMaking.{same-map, ready-clear, made-sound, made-remembers, made-may_load, made-loads, made-told, unmade, unmade-remembers, unmade-loaded}
 use Rattle.fuse_ops.proofs.Remembering.{plainly-remembers, remembers-in}
 use Rattle.fuse_ops.proofs.served.Served.make.Goals as goal
@@ -41,6 +41,16 @@ returns-in_default-clause-makes c =
     let may = may-make (served_over c.self.inside.tree c.self.inside.map) c.args.self.now c.args.dir c.args.name.now c.in_ok-above.above same c.self.invariant.0 c.self.invariant.1 c.in_ok-above.ensures.free in
     subst (λ (s : ServedState). Makes s c.args.dir c.args.name.now c.args.kind c.args.perm (Err ENOMEM) (served_over c.create.new.self c.ready.new.map)) same
     (next-refused _ _ _ _ may c.args.kind c.args.perm ENOMEM _ (inr (refl, c.in-Ok.ensures.left)) (unmade _ _ _ _ may c.args.kind c.args.perm c.in-Ok.ensures.left c.ready.new.map c.create.new.self c.in-Ok.ensures.room c.in_default.ensures.unchanged))
+
+-- a free name has no entry, and the room that was made adds none
+pub give_ready-requires : goal.give_ready-requires
+give_ready-requires c =
+    let same = c.self.view_is ∙ c.free_place.ensures.unchanged in
+    let may = may-make (served_over c.self.inside.tree c.self.inside.map) c.args.self.now c.args.dir c.args.name.now c.in_ok-above.above same c.self.invariant.0 c.self.invariant.1 c.in_ok-above.ensures.free in
+    record {
+      room = ap (λ (m : MapState). m.spare) c.in-Ok.ensures.room;
+      free = ap (λ (m : MapState). entry_at m.entries c.args.dir.0 c.in-Ok.own) c.in-Ok.ensures.room ∙ ap (entry_at c.self.inside.map.entries c.args.dir.0) c.in-Ok.ensures.name ∙ absent _ _ _ _ may;
+    }
 
 pub unreachable-requires : goal.unreachable-requires
 unreachable-requires c =

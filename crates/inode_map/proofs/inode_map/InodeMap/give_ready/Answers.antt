@@ -18,15 +18,15 @@ invariant_of-self c =
     let are = kept-new t.entries t.next x (record { numbers = c.self.invariant.numbers; of_use = c.self.invariant.of_use }) refl (lit< tt) in
     subst (λ (new : TableState). IsConsistent (record { table = new; bad_items = c.self.inside.bad_items; loaded = c.self.inside.loaded })) (sym (c.add.ensures.added)) (record {
       numbers = are.numbers;
-      numbers_fit = let f = c.if-next-ge-END_OF_NUMBERS.false in let e = c.next.ensures.next in omega arith;
+      numbers_fit = let f = c.if-next-lt-END_OF_NUMBERS.true in let e = c.next.ensures.next in omega arith;
       of_use = are.of_use;
       loaded = of-added loaded_number t.entries x (attrs_in c.self.inside.loaded) (next-none t.entries t.next c.self.invariant.numbers) c.self.invariant.loaded;
       named = c.self.invariant.named;
     })
 
 -- What a wrong body of must-fail/ breaks; an answer makes its refusal cheap.
-pub returns-in-Some-clause-given : goal.returns-in-Some-clause-given
-returns-in-Some-clause-given c = search rules
+pub returns-then-next-lt-END_OF_NUMBERS-clause-given : goal.returns-then-next-lt-END_OF_NUMBERS-clause-given
+returns-then-next-lt-END_OF_NUMBERS-clause-given c = search rules
 
-pub returns-in-Some-clause-accepted : goal.returns-in-Some-clause-accepted
-returns-in-Some-clause-accepted c = search rules
+pub add-requires-clause-is_new : goal.add-requires-clause-is_new
+add-requires-clause-is_new c = search rules
