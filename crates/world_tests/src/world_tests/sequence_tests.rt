@@ -17,7 +17,7 @@ use world::{Event, Happened, World};
 const TEXT: &[u8] =
     b"commit 0123456789abcdef0123456789abcdef01234567\ndir d\nfile 0644 12 d/a\nfile 0644 7 b\n";
 
-/// The versions of the daemons, in turn.
+/// The versions of the daemons, one list after another.
 static LISTS: [&[u16]; 3] = [&[1], &[1, 2], &[1, 2, 3]];
 
 /// How often the seat is handed on.
