@@ -18,7 +18,7 @@ use Rattle.manifest.proofs.MoreLines.{apart}
 use Rattle.checkout.proofs.UnionLaws.{get-links_over}
 
 -- a line of these files is that of the file that it gives
-line_of-link : (lines : List Line) (file : FileId) (place : ℕ) (line : Line) → slice_get lines place ≡ Some line → file.0 ≡ 2 + place → line_of lines file ≡ Some line
+pub line_of-link : (lines : List Line) (file : FileId) (place : ℕ) (line : Line) → slice_get lines place ≡ Some line → file.0 ≡ 2 + place → line_of lines file ≡ Some line
 line_of-link lines file place line here id =
     let late : nat_lt file.0 2 ≡ false = grind (arith, nat_tests) in
     let at : file.0 - 2 ≡ place = omega arith in
@@ -30,6 +30,12 @@ link-line_of lines file line h =
       | true ↦ λ e g. absurd (cc)
       | false ↦ λ e g. (g, let late : 2 ≤ file.0 = grind (arith, nat_tests) in omega arith)
     ] refl h
+
+-- the manifest has a line's file at the line's place
+pub base_of_line : (m : Manifest) → IsManifest m → (file : FileId) (line : Line) → line_of m.lines file ≡ Some line → get (links_from 2 m.lines) (line.dir.0, line.name) ≡ Some file
+base_of_line m is file line h =
+    let at = link-line_of m.lines file line h in
+    link_of_line m.lines 2 (file.0 - 2) line (apart m.lines is.lines) at.0 ∙ ap (λ (f : FileId). Some f) (same_id (record { 0 = 2 + (file.0 - 2) }) file at.1)
 
 module _ (m : Manifest) (added : FinMap link_cmp FileId) (gone : UnlinkedFiles) where
   abbrev base : FinMap link_cmp FileId
@@ -68,8 +74,7 @@ module _ (m : Manifest) (added : FinMap link_cmp FileId) (gone : UnlinkedFiles) 
 
   pub above_by_line : IsManifest m → AreBeside added (is_gone gone) base → (file : FileId) (line : Line) → is_gone gone file.0 ≡ false → line_of m.lines file ≡ Some line → StandsIn (links_now m added gone) file line.dir
   above_by_line is beside file line stays h =
-      let at = link-line_of m.lines file line h in
-      let here : get base (line.dir.0, line.name) ≡ Some file = link_of_line m.lines 2 (file.0 - 2) line (apart m.lines is.lines) at.0 ∙ ap (λ (f : FileId). Some f) (same_id (record { 0 = 2 + (file.0 - 2) }) file at.1) in
+      let here : get base (line.dir.0, line.name) ≡ Some file = base_of_line m is file line h in
       let left : still (is_gone gone) (get base (line.dir.0, line.name)) ≡ Some file = ap (still (is_gone gone)) here ∙ ap (λ (b : Bool). if b then None else Some file) stays in
       let rest : option_or (get added (line.dir.0, line.name)) (still (is_gone gone) (get base (line.dir.0, line.name))) ≡ Some file =
       elim (get added (line.dir.0, line.name)) as (λ o. get added (line.dir.0, line.name) ≡ o → option_or o (still (is_gone gone) (get base (line.dir.0, line.name))) ≡ Some file) [

@@ -34,6 +34,7 @@ pub mod LaidTree
 pub mod LinkChanges
 pub mod LinkLaws
 pub mod LinkPlaces
+pub mod LosingPlaces
 pub mod LostCounts
 pub mod MadeChanges
 pub mod MadeLemmas

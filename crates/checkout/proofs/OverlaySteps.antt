@@ -67,22 +67,19 @@ module _ (m : Manifest) (made : FinMap nat_cmp MadeFile) (added : FinMap link_cm
     free_here : child_of tree dir name ≡ None
     free_here = ap (λ (t : Tree). child_of t dir name) view ∙ free
 
-    pub none_there : (bytes : List ℕ) → bytes ≡ name → get added (dir.0, bytes) ≡ None
-    none_there bytes e = ap (λ (n : List ℕ). get added (dir.0, n)) e ∙ none_added m made added gone lost next is.parts dir name free_here
+    pub none_there : get added (dir.0, name) ≡ None
+    none_there = none_added m made added gone lost next is.parts dir name free_here
 
     -- a link that was added, and taken out again
-    pub undone : (bytes bytes' : List ℕ) (file : FileId) (added' added'' : FinMap link_cmp FileId) → bytes ≡ name → bytes' ≡ name → added' ≡ insert added (dir.0, bytes) file → added'' ≡ remove added' (dir.0, bytes') → added'' ≡ added
-    undone bytes bytes' file added' added'' e e' a a' =
-        a' ∙ ap (λ (n : List ℕ). remove added' (dir.0, n)) e' ∙ ap (λ x. remove x (dir.0, name)) (a ∙ ap (λ (n : List ℕ). insert added (dir.0, n) file) e)
-        ∙ removed_again link_cmp_total link_cmp-same added (dir.0, name) file (none_added m made added gone lost next is.parts dir name free_here)
+    pub undone : (file : FileId) (added' added'' : FinMap link_cmp FileId) → added' ≡ insert added (dir.0, name) file → added'' ≡ remove added' (dir.0, name) → added'' ≡ added
+    undone file added' added'' a a' = a' ∙ ap (λ x. remove x (dir.0, name)) a ∙ removed_again link_cmp_total link_cmp-same added (dir.0, name) file none_there
 
-    pub create-step : (kind : Kind) (perm : Perm) (made' : FinMap nat_cmp MadeFile) (added' : FinMap link_cmp FileId) (bytes : List ℕ) → kind_of self dir ≡ Some Dir → is_unlinked self dir ≡ false → IsNameText bytes → next < end_of_files →
-        bytes ≡ name → made' ≡ insert made next (kept_file kind perm) → added' ≡ insert added (dir.0, bytes) (file_with next) →
+    pub create-step : (kind : Kind) (perm : Perm) (made' : FinMap nat_cmp MadeFile) (added' : FinMap link_cmp FileId) → kind_of self dir ≡ Some Dir → is_unlinked self dir ≡ false → IsNameText name → next < end_of_files →
+        made' ≡ insert made next (kept_file kind perm) → added' ≡ insert added (dir.0, name) (file_with next) →
         IsOverlay m made' added' gone lost (next + 1) × (tree_over m made' added' gone (next + 1) ≡ created self dir name kind perm)
-    create-step kind perm made' added' bytes is_dir is_reached is_name fits e f a =
-        let a' = a ∙ ap (λ (n : List ℕ). insert added (dir.0, n) (file_with next)) e in
-        rw (f, a') (
-          create-IsOverlay m made added gone lost next is dir name kind perm (ap (λ (t : Tree). kind_of t dir) view ∙ is_dir) (ap (λ (t : Tree). is_unlinked t dir) view ∙ is_reached) free_here (subst IsNameText e is_name) fits,
+    create-step kind perm made' added' is_dir is_reached is_name fits f a =
+        rw (f, a) (
+          create-IsOverlay m made added gone lost next is dir name kind perm (ap (λ (t : Tree). kind_of t dir) view ∙ is_dir) (ap (λ (t : Tree). is_unlinked t dir) view ∙ is_reached) free_here is_name fits,
           tree_over-created m made added gone next dir name kind perm ∙ ap (λ (t : Tree). created t dir name kind perm) view,
         )
 
@@ -93,32 +90,28 @@ module _ (m : Manifest) (made : FinMap nat_cmp MadeFile) (added : FinMap link_cm
         let p : is_full_dir self file ≡ false = subst (λ o. IfSome o (λ f. is_full_dir self f ≡ false)) there not_full in
         ap (λ (t : Tree). is_full_dir t file) view ∙ p
 
-    pub remove_added-step : (bytes : List ℕ) (file : FileId) (added' : FinMap link_cmp FileId) → bytes ≡ name → get added (dir.0, bytes) ≡ Some file → added' ≡ remove added (dir.0, bytes) →
+    pub remove_added-step : (file : FileId) (added' : FinMap link_cmp FileId) → get added (dir.0, name) ≡ Some file → added' ≡ remove added (dir.0, name) →
         IsOverlay m made added' gone lost next × (tree_over m made added' gone next ≡ removed self dir name) × (child_of self dir name ≡ Some file)
-    remove_added-step bytes file added' e here a =
-        let here' = sym (ap (λ (n : List ℕ). get added (dir.0, n)) e) ∙ here in
-        let a' = a ∙ ap (λ (n : List ℕ). remove added (dir.0, n)) e in
-        let there = child_added m made added gone lost next is.parts dir name file here' in
+    remove_added-step file added' here a =
+        let there = child_added m made added gone lost next is.parts dir name file here in
         let empty_or_file = not_full_here file there in
-        rw a' (
-          remove_added-IsOverlay m made added gone lost next is dir name file here' empty_or_file,
-          tree_over-removed_added m made added gone lost next is dir name file here' empty_or_file ∙ ap (λ (t : Tree). removed t dir name) view,
+        rw a (
+          remove_added-IsOverlay m made added gone lost next is dir name file here empty_or_file,
+          tree_over-removed_added m made added gone lost next is dir name file here empty_or_file ∙ ap (λ (t : Tree). removed t dir name) view,
           sym (ap (λ (t : Tree). child_of t dir name) view) ∙ there,
         )
 
-    module _ (bytes bytes' : List ℕ) (e : bytes ≡ name) (e' : bytes' ≡ name) (none : get added (dir.0, bytes) ≡ None) where
-      none_here : get added (dir.0, name) ≡ None
-      none_here = sym (ap (λ (n : List ℕ). get added (dir.0, n)) e) ∙ none
-
+    -- the manifest is searched by the bytes of the name
+    module _ (bytes : List ℕ) (e : bytes ≡ name) (none : get added (dir.0, name) ≡ None) where
       -- what is not an added link is one of the manifest's
       pub line_link : (file : FileId) → child_of self dir name ≡ Some file → (get (links_from 2 m.lines) (dir.0, name) ≡ Some file) × (gone file.0 ≡ false)
       line_link file h =
-          elim (child_cases m made added gone lost next is.parts dir name file (ap (λ (t : Tree). child_of t dir name) view ∙ h)) [ inl a ↦ absurd (cc (a, none_here)) | inr w ↦ w ]
+          elim (child_cases m made added gone lost next is.parts dir name file (ap (λ (t : Tree). child_of t dir name) view ∙ h)) [ inl a ↦ absurd (cc (a, none)) | inr w ↦ w ]
 
-      pub is_found : (found : Option FileId) → IsSome (child_of self dir name) → found ≡ get (links_from 2 m.lines) (dir.0, bytes') → IsSome found
+      pub is_found : (found : Option FileId) → IsSome (child_of self dir name) → found ≡ get (links_from 2 m.lines) (dir.0, bytes) → IsSome found
       is_found found there f =
           let w = some-is _ there in
-          some-IsSome found w.0 (f ∙ ap (λ (n : List ℕ). get (links_from 2 m.lines) (dir.0, n)) e' ∙ (line_link w.0 w.1).0)
+          some-IsSome found w.0 (f ∙ ap (λ (n : List ℕ). get (links_from 2 m.lines) (dir.0, n)) e ∙ (line_link w.0 w.1).0)
 
       -- the file that was found, and that both counts have room
       pub record IsFound (file : FileId) : Type 0 where
@@ -129,11 +122,11 @@ module _ (m : Manifest) (made : FinMap nat_cmp MadeFile) (added : FinMap link_cm
         pub dir_within : dir.0 < length m.lines + 2
         pub fits : lost dir.0 ≤ 65535
 
-      pub found-is : (found : Option FileId) (file : FileId) → IsSome (child_of self dir name) → found ≡ get (links_from 2 m.lines) (dir.0, bytes') → found ≡ Some file → IsFound file
+      pub found-is : (found : Option FileId) (file : FileId) → IsSome (child_of self dir name) → found ≡ get (links_from 2 m.lines) (dir.0, bytes) → found ≡ Some file → IsFound file
       found-is found file there f g =
           let w = some-is _ there in
           let at = line_link w.0 w.1 in
-          let found_here : get (links_from 2 m.lines) (dir.0, name) ≡ Some file = sym (f ∙ ap (λ (n : List ℕ). get (links_from 2 m.lines) (dir.0, n)) e') ∙ g in
+          let found_here : get (links_from 2 m.lines) (dir.0, name) ≡ Some file = sym (f ∙ ap (λ (n : List ℕ). get (links_from 2 m.lines) (dir.0, n)) e) ∙ g in
           let same : w.0 ≡ file = let x = at.0 in cc (x, found_here) in
           let r = line_of_link m.lines 2 dir.0 name file found_here in
           let within = slice_get_within m.lines r.place r.line r.here in
@@ -151,13 +144,13 @@ module _ (m : Manifest) (made : FinMap nat_cmp MadeFile) (added : FinMap link_cm
             fits = omega (arith, counted, kids, all, few);
           }
 
-      pub remove_line-step : (file : FileId) (added' : FinMap link_cmp FileId) (gone' : ℕ → Bool) (lost' : ℕ → ℕ) → IsFound file → added' ≡ remove added (dir.0, bytes) →
+      pub remove_line-step : (file : FileId) (added' : FinMap link_cmp FileId) (gone' : ℕ → Bool) (lost' : ℕ → ℕ) → IsFound file → added' ≡ remove added (dir.0, name) →
           ((q : ℕ) → gone' q ≡ ((q == file.0) || gone q)) → ((q : ℕ) → lost' q ≡ (if q == dir.0 then lost q + 1 else lost q)) →
           IsOverlay m made added' gone' lost' next × (tree_over m made added' gone' next ≡ removed self dir name)
       remove_line-step file added' gone' lost' at a one_more counted =
-          let a' = a ∙ removed_nothing link_cmp_total link_cmp-same added (dir.0, bytes) none in
+          let a' = a ∙ removed_nothing link_cmp_total link_cmp-same added (dir.0, name) none in
           let full = not_full_here file (ap (λ (t : Tree). child_of t dir name) view ∙ at.child) in
           rw a' (
-            remove-IsOverlay m made added gone lost next is dir name file at.here none_here at.left full gone' lost' one_more counted,
-            tree_over-removed m made added gone lost next is dir name file at.here none_here at.left full gone' lost' one_more counted ∙ ap (λ (t : Tree). removed t dir name) view,
+            remove-IsOverlay m made added gone lost next is dir name file at.here none at.left full gone' lost' one_more counted,
+            tree_over-removed m made added gone lost next is dir name file at.here none at.left full gone' lost' one_more counted ∙ ap (λ (t : Tree). removed t dir name) view,
           )

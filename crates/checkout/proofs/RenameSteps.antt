@@ -1,12 +1,11 @@
 -- What `rename` leaves of a tree, in the words of its callees.
-use Rattle.std.proofs.Common.{◌≡◌, ◌≢◌, ℕ, ◌==◌, ◌||◌, Bool, true, false, List, Some, None, IfSome, refl, sym, ap, subst, ◌∙◌}
+use Rattle.std.proofs.Common.{◌≡◌, ◌≢◌, ℕ, ◌||◌, Bool, true, false, List, Option, Some, None, IfSome, refl, sym, ap, subst, ◌∙◌}
 use Rattle.std.specs.FinMap.{FinMap, get, insert, remove}
 use Rattle.std.specs.Ordering.{nat_cmp}
 use Rattle.eden_base.specs.Name.{IsNameText}
 use Rattle.eden_base.specs.declared.attr.Kind.TheVariants.{Dir}
 use Rattle.eden_base.specs.declared.number.FileId.{FileId}
 use Rattle.checkout.specs.declared.made.MadeFile.{MadeFile}
-use Rattle.checkout.specs.BadChanges.{file_does}
 use Rattle.checkout.specs.ChangedTree.{is_full_dir, is_unlinked}
 use Rattle.checkout.specs.Laying.{AreTaken}
 use Rattle.checkout.specs.Overlay.{tree_over, IsOverlay}
@@ -15,6 +14,7 @@ use Rattle.checkout.specs.UnlinkedFiles.{UnlinkedFiles, is_gone}
 use Rattle.manifest.specs.Manifest.{Manifest}
 use Rattle.manifest.specs.Tally.{Tally, count_of}
 use Rattle.manifest.specs.Tree.{Tree, link_cmp, child_of, kind_of, links_from}
+use Rattle.checkout.proofs.LosingPlaces.{goes_first, goes_next, goes_with}
 use Rattle.checkout.proofs.OverlayLaws.{child_added}
 use Rattle.checkout.proofs.OverlayRename.{is_file, rename-IsOverlay, tree_over-renamed}
 use Rattle.checkout.proofs.RenameLaws.{not_full-from_replaced, renamed-IsTree}
@@ -31,29 +31,27 @@ module _ (m : Manifest) (made : FinMap nat_cmp MadeFile) (added : FinMap link_cm
   here = ap (λ (t : Tree). child_of t dir name) view ∙ child
 
   -- an added link under the old name gives the file, and no other does
-  pub added_is : (bytes : List ℕ) → bytes ≡ name → IfSome (get added (dir.0, bytes)) (λ other. other ≡ file)
-  added_is bytes e =
-      elim (get added (dir.0, bytes)) as (λ o. get added (dir.0, bytes) ≡ o → IfSome o (λ other. other ≡ file)) [
+  pub added_is : IfSome (get added (dir.0, name)) (λ other. other ≡ file)
+  added_is =
+      elim (get added (dir.0, name)) as (λ o. get added (dir.0, name) ≡ o → IfSome o (λ other. other ≡ file)) [
         | None ↦ λ _. tt
         | Some other ↦ λ k.
-            let there = child_added m made added gone lost next is.parts dir name other (sym (ap (λ (n : List ℕ). get added (dir.0, n)) e) ∙ k) in
+            let there = child_added m made added gone lost next is.parts dir name other k in
             let at = here in
             let same : other ≡ file = cc (there, at) in
             same
       ] refl
 
-  pub added_once : (bytes : List ℕ) → bytes ≡ name → (d : FileId) (n : List ℕ) → get added (d.0, n) ≡ Some file → (d ≡ dir) × (n ≡ bytes)
-  added_once bytes e d n k =
-      let at = is.is_tree.links_are_apart d dir n name file (child_added m made added gone lost next is.parts d n file k) here in
-      (at.0, at.1 ∙ sym e)
+  pub added_once : (d : FileId) (n : List ℕ) → get added (d.0, n) ≡ Some file → (d ≡ dir) × (n ≡ name)
+  added_once d n k = is.is_tree.links_are_apart d dir n name file (child_added m made added gone lost next is.parts d n file k) here
 
   module _ (other : child_of self to_dir to_name ≢ child_of self dir name) where
     other_here : child_of tree to_dir to_name ≡ Some file → ⊥
     other_here at = other (sym (ap (λ (t : Tree). child_of t to_dir to_name) view) ∙ at ∙ sym child)
 
     -- the new name doesn't give it
-    pub added_not : (bytes : List ℕ) → bytes ≡ to_name → get added (to_dir.0, bytes) ≡ Some file → ⊥
-    added_not bytes e k = other_here (child_added m made added gone lost next is.parts to_dir to_name file (sym (ap (λ (n : List ℕ). get added (to_dir.0, n)) e) ∙ k))
+    pub added_not : get added (to_dir.0, to_name) ≡ Some file → ⊥
+    added_not k = other_here (child_added m made added gone lost next is.parts to_dir to_name file k)
 
     module _ (fits : IfSome (child_of self dir name) (λ f. IfSome (child_of self to_dir to_name) (λ replaced. can_replace self f replaced ≡ true)))
         (not_above : IfSome (child_of self dir name) (λ f. IsAtOrAbove self f to_dir → ⊥))
@@ -70,18 +68,19 @@ module _ (m : Manifest) (made : FinMap nat_cmp MadeFile) (added : FinMap link_cm
           let none : IsAtOrAbove self file to_dir → ⊥ = subst (λ o. IfSome o (λ f. IsAtOrAbove self f to_dir → ⊥)) child not_above in
           none (subst (λ (t : Tree). IsAtOrAbove t file to_dir) view at)
 
-      pub rename-step : (added' : FinMap link_cmp FileId) (gone₁ gone₂ : UnlinkedFiles) (lost₂ : Tally) (bytes bytes₂ bytes₃ bytes₄ : List ℕ) → bytes ≡ name → bytes₂ ≡ to_name → bytes₃ ≡ name → bytes₄ ≡ to_name → IsNameText to_name →
-          added' ≡ insert (remove added (dir.0, bytes)) (to_dir.0, bytes₂) file →
-          ((q : ℕ) → is_gone gone₁ q ≡ (file_does (λ f. q == f.0) (get base (dir.0, bytes₃)) || gone q)) →
-          ((q : ℕ) → is_gone gone₂ q ≡ (file_does (λ f. q == f.0) (get base (to_dir.0, bytes₄)) || is_gone gone₁ q)) →
+      pub rename-step : (added' : FinMap link_cmp FileId) (gone₁ gone₂ : UnlinkedFiles) (lost₂ : Tally) → IsNameText to_name → added' ≡ insert (remove added (dir.0, name)) (to_dir.0, to_name) file →
+          ((q : ℕ) → is_gone gone₁ q ≡ (goes_with m (Some file) q || gone q)) →
+          (replaced : Option FileId) (there : child_of self to_dir to_name ≡ replaced) →
+          ((q : ℕ) → is_gone gone₂ q ≡ (goes_with m replaced q || is_gone gone₁ q)) →
           AreTaken m gone₂ lost₂ →
           IsOverlay m made added' (is_gone gone₂) (count_of lost₂) next × (tree_over m made added' (is_gone gone₂) next ≡ renamed self dir name to_dir to_name)
-      rename-step added' gone₁ gone₂ lost₂ bytes bytes₂ bytes₃ bytes₄ e e₂ e₃ e₄ is_name a g₁ g₂ taken =
-          let a' : added' ≡ insert (remove added (dir.0, name)) (to_dir.0, to_name) file = a ∙ ap (λ (n : List ℕ). insert (remove added (dir.0, n)) (to_dir.0, bytes₂) file) e ∙ ap (λ (n : List ℕ). insert (remove added (dir.0, name)) (to_dir.0, n) file) e₂ in
+      rename-step added' gone₁ gone₂ lost₂ is_name a g₁ replaced there g₂ taken =
+          let first = goes_first m made added gone lost next is self view dir name (Some file) child (is_gone gone₁) g₁ in
+          let second = goes_next m made added gone lost next is self view to_dir to_name replaced there (goes_with m (Some file)) (is_gone gone₁) (is_gone gone₂) g₁ g₂ in
           let goes : (q : ℕ) → is_gone gone₂ q ≡ (is_file base (to_dir.0, to_name) q || (is_file base (dir.0, name) q || gone q)) =
-          λ q. g₂ q ∙ ap (λ (n : List ℕ). is_file base (to_dir.0, n) q || is_gone gone₁ q) e₄ ∙ ap (λ b. is_file base (to_dir.0, to_name) q || b) (g₁ q ∙ ap (λ (n : List ℕ). is_file base (dir.0, n) q || gone q) e₃) in
+          λ q. second q ∙ ap (λ b. is_file base (to_dir.0, to_name) q || b) (first q) in
           let tree_is = renamed-IsTree tree dir name to_dir to_name file here is.is_tree fits_here (ap (λ (t : Tree). kind_of t to_dir) view ∙ is_dir) (ap (λ (t : Tree). is_unlinked t to_dir) view ∙ is_reached) other_here not_above_here is_name in
-          rw a' (
+          rw a (
             rename-IsOverlay m made added gone lost next is dir name to_dir to_name file here (is_gone gone₂) goes (count_of lost₂) taken.are_lines taken.counted tree_is,
             tree_over-renamed m made added gone lost next is dir name to_dir to_name file here (is_gone gone₂) goes ∙ ap (λ (t : Tree). renamed t dir name to_dir to_name) view,
           )

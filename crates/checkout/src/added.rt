@@ -81,7 +81,7 @@ impl Added {
         ensures err { OnErr result (self.new ≡ self.old) }
     {
         self.dirs.insert(file.0, dir)?;
-        let Ok(()) = self.links.insert(alloc, dir, name, file) else {
+        let Ok(_) = self.links.insert(alloc, dir, name, file) else {
             self.dirs.remove(&file.0);
             return Err(NoMemory);
         };
@@ -116,11 +116,11 @@ impl Added {
         requires apart { (dir ≡ to_dir) → name.now ≢ to_name.now }
         ensures ok { OnOk result (self.new
             ≡ insert (remove self.old (dir.0, name.now)) (to_dir.0, to_name.now) file) }
+        ensures name { OnOk result (IsNameText to_name.now) }
         ensures err { OnErr result (self.new ≡ self.old) }
     {
-        let replaced = self.links.get(to_dir, to_name);
         self.dirs.reserve(1)?;
-        self.links.insert(alloc, to_dir, to_name, file)?;
+        let replaced = self.links.insert(alloc, to_dir, to_name, file)?;
         self.links.remove(dir, name);
         let Ok(_) = self.dirs.insert(file.0, to_dir) else {
             unreachable!()

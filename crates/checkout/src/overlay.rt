@@ -1,7 +1,7 @@
 //! What the parts of a tree say of its names: the manifest, the added links, and what is gone of the manifest's. The
 //! parts may not make a tree yet.
-ghost use Rattle.std.specs.Prelude.{◌≡◌, ◌==◌, ◌&&◌, ◌||◌, ℕ, filter, nat_lt, not};
-ghost use Rattle.std.specs.FinMap.{entries, get};
+ghost use Rattle.std.specs.Prelude.{◌≡◌, ◌==◌, ◌&&◌, ◌||◌, ℕ, filter, is_some, nat_lt, not};
+ghost use Rattle.std.specs.FinMap.{entries};
 ghost use Rattle.std.specs.List.{list_any};
 ghost use Rattle.checkout.specs.Added.{gives};
 ghost use Rattle.checkout.specs.Around.{links_now, AreBeside, IsDirAbove};
@@ -10,7 +10,7 @@ ghost use Rattle.checkout.specs.Laying.{AreTaken};
 ghost use Rattle.checkout.specs.Listing.{differs};
 ghost use Rattle.checkout.specs.UnlinkedFiles.{is_gone};
 ghost use Rattle.checkout.specs.Overlay.{is_line};
-ghost use Rattle.manifest.specs.Manifest.{kids_in};
+ghost use Rattle.manifest.specs.Manifest.{kids_in, line_of};
 ghost use Rattle.manifest.specs.Tally.{count_of};
 ghost use Rattle.manifest.specs.Tree.{links_from};
 
@@ -69,28 +69,26 @@ pub fn dir_above(
     Some(line.dir)
 }
 
-/// Records in `gone` and `lost` that the manifest's link under `name` in `dir` is gone. Does nothing if there is no
-/// such link, or if it is gone already. Takes no memory.
-pub fn lose(
-    manifest: &Manifest,
-    gone: &mut UnlinkedFiles,
-    lost: &mut Tally,
-    dir: FileId,
-    name: &[u8],
-)
+/// Records in `gone` and `lost` that the manifest's link to `target` is gone. Does nothing if there is no target, if
+/// the manifest has no link to it, or if this link is gone already. Takes no memory.
+pub fn lose(manifest: &Manifest, gone: &mut UnlinkedFiles, lost: &mut Tally, target: Option<FileId>)
     requires so_far { AreTaken manifest.now gone.old lost.old }
     ensures gone { (q : ℕ) → is_gone gone.new q
-        ≡ (file_does (λ file. q == file.0) (get (links_from 2 manifest.now.lines) (dir.0, name.now)) || is_gone gone.old q) }
+        ≡ (file_does (λ file. is_some (line_of manifest.now.lines file) && (q == file.0)) target
+        || is_gone gone.old q) }
     ensures now { AreTaken manifest.now gone.new lost.new }
 {
-    let Some(target) = manifest.child(dir, name) else {
+    let Some(target) = target else {
+        return;
+    };
+    let Some(line) = line_of(manifest.lines(), target) else {
         return;
     };
     if gone.has(target) {
         return;
     }
     gone.add(target);
-    lost.raise(dir.0);
+    lost.raise(line.dir.0);
 }
 
 /// Returns whether the target of `link` is another than the manifest has at this place; either may be none.

@@ -356,8 +356,8 @@ impl Tree {
         self.added
             .rename(self.alloc, dir, name, to_dir, to_name, file)?;
         let (gone, lost) = (&mut self.gone, &mut self.lost);
-        overlay::lose(&self.manifest, gone, lost, dir, name.bytes());
-        overlay::lose(&self.manifest, gone, lost, to_dir, to_name.bytes());
+        overlay::lose(&self.manifest, gone, lost, Some(file));
+        overlay::lose(&self.manifest, gone, lost, replaced);
         Ok(replaced)
     }
 }

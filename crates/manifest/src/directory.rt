@@ -1,5 +1,5 @@
 //! The names in one directory, and the file to which each of them leads.
-ghost use Rattle.std.specs.Prelude.{◌≡◌, ◌↔◌, ◌++◌, map, IsTrue, OnOk, OnErr};
+ghost use Rattle.std.specs.Prelude.{◌≡◌, ◌↔◌, ◌++◌, map, IfOk, IsTrue, OnOk, OnErr};
 ghost use Rattle.std.specs.Ordering.{nat_cmp};
 ghost use Rattle.std.specs.Cmp.Lexicographic.{slice_cmp};
 ghost use Rattle.std.specs.FinMap.{FinMap, empty, entries, get, insert, remove};
@@ -81,15 +81,21 @@ impl Directory {
         Ok(())
     }
 
-    /// Makes `name` lead to `file`.
-    pub fn insert(&mut self, alloc: Global, name: &Name, file: FileId) -> Result<(), NoMemory>
+    /// Makes `name` lead to `file`, and returns the file to which it led before, if any.
+    pub fn insert(
+        &mut self,
+        alloc: Global,
+        name: &Name,
+        file: FileId,
+    ) -> Result<Option<FileId>, NoMemory>
         ensures ok { OnOk result (self.new ≡ insert self.old name.now file) }
+        ensures before { IfOk result (λ before. before ≡ get self.old name.now) }
         ensures name { OnOk result (IsNameText name.now) }
         ensures err { OnErr result (self.new ≡ self.old) }
     {
         let name = Name::of(alloc, name.bytes())?;
-        self.files.insert(name, file)?;
-        Ok(())
+        let before = self.files.insert(name, file)?;
+        Ok(before)
     }
 
     /// Removes `name`, and returns the file to which it led, if any. Takes no memory.

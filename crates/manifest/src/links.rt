@@ -1,5 +1,5 @@
 //! The names in every directory, and the file to which each of them leads.
-ghost use Rattle.std.specs.Prelude.{◌≡◌, ◌==◌, ◌++◌, map, OnOk, OnErr};
+ghost use Rattle.std.specs.Prelude.{◌≡◌, ◌==◌, ◌++◌, map, IfOk, OnOk, OnErr};
 ghost use Rattle.std.specs.FinMap.{FinMap, empty, entries, get, insert, remove};
 ghost use Rattle.std.specs.List.{list_any};
 ghost use Rattle.std.specs.List.Sorted.{IsPermutation};
@@ -83,15 +83,16 @@ impl Links {
         Ok(())
     }
 
-    /// Makes a name in a directory lead to `file`.
+    /// Makes a name in a directory lead to `file`, and returns the file to which it led before, if any.
     pub fn insert(
         &mut self,
         alloc: Global,
         dir: FileId,
         name: &Name,
         file: FileId,
-    ) -> Result<(), NoMemory>
+    ) -> Result<Option<FileId>, NoMemory>
         ensures ok { OnOk result (self.new ≡ insert self.old (dir.0, name.now) file) }
+        ensures before { IfOk result (λ before. before ≡ get self.old (dir.0, name.now)) }
         ensures name { OnOk result (IsNameText name.now) }
         ensures err { OnErr result (self.new ≡ self.old) }
     {

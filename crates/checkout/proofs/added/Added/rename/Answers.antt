@@ -13,7 +13,7 @@ pub returns-in_default-replaced-clause-ok : goal.returns-in_default-replaced-cla
 returns-in_default-replaced-clause-ok c =
     let from : ℕ × List ℕ = (c.args.dir.0, c.args.name.now) in
     let to : ℕ × List ℕ = (c.args.to_dir.0, c.args.to_name.now) in
-    c.remove.ensures.links ∙ ap (λ links. remove links from) c.in_ok-insert.ensures.ok
+    c.remove.ensures.links ∙ ap (λ links. remove links from) c.in_ok-replaced.ensures.ok
     ∙ insert-remove c.self.inside.links from to c.args.file (λ same. c.requires.apart (λ i. record { 0 = (same i).0 }) (λ i. (same i).1))
     ∙ ap (λ links. insert (remove links from) to c.args.file) c.self.view_is
 
@@ -21,7 +21,7 @@ pub returns-in-Some-clause-ok : goal.returns-in-Some-clause-ok
 returns-in-Some-clause-ok c =
     let from : ℕ × List ℕ = (c.args.dir.0, c.args.name.now) in
     let to : ℕ × List ℕ = (c.args.to_dir.0, c.args.to_name.now) in
-    c.remove.ensures.links ∙ ap (λ links. remove links from) c.in_ok-insert.ensures.ok
+    c.remove.ensures.links ∙ ap (λ links. remove links from) c.in_ok-replaced.ensures.ok
     ∙ insert-remove c.self.inside.links from to c.args.file (λ same. c.requires.apart (λ i. record { 0 = (same i).0 }) (λ i. (same i).1))
     ∙ ap (λ links. insert (remove links from) to c.args.file) c.self.view_is
 
@@ -34,7 +34,7 @@ invariant_of-self-in_default-replaced c =
     let once = subst (λ links. (d : FileId) (n : List ℕ) → get links (d.0, n) ≡ Some c.args.file → (d ≡ c.args.dir) × (n ≡ c.args.name.now)) (sym c.self.view_is) c.requires.once in
     let other = subst (λ links. get links (c.args.to_dir.0, c.args.to_name.now) ≡ Some c.args.file → ⊥) (sym c.self.view_is) c.requires.other in
     let comes = λ (q : ℕ). at_id given (dir_at nat_eq c.reserve.new.self) c.args.file.0 (Some c.args.to_dir) c.in-Ok.ensures.updates.0 q ∙ ap (cond (eq_by_cmp nat_cmp c.args.file.0 q) (Some c.args.to_dir)) (c.in_ok-reserve.ensures.entries.2 q) in
-    let none = sym c.get-replaced.ensures ∙ c.in_default-replaced.is in
+    let none = sym c.in_ok-replaced.ensures.before ∙ c.in_default-replaced.is in
     let now = came-AreDirsOf i.links dirs given c.self.invariant c.args.dir c.args.name.now c.args.to_dir c.args.to_name.now c.args.file there once other comes none in
     let is = returns-in_default-replaced-clause-ok c ∙ ap (λ links. insert (remove links (c.args.dir.0, c.args.name.now)) (c.args.to_dir.0, c.args.to_name.now) c.args.file) (sym c.self.view_is) in
     subst (λ links. AreDirsOf links given) (sym is) now
@@ -49,7 +49,7 @@ invariant_of-self-in-Some c =
     let once = subst (λ links. (d : FileId) (n : List ℕ) → get links (d.0, n) ≡ Some c.args.file → (d ≡ c.args.dir) × (n ≡ c.args.name.now)) (sym c.self.view_is) c.requires.once in
     let other = subst (λ links. get links (c.args.to_dir.0, c.args.to_name.now) ≡ Some c.args.file → ⊥) (sym c.self.view_is) c.requires.other in
     let comes = λ (q : ℕ). at_id given (dir_at nat_eq c.reserve.new.self) c.args.file.0 (Some c.args.to_dir) c.in-Ok.ensures.updates.0 q ∙ ap (cond (eq_by_cmp nat_cmp c.args.file.0 q) (Some c.args.to_dir)) (c.in_ok-reserve.ensures.entries.2 q) in
-    let at = sym c.get-replaced.ensures ∙ c.in-Some.is in
+    let at = sym c.in_ok-replaced.ensures.before ∙ c.in-Some.is in
     let goes = at_id left given c.in-Some.other.0 None c.remove-in-Some.ensures.updates.0 in
     let now = replaced-AreDirsOf i.links dirs given c.self.invariant c.args.dir c.args.name.now c.args.to_dir c.args.to_name.now c.args.file there once other comes c.in-Some.other left at goes in
     let is = returns-in-Some-clause-ok c ∙ ap (λ links. insert (remove links (c.args.dir.0, c.args.name.now)) (c.args.to_dir.0, c.args.to_name.now) c.args.file) (sym c.self.view_is) in

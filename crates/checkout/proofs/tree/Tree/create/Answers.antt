@@ -11,7 +11,7 @@ use Rattle.checkout.proofs.tree.Tree.create.Goals as goal
 pub insert-requires-clause-free : goal.insert-requires-clause-free
 insert-requires-clause-free c =
     let i = c.self.inside in
-    none_there i.manifest i.made i.added (is_gone i.gone) (count_of i.lost) i.next_file c.self.invariant.0 _ c.self.view_is c.args.dir c.args.name.now c.requires.free _ refl
+    none_there i.manifest i.made i.added (is_gone i.gone) (count_of i.lost) i.next_file c.self.invariant.0 _ c.self.view_is c.args.dir c.args.name.now c.requires.free
 
 pub insert-requires-clause-new : goal.insert-requires-clause-new
 insert-requires-clause-new c =
@@ -21,36 +21,36 @@ insert-requires-clause-new c =
 pub invariant_of-self-in_default-insert : goal.invariant_of-self-in_default-insert
 invariant_of-self-in_default-insert c =
     let i = c.self.inside in
-    let same = undone i.manifest i.made i.added (is_gone i.gone) (count_of i.lost) i.next_file c.self.invariant.0 _ c.self.view_is c.args.dir c.args.name.now c.requires.free _ _ _ _ _ refl refl c.in-Ok.ensures.ok c.remove.ensures.links in
+    let same = undone i.manifest i.made i.added (is_gone i.gone) (count_of i.lost) i.next_file c.self.invariant.0 _ c.self.view_is c.args.dir c.args.name.now c.requires.free _ _ _ c.in-Ok.ensures.ok c.remove.ensures.links in
     rw (same, c.in_default-insert.ensures.err) c.self.invariant
 
 pub returns-in_default-insert-clause-unchanged : goal.returns-in_default-insert-clause-unchanged
 returns-in_default-insert-clause-unchanged c =
     let i = c.self.inside in
-    let same = undone i.manifest i.made i.added (is_gone i.gone) (count_of i.lost) i.next_file c.self.invariant.0 _ c.self.view_is c.args.dir c.args.name.now c.requires.free _ _ _ _ _ refl refl c.in-Ok.ensures.ok c.remove.ensures.links in
+    let same = undone i.manifest i.made i.added (is_gone i.gone) (count_of i.lost) i.next_file c.self.invariant.0 _ c.self.view_is c.args.dir c.args.name.now c.requires.free _ _ _ c.in-Ok.ensures.ok c.remove.ensures.links in
     rw (same, c.in_default-insert.ensures.err) c.self.view_is
 
 pub returns-in_default-insert-clause-is_tree : goal.returns-in_default-insert-clause-is_tree
 returns-in_default-insert-clause-is_tree c =
     let i = c.self.inside in
-    let same = undone i.manifest i.made i.added (is_gone i.gone) (count_of i.lost) i.next_file c.self.invariant.0 _ c.self.view_is c.args.dir c.args.name.now c.requires.free _ _ _ _ _ refl refl c.in-Ok.ensures.ok c.remove.ensures.links in
+    let same = undone i.manifest i.made i.added (is_gone i.gone) (count_of i.lost) i.next_file c.self.invariant.0 _ c.self.view_is c.args.dir c.args.name.now c.requires.free _ _ _ c.in-Ok.ensures.ok c.remove.ensures.links in
     rw (same, c.in_default-insert.ensures.err) c.self.invariant.0.is_tree
 
 pub invariant_of-self-2 : goal.invariant_of-self-2
 invariant_of-self-2 c =
     let i = c.self.inside in
-    let made = create-step i.manifest i.made i.added (is_gone i.gone) (count_of i.lost) i.next_file c.self.invariant.0 _ c.self.view_is c.args.dir c.args.name.now c.requires.free c.args.kind c.args.perm _ _ _ c.requires.dir c.requires.reached c.in-Ok.ensures.name c.if-self-ge-END_OF_FILES.false refl c.in-Ok-insert.ensures.ok c.in-Ok.ensures.ok in
+    let made = create-step i.manifest i.made i.added (is_gone i.gone) (count_of i.lost) i.next_file c.self.invariant.0 _ c.self.view_is c.args.dir c.args.name.now c.requires.free c.args.kind c.args.perm _ _ c.requires.dir c.requires.reached c.in-Ok.ensures.name c.if-self-ge-END_OF_FILES.false c.in-Ok-insert.ensures.ok c.in-Ok.ensures.ok in
     (made.0, c.self.invariant.1, c.self.invariant.2)
 
 pub returns-clause-created : goal.returns-clause-created
 returns-clause-created c =
     let i = c.self.inside in
-    (create-step i.manifest i.made i.added (is_gone i.gone) (count_of i.lost) i.next_file c.self.invariant.0 _ c.self.view_is c.args.dir c.args.name.now c.requires.free c.args.kind c.args.perm _ _ _ c.requires.dir c.requires.reached c.in-Ok.ensures.name c.if-self-ge-END_OF_FILES.false refl c.in-Ok-insert.ensures.ok c.in-Ok.ensures.ok).1
+    (create-step i.manifest i.made i.added (is_gone i.gone) (count_of i.lost) i.next_file c.self.invariant.0 _ c.self.view_is c.args.dir c.args.name.now c.requires.free c.args.kind c.args.perm _ _ c.requires.dir c.requires.reached c.in-Ok.ensures.name c.if-self-ge-END_OF_FILES.false c.in-Ok-insert.ensures.ok c.in-Ok.ensures.ok).1
 
 pub returns-clause-is_tree : goal.returns-clause-is_tree
 returns-clause-is_tree c =
     let i = c.self.inside in
-    (create-step i.manifest i.made i.added (is_gone i.gone) (count_of i.lost) i.next_file c.self.invariant.0 _ c.self.view_is c.args.dir c.args.name.now c.requires.free c.args.kind c.args.perm _ _ _ c.requires.dir c.requires.reached c.in-Ok.ensures.name c.if-self-ge-END_OF_FILES.false refl c.in-Ok-insert.ensures.ok c.in-Ok.ensures.ok).0.is_tree
+    (create-step i.manifest i.made i.added (is_gone i.gone) (count_of i.lost) i.next_file c.self.invariant.0 _ c.self.view_is c.args.dir c.args.name.now c.requires.free c.args.kind c.args.perm _ _ c.requires.dir c.requires.reached c.in-Ok.ensures.name c.if-self-ge-END_OF_FILES.false c.in-Ok-insert.ensures.ok c.in-Ok.ensures.ok).0.is_tree
 
 pub returns-clause-attr : goal.returns-clause-attr
 returns-clause-attr c =

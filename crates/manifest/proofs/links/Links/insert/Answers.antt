@@ -1,11 +1,11 @@
 -- A name that is inserted into its directory is inserted into all links.
-use Rattle.std.proofs.Common.{◌≡◌, nat_eq, OnOk, OnErr, Some, cond, ap, ◌∙◌, unwrap_or, arith}
-use Rattle.std.specs.FinMap.{from_entries, insert}
+use Rattle.std.proofs.Common.{◌≡◌, nat_eq, IfOk, sym, OnOk, OnErr, Some, cond, ap, ◌∙◌, unwrap_or, arith}
+use Rattle.std.specs.FinMap.{from_entries, get, insert}
 use Rattle.std.specs.HashMap.Entry.{map_with_value}
 use Rattle.std.specs.Map.{lookup}
-use Rattle.std.proofs.lemmas.Result.{on_ok_weaker, on_err_weaker}
+use Rattle.std.proofs.lemmas.Result.{on_ok_weaker, on_err_weaker, IfOk-weaker}
 use Rattle.manifest.specs.Flat.{in_directories}
-use Rattle.manifest.proofs.FlatLemmas.{insert-in_directories}
+use Rattle.manifest.proofs.FlatLemmas.{get-in_directories, insert-in_directories}
 use Rattle.manifest.proofs.OpenedDirectories.{opened-in_it, same-in_directories}
 use Rattle.manifest.proofs.links.Links.insert.Goals as goal
 
@@ -37,4 +37,16 @@ returns-clause-err c =
     rw (← c.self.view_is) (same-in_directories m n c.args.dir.0 opened c.self.invariant (entry.update.2 new)
     (λ x. opened-in_it c.args.dir.0 x (lookup (nat_eq c.args.dir.0) m) c.new-none.result opened c.new-none.ensures is)
     (λ d. (entry.update.0 new).0 d ∙ ap (λ i. cond (nat_eq c.args.dir.0 d) (Some i) (lookup (nat_eq d) m)) e))) c.insert.ensures.err in
+    grind (arith, all)
+
+pub returns-clause-before : goal.returns-clause-before
+returns-clause-before c =
+    let m = c.self.inside.directories.entries in
+    let entry = c.in_ok-self-inside.ensures in
+    let opened = c.or_insert-directory.result.now in
+    let is = c.or_insert-directory.ensures.value ∙ ap (λ o. unwrap_or o c.new-none.result) entry.value in
+    let here : get opened c.args.name.now ≡ get c.args.self.now (c.args.dir.0, c.args.name.now) =
+    rw (← c.self.view_is) (sym (get-in_directories c.args.dir.0 c.args.name.now m c.self.invariant ∙ opened-in_it c.args.dir.0 c.args.name.now (lookup (nat_eq c.args.dir.0) m) c.new-none.result opened c.new-none.ensures is)) in
+    let all : IfOk c.insert.result (λ before. before ≡ get c.args.self.now (c.args.dir.0, c.args.name.now)) =
+    IfOk-weaker c.insert.result _ _ (λ before e. e ∙ here) c.insert.ensures.before in
     grind (arith, all)
