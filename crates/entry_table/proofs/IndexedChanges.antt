@@ -7,10 +7,10 @@ use Rattle.eden_base.proofs.NumberTests.{eq-true, true-eq}
 use Rattle.eden_base.specs.declared.number.Number.{Number}
 use Rattle.eden_base.specs.declared.place.Place.{Place}
 use Rattle.eden_base.specs.declared.place.Place.TheVariants.{Linked}
-use Rattle.entry_table.proofs.IndexedLemmas.{latest-link}
+use Rattle.entry_table.proofs.IndexedLemmas.{latest-link, latest-is}
 use Rattle.entry_table.proofs.Standing.{Loses, link-same, link-alike, one-place, none-stands, lost-stood, left-stood, stood-either, added-loses}
 use Rattle.entry_table.specs.Entries.{entry_of, entry_at, is_in}
-use Rattle.entry_table.specs.Links.{key_of, is_link, at_key, is_taken, written, counted, one_in, is_latest, of_latest, is_ready, Files}
+use Rattle.entry_table.specs.Links.{key_of, is_link, at_key, is_taken, written, counted, one_in, is_latest, of_latest, is_ready, Files, AreWithout}
 use Rattle.entry_table.specs.Slots.{Stands, IsFiled, IsIndexed, IsLinkOf, IsKeyOf, kid_in, kids_of}
 use Rattle.entry_table.specs.declared.index.Index.{Index}
 use Rattle.entry_table.specs.declared.index.Link.{Link}
@@ -64,6 +64,13 @@ module _ {more es : List Kept} {own : ℕ} {x : Kept} (gains : Loses more es own
   latest_in : (l : Link) → Some link ≡ Some l → IsLinkOf more l
   latest_in l e = let same : link ≡ l = cc in subst (λ (k : Link). IsLinkOf more k) same (name, lost-stood gains parent name place, refl)
 
+  -- what stood elsewhere is not the own number
+  without_in : (m : ℕ) → own ≡ m → AreWithout index.maps m
+  without_in m same = record {
+    numbers = λ key e. let w = indexed.keyed key m e in (left-stood gains w.0 w.1 m w.2).0 (sym same);
+    others = λ dir q e. (left-stood gains dir q m (indexed.others dir q m e)).0 (sym same);
+  }
+
   counts_in : (dir : ℕ) → counted index.maps.counts dir + of_latest (Some link) dir ≡ kids_of dir more
   counts_in dir =
       let old : counted index.maps.counts dir + 0 ≡ kids_of dir es = ap (λ (o : Option Link). counted index.maps.counts dir + of_latest o dir) (sym ready) ∙ indexed.counts dir in
@@ -78,6 +85,8 @@ module _ {more es : List Kept} {own : ℕ} {x : Kept} (gains : Loses more es own
     keyed = λ key n e. let w = indexed.keyed key n e in (w.0, w.1, still w.0 w.1 n w.2, w.3);
     others = λ dir q n e. still dir q n (indexed.others dir q n e);
     latest = latest_in;
+    beside = λ m e. without_in m (true-eq own m e);
+    once = indexed.once;
     counts = counts_in;
   }
 
@@ -146,6 +155,24 @@ module _ (es : List Kept) (index : Index) (link : Link) (name : List ℕ) (maps 
       let it : link.number ≡ n = some_number link.number n (sym (files.others dir q ∙ (rw t refl)) ∙ e) in
       subst (λ (m : ℕ). Stands es dir q m) it (subst (λ (y : List ℕ). Stands es dir y link.number) (sym l.1) (subst (λ (d : ℕ). Stands es d name link.number) (sym l.0) stands))
 
+  -- it was in no map, so it is in one
+  without : AreWithout index.maps link.number
+  without = indexed.beside link.number (latest-is index.latest link link.number is refl)
+
+  once_in : (dir : ℕ) (q : List ℕ) (m : ℕ) → written maps.others dir q ≡ Some m → at_key maps.numbers (key_of dir q) ≡ Some m →
+      (b c : Bool) → (is_link dir q link.parent name && is_taken index.maps.numbers link.key) ≡ b → (key_of dir q == link.key && not (is_taken index.maps.numbers link.key)) ≡ c → ⊥
+  once_in dir q m e f false false s t = indexed.once dir q m (sym (files.others dir q ∙ (rw s refl)) ∙ e) (sym (files.numbers (key_of dir q) ∙ (rw t refl)) ∙ f)
+  once_in dir q m e f false true s t =
+      let it : link.number ≡ m = some_number link.number m (sym (files.numbers (key_of dir q) ∙ (rw t refl)) ∙ f) in
+      without.others dir q (sym (files.others dir q ∙ (rw s refl)) ∙ e ∙ ap Some (sym it))
+  once_in dir q m e f true false s t =
+      let it : link.number ≡ m = some_number link.number m (sym (files.others dir q ∙ (rw s refl)) ∙ e) in
+      without.numbers (key_of dir q) (sym (files.numbers (key_of dir q) ∙ (rw t refl)) ∙ f ∙ ap Some (sym it))
+  once_in dir q m e f true true s t =
+      let taken = (and_parts (is_link dir q link.parent name) (is_taken index.maps.numbers link.key) s).1 in
+      let free = (and_parts (key_of dir q == link.key) (not (is_taken index.maps.numbers link.key)) t).1 in
+      let no : ⊥ = cc in no
+
   counted_in : (dir : ℕ) → counted maps.counts dir + 0 ≡ kids_of dir es
   counted_in dir =
       let old : counted index.maps.counts dir + one_in dir link.parent ≡ kids_of dir es = ap (λ (o : Option Link). counted index.maps.counts dir + of_latest o dir) (sym is) ∙ indexed.counts dir in
@@ -159,5 +186,7 @@ module _ (es : List Kept) (index : Index) (link : Link) (name : List ℕ) (maps 
     keyed = λ k n e. keyed_in k n e (k == link.key && not (is_taken index.maps.numbers link.key)) refl;
     others = λ dir q n e. others_in dir q n e (is_link dir q link.parent name && is_taken index.maps.numbers link.key) refl;
     latest = λ l e. let no : ⊥ = cc in absurd no;
+    beside = λ m e. let no : ⊥ = cc in absurd no;
+    once = λ dir q m e f. once_in dir q m e f (is_link dir q link.parent name && is_taken index.maps.numbers link.key) (key_of dir q == link.key && not (is_taken index.maps.numbers link.key)) refl refl;
     counts = counted_in;
   }

@@ -76,6 +76,8 @@ indexed-same es left index to from kids is = record {
   keyed = λ key n e. let w = is.keyed key n e in (w.0, w.1, to w.0 w.1 n w.2, w.3);
   others = λ dir q n e. to dir q n (is.others dir q n e);
   latest = λ link e. let w = is.latest link e in (w.0, to link.parent w.0 link.number w.1, w.2);
+  beside = is.beside;
+  once = is.once;
   counts = λ dir. is.counts dir ∙ sym (kids dir);
 }
 
@@ -93,6 +95,9 @@ indexed-alike es old new alike same is = record {
   keyed = λ key n e. is.keyed key n (sym (alike.numbers key) ∙ e);
   others = λ dir q n e. is.others dir q n (sym (alike.others dir q) ∙ e);
   latest = λ link e. is.latest link (sym same ∙ e);
+  beside = λ n e. let w = is.beside n (sym (ap (λ (o : Option Link). is_latest o n) same) ∙ e) in
+      record { numbers = λ key f. w.numbers key (sym (alike.numbers key) ∙ f); others = λ dir q f. w.others dir q (sym (alike.others dir q) ∙ f) };
+  once = λ dir q n e f. is.once dir q n (sym (alike.others dir q) ∙ e) (sym (alike.numbers (key_of dir q)) ∙ f);
   counts = λ dir. (λ i. alike.counts dir i + of_latest (same i) dir) ∙ is.counts dir;
 } where
   in_ : (dir : ℕ) (q : List ℕ) (n : ℕ) → IsFiled old dir q n → IsFiled new dir q n
@@ -109,5 +114,7 @@ indexed-empty maps numbers others counts = record {
   keyed = λ key n e. let f = numbers key in let none : ⊥ = cc in absurd none;
   others = λ dir q n e. let f = others dir q in let none : ⊥ = cc in absurd none;
   latest = λ link e. let none : ⊥ = cc in absurd none;
+  beside = λ n e. let none : ⊥ = cc in absurd none;
+  once = λ dir q n e f. let g = others dir q in let none : ⊥ = cc in none;
   counts = λ dir. let c = counts dir in omega arith;
 }

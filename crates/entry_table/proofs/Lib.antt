@@ -7,6 +7,7 @@ pub mod FileLemmas
 pub mod Heights
 pub mod IndexLemmas
 pub mod IndexedChanges
+pub mod IndexedDrops
 pub mod IndexedLemmas
 pub mod IndexedLosses
 pub mod Kids

@@ -1,6 +1,6 @@
 -- The index of the linked entries. It has the number at the key of each place, the numbers of names whose key another
 -- place took, and how many names each directory has.
-use Rattle.std.specs.Prelude.{◌≡◌, ℕ, ◌+◌, ◌*◌, ◌-◌, ◌%◌, ◌^◌, ◌==◌, ◌&&◌, Bool, false, not, List, [], ◌∷◌, Option, Some, None, is_some, nat_eq, if◌then◌else◌}
+use Rattle.std.specs.Prelude.{◌≡◌, ℕ, ◌+◌, ◌-◌, ◌==◌, ◌&&◌, Bool, true, false, not, List, Option, Some, None, is_some, nat_eq, if◌then◌else◌}
 use Rattle.std.specs.Option.{option_and_then, option_map_or}
 use Rattle.std.specs.Ordering.{nat_cmp}
 use Rattle.std.specs.Cmp.Lexicographic.{pointwise, slice_cmp}
@@ -56,12 +56,19 @@ pub record Files (old new : Maps) (parent : ℕ) (name : List ℕ) (key n : ℕ)
       ≡ (if is_link dir q parent name && is_taken old.numbers key then Some n else written old.others dir q)
   pub counts : (dir : ℕ) → counted new.counts dir ≡ counted old.counts dir + one_in dir parent
 
--- `new` is `old` without number `n` for a place: the key is empty if it had `n`, and the name has no number
+-- `new` is `old` without number `n` for a place: the key is empty if it had `n`, else the name has no number; and with
+-- its name not counted
 pub record Drops (old new : Maps) (parent : ℕ) (name : List ℕ) (key n : ℕ) : Type 0 where
   pub numbers : (k : ℕ) → at_key new.numbers k
       ≡ (if k == key && is_at_key old.numbers key n then None else at_key old.numbers k)
   pub others : (dir : ℕ) (q : List ℕ) → written new.others dir q
-      ≡ (if is_link dir q parent name then None else written old.others dir q)
+      ≡ (if is_link dir q parent name && not (is_at_key old.numbers key n) then None else written old.others dir q)
+  pub counts : (dir : ℕ) → counted new.counts dir ≡ counted old.counts dir - one_in dir parent
+
+-- neither map has number `n`: it is at no key, and under no name
+pub record AreWithout (maps : Maps) (n : ℕ) : Type 0 where
+  pub numbers : (key : ℕ) → at_key maps.numbers key ≡ Some n → ⊥
+  pub others : (dir : ℕ) (name : List ℕ) → written maps.others dir name ≡ Some n → ⊥
 
 -- both maps give the same answers
 pub record AreAlike (old new : Maps) : Type 0 where
@@ -94,9 +101,9 @@ names_in index dir = counted index.maps.counts dir + of_latest index.latest dir
 abbrev pub is_ready : Index → Bool
 is_ready index = not (is_some index.latest)
 
--- `new` is the index `old` after the link of number `n` was removed
+-- `new` is the index `old` after the link of number `n` was removed: the link that was added last, or else one in the
+-- maps
 pub record Unlinks (old new : Index) (parent : ℕ) (name : List ℕ) (n : ℕ) : Type 0 where
-  pub maps : Drops old.maps new.maps parent name (key_of parent name) n
-  pub counts : (dir : ℕ) → counted new.maps.counts dir
-      ≡ (if is_latest old.latest n then counted old.maps.counts dir else counted old.maps.counts dir - one_in dir parent)
   pub latest : new.latest ≡ (if is_latest old.latest n then None else old.latest)
+  pub stays : is_latest old.latest n ≡ true → new.maps ≡ old.maps
+  pub drops : is_latest old.latest n ≡ false → Drops old.maps new.maps parent name (key_of parent name) n

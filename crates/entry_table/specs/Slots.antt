@@ -9,7 +9,7 @@ use Rattle.eden_base.specs.declared.number.FileId.{FileId}
 use Rattle.eden_base.specs.declared.number.Number.{Number}
 use Rattle.eden_base.specs.declared.place.Place.TheVariants.{Linked}
 use Rattle.entry_table.specs.Entries.{entry_of, is_kid_of}
-use Rattle.entry_table.specs.Links.{key_of, at_key, written, is_latest, names_in}
+use Rattle.entry_table.specs.Links.{key_of, at_key, written, is_latest, names_in, AreWithout}
 use Rattle.entry_table.specs.Table.{kept_of}
 use Rattle.entry_table.specs.declared.kept.Kept.{Kept}
 use Rattle.entry_table.specs.declared.kept.Entry.{Entry}
@@ -118,11 +118,14 @@ abbrev pub kids_of : ℕ → List Kept → ℕ
 kids_of dir [] = 0
 kids_of dir (kept ∷ entries) = kids_of dir entries + kid_in dir kept
 
--- the index has each linked entry and nothing else, counts those in each directory, and no two stand at one place
+-- the index has each linked entry once and nothing else, counts those in each directory, and no two stand at one place
 pub record IsIndexed (entries : List Kept) (index : Index) : Type 0 where
   pub apart : (dir : ℕ) (name : List ℕ) (n m : ℕ) → Stands entries dir name n → Stands entries dir name m → n ≡ m
   pub found : (dir : ℕ) (name : List ℕ) (n : ℕ) → Stands entries dir name n → IsFiled index dir name n
   pub keyed : (key n : ℕ) → at_key index.maps.numbers key ≡ Some n → IsKeyOf entries key n
   pub others : (dir : ℕ) (name : List ℕ) (n : ℕ) → written index.maps.others dir name ≡ Some n → Stands entries dir name n
   pub latest : (link : Link) → index.latest ≡ Some link → IsLinkOf entries link
+  pub beside : (n : ℕ) → is_latest index.latest n ≡ true → AreWithout index.maps n
+  pub once : (dir : ℕ) (name : List ℕ) (n : ℕ) → written index.maps.others dir name ≡ Some n →
+      at_key index.maps.numbers (key_of dir name) ≡ Some n → ⊥
   pub counts : (dir : ℕ) → names_in index dir ≡ kids_of dir entries

@@ -1,9 +1,9 @@
 //! The index of the linked entries: from a place to its number.
-ghost use Rattle.std.specs.Prelude.{◌≡◌, ℕ, ◌<◌, ◌^◌, ◌-◌, true, List, [], Some, None, IfOk, OnOk, nat_lt, length, if◌then◌else◌};
+ghost use Rattle.std.specs.Prelude.{◌≡◌, ℕ, ◌<◌, ◌^◌, true, List, [], Some, None, IfOk, OnOk, nat_lt, length};
 ghost use Rattle.std.specs.Option.{IfSome, IfNone};
 ghost use Rattle.entry_table.specs.Entries.{AreEntries, entry_at};
 ghost use Rattle.entry_table.specs.Slots.{kept_from, IsSlots, IsIndexed, Stands};
-ghost use Rattle.entry_table.specs.Links.{counted, key_of, one_in, latest_at, is_latest, is_latest_in, names_in, is_ready, Unlinks};
+ghost use Rattle.entry_table.specs.Links.{key_of, latest_at, is_latest, is_latest_in, names_in, is_ready, Unlinks};
 
 use crate::kept::Kept;
 use crate::maps::{Maps, key_of};
@@ -118,31 +118,17 @@ impl Index {
         });
     }
 
-    /// Removes the link of `number`, which stands under `name` in the directory `parent`.
+    /// Removes the link of `number`, which stands under `name` in the directory `parent`. The link that was added last
+    /// stands in no map.
     pub fn remove(&mut self, parent: u64, name: &Name, number: u64)
         ensures { Unlinks self.old self.new parent name.now number }
-    {
-        self.uncount(parent, number);
-        self.maps
-            .drop_link(parent, name, key_of(parent, name), number);
-    }
-
-    /// Takes the name of `number` off the count of its directory `parent`, or drops the link that was added last if it
-    /// is of `number`.
-    fn uncount(&mut self, parent: u64, number: u64)
-        ensures numbers { self.new.maps.numbers ≡ self.old.maps.numbers }
-        ensures others { self.new.maps.others ≡ self.old.maps.others }
-        ensures counts { (dir : ℕ) → counted self.new.maps.counts dir
-            ≡ (if is_latest self.old.latest number then counted self.old.maps.counts dir
-            else counted self.old.maps.counts dir - one_in dir parent) }
-        ensures latest { self.new.latest
-            ≡ (if is_latest self.old.latest number then None else self.old.latest) }
     {
         if is_latest(&self.latest, number) {
             self.latest = None;
             return;
         }
-        self.maps.uncount(parent);
+        self.maps
+            .drop_link(parent, name, key_of(parent, name), number);
     }
 }
 

@@ -88,23 +88,15 @@ impl Maps {
         Ok(())
     }
 
-    /// Removes the link of `number`, from its key or from under its name. The counts stay.
+    /// Removes the link of `number` from its key, or else from under its name, and takes the name off the count.
     pub fn drop_link(&mut self, parent: u64, name: &Name, key: u64, number: u64)
         ensures drops { Drops self.old self.new parent name.now key number }
-        ensures counts { self.new.counts ≡ self.old.counts }
-    {
-        take_key(&mut self.numbers, key, number);
-        remove(&mut self.others, parent, name);
-    }
-
-    /// Takes one name off the count of the directory `parent`.
-    pub fn uncount(&mut self, parent: u64)
-        ensures numbers { self.new.numbers ≡ self.old.numbers }
-        ensures others { self.new.others ≡ self.old.others }
-        ensures counts { (dir : ℕ) → counted self.new.counts dir
-            ≡ counted self.old.counts dir - one_in dir parent }
     {
         lower(&mut self.counts, parent);
+        if take_key(&mut self.numbers, key, number) {
+            return;
+        }
+        remove(&mut self.others, parent, name);
     }
 }
 
@@ -140,18 +132,20 @@ fn place(
     Ok(())
 }
 
-/// Removes `number` from `key`, if it is there.
-fn take_key(numbers: &mut KeyMap, key: u64, number: u64)
-    ensures { (k : ℕ) → at_key numbers.new k
+/// Removes `number` from `key`, if it is there, and returns whether it was.
+fn take_key(numbers: &mut KeyMap, key: u64, number: u64) -> bool
+    ensures was { result ≡ is_at_key numbers.old key number }
+    ensures numbers { (k : ℕ) → at_key numbers.new k
         ≡ (if k == key && is_at_key numbers.old key number then None else at_key numbers.old k) }
 {
     let Some(there) = numbers.get(key) else {
-        return;
+        return false;
     };
     if there != number {
-        return;
+        return false;
     }
     numbers.remove(key);
+    true
 }
 
 /// Takes one name off the count of the directory `parent`, and removes the count of a directory with its last name.
