@@ -162,10 +162,10 @@ impl Served {
         ensures unchanged { OnErr result (self.new ≡ self.old) }
     {
         let _ = dir;
-        let taken = self.map.number_for(to_dir, to_name);
         let Some(file) = self.tree.rename(found.dir, name, found.to_dir, to_name)? else {
             return Ok(());
         };
+        let taken = self.map.number_for(to_dir, to_name);
         if let Some(number) = taken {
             self.map.unlink(number, file);
         }

@@ -48,9 +48,11 @@ fn displace(table: &mut Table, parent: Number, name: &Name, file: Option<FileId>
     ensures free { entry_at table.new.entries parent.0 name.now ≡ None }
 {
     table.places_are_apart();
+    let Some(file) = file else {
+        return;
+    };
     let Some(number) = table.find(parent, name) else {
         return;
     };
-    let Some(file) = file else { unreachable!() };
     table.unlink(number, file);
 }
