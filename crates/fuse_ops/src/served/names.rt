@@ -12,6 +12,7 @@ ghost use Rattle.fuse_ops.specs.Work.{IsFree, IsNextRefusal, Makes, NameIsTaken}
 use super::Served;
 use eden_base::{Attr, END_OF_FILES, END_OF_NUMBERS, Errno, FileId, Kind, Name, Number, Perm};
 use inode_map::InodeMap;
+use manifest::nlink_of_kind;
 use std::alloc::Global;
 
 impl Served {
@@ -41,8 +42,12 @@ impl Served {
             unreachable!()
         };
         self.map.remember(number, file);
-        let Some(attr) = self.tree.attr(file) else {
-            unreachable!()
+        let nlink = nlink_of_kind(kind);
+        let attr = Attr {
+            kind,
+            perm,
+            size: 0,
+            nlink,
         };
         self.map.load(number, attr);
         Ok((number, attr))
