@@ -1,0 +1,17 @@
+//! What a Linux kernel and the program that mounts say to each other, and no daemon answers.
+#![tactic(auto)]
+
+mod agreement;
+mod fault;
+mod field;
+mod header;
+mod init_reply;
+mod offer;
+mod reply_bytes;
+
+pub use agreement::{Agreement, agree};
+pub use fault::MountFault;
+pub use header::{RequestHeader, read_header};
+pub use init_reply::answer_init;
+pub use offer::{Offer, read_offer};
+pub use reply_bytes::ReplyBytes;
