@@ -8,6 +8,7 @@ mod header;
 mod init_reply;
 mod offer;
 mod reply_bytes;
+mod statfs;
 
 pub use agreement::{Agreement, agree};
 pub use fault::MountFault;
@@ -15,3 +16,4 @@ pub use header::{RequestHeader, read_header};
 pub use init_reply::answer_init;
 pub use offer::{Offer, read_offer};
 pub use reply_bytes::ReplyBytes;
+pub use statfs::answer_statfs;
