@@ -1,3 +1,4 @@
+pub mod Batches
 pub mod Header
 pub mod Init
 pub mod Statfs

@@ -2,6 +2,7 @@
 #![tactic(auto)]
 
 mod agreement;
+mod batch_reader;
 mod fault;
 mod field;
 mod header;
@@ -11,6 +12,7 @@ mod reply_bytes;
 mod statfs;
 
 pub use agreement::{Agreement, agree};
+pub use batch_reader::BatchReader;
 pub use fault::MountFault;
 pub use header::{RequestHeader, read_header};
 pub use init_reply::answer_init;
