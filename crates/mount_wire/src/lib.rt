@@ -8,6 +8,7 @@ mod field;
 mod header;
 mod init_reply;
 mod offer;
+mod owner;
 mod reply_bytes;
 mod statfs;
 
@@ -17,5 +18,6 @@ pub use fault::MountFault;
 pub use header::{RequestHeader, read_header};
 pub use init_reply::answer_init;
 pub use offer::{Offer, read_offer};
+pub use owner::{Owner, owner_of};
 pub use reply_bytes::ReplyBytes;
 pub use statfs::answer_statfs;
