@@ -6,6 +6,7 @@ ghost use Rattle.mount_wire.specs.Batches.{first_batch, forgotten_of, given, ite
 use crate::MountFault;
 use crate::field::{u32_at, u64_at};
 use crate::header::{RequestHeader, read_unique};
+use crate::opcode::BATCH_FORGET;
 use eden_base::{NoMemory, Number};
 use fuse_wire::{Batch, Item, Items};
 use std::alloc::Global;
@@ -32,9 +33,6 @@ impl<'a> Model for BatchReader<'a> {
 }
 
 impl<'a> BatchReader<'a> {
-    /// The opcode of BATCH_FORGET.
-    const OPCODE: u32 = 42;
-
     /// The length in bytes of `struct fuse_batch_forget_in`: count, dummy.
     const FIXED_LEN: usize = 8;
 
@@ -47,7 +45,7 @@ impl<'a> BatchReader<'a> {
     pub fn of(bytes: &'a [u8]) -> Result<BatchReader<'a>, MountFault>
         ensures exact { result ≡ forgotten_of bytes.now }
     {
-        read_unique(BatchReader::OPCODE, bytes)?;
+        read_unique(BATCH_FORGET, bytes)?;
         let (_, body) = bytes.split_at(RequestHeader::LEN);
         BatchReader::in_body(body)
     }

@@ -13,12 +13,13 @@ const MAX_WRITE: u32 = 4096;
 /// How exactly times are kept, in nanoseconds.
 const TIME_GRAN: u32 = 1;
 
-/// The first minor version whose kernels read more than 24 bytes of `struct fuse_init_out`
-/// (`FUSE_COMPAT_22_INIT_OUT_SIZE`), and those 24 bytes and all 64.
+/// The first minor version whose kernels read a whole `struct fuse_init_out`.
 const LONG_SINCE: u32 = 23;
 
+/// The length in bytes of what an earlier kernel reads of it (`FUSE_COMPAT_22_INIT_OUT_SIZE`).
 const SHORT_LEN: usize = 24;
 
+/// The length of a whole `struct fuse_init_out`, in bytes.
 const LONG_LEN: usize = 64;
 
 /// The length of these fields of `struct fuse_init_out`: max_background, congestion_threshold.

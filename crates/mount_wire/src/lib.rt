@@ -8,6 +8,7 @@ mod field;
 mod header;
 mod init_reply;
 mod offer;
+mod opcode;
 mod owner;
 mod reply_bytes;
 mod statfs;

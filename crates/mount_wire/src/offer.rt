@@ -5,6 +5,7 @@ ghost use Rattle.mount_wire.specs.Init.{offer_in, offer_of};
 use crate::MountFault;
 use crate::field::u32_at;
 use crate::header::{RequestHeader, read_unique};
+use crate::opcode::INIT;
 
 /// What a kernel offers by INIT: the fields of `struct fuse_init_in` on which the answer depends, and the `unique` that
 /// the reply has. `max_readahead` is in bytes, and `flags` are those of `linux/fuse.h` (`FUSE_ASYNC_READ` and so on).
@@ -18,19 +19,19 @@ pub struct Offer {
 }
 
 impl Offer {
-    /// The opcode of INIT.
-    pub(crate) const OPCODE: u32 = 26;
-
     /// The length in bytes of the fields that each kernel since 7.6 sends: major, minor, max_readahead, flags.
     const LEN: usize = 16;
 
-    /// The offsets of these fields in the body, in bytes.
+    /// The offset of major in the body.
     const MAJOR: usize = 0;
 
+    /// The offset of minor in the body.
     const MINOR: usize = 4;
 
+    /// The offset of max_readahead in the body.
     const MAX_READAHEAD: usize = 8;
 
+    /// The offset of flags in the body.
     const FLAGS: usize = 12;
 }
 
@@ -40,7 +41,7 @@ impl Offer {
 pub fn read_offer(bytes: &[u8]) -> Result<Offer, MountFault>
     ensures exact { result ≡ offer_of bytes.now }
 {
-    let unique = read_unique(Offer::OPCODE, bytes)?;
+    let unique = read_unique(INIT, bytes)?;
     let (_, body) = bytes.split_at(RequestHeader::LEN);
     offer_in(unique, body)
 }

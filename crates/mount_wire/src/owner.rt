@@ -2,6 +2,10 @@
 ghost use Rattle.std.specs.Prelude.{◌≡◌};
 ghost use Rattle.mount_wire.specs.Owner.{error_of, owner_of};
 
+use crate::opcode::{
+    ACCESS, BATCH_FORGET, CREATE, DESTROY, FLUSH, FORGET, FSYNC, FSYNCDIR, GETATTR, INIT,
+    INTERRUPT, LOOKUP, MKDIR, OPEN, OPENDIR, RELEASE, RELEASEDIR, RENAME, RMDIR, STATFS, UNLINK,
+};
 use eden_base::Errno;
 
 /// Who answers a request of a kernel. All but `Daemon` are the program that mounts.
@@ -32,49 +36,6 @@ impl Owner {
         }
     }
 }
-
-/// Opcodes, as `enum fuse_opcode` of `linux/fuse.h` has them.
-const LOOKUP: u32 = 1;
-
-const FORGET: u32 = 2;
-
-const GETATTR: u32 = 3;
-
-const MKDIR: u32 = 9;
-
-const UNLINK: u32 = 10;
-
-const RMDIR: u32 = 11;
-
-const RENAME: u32 = 12;
-
-const OPEN: u32 = 14;
-
-const STATFS: u32 = 17;
-
-const RELEASE: u32 = 18;
-
-const FSYNC: u32 = 20;
-
-const FLUSH: u32 = 25;
-
-const INIT: u32 = 26;
-
-const OPENDIR: u32 = 27;
-
-const RELEASEDIR: u32 = 29;
-
-const FSYNCDIR: u32 = 30;
-
-const ACCESS: u32 = 34;
-
-const CREATE: u32 = 35;
-
-const INTERRUPT: u32 = 36;
-
-const DESTROY: u32 = 38;
-
-const BATCH_FORGET: u32 = 42;
 
 /// Returns who answers a request with this `opcode`.
 #[tactic(auto, unfolding(crate::specs::Owner::owner_of))]
