@@ -1,0 +1,48 @@
+//! What is agreed with a kernel.
+ghost use Rattle.std.specs.Prelude.{◌≡◌};
+ghost use Rattle.mount_wire.specs.Init.{agreement_of};
+
+use crate::{MountFault, Offer};
+
+/// What the program that mounts answers to an offer that it takes.
+#[derive(Clone, Copy, PartialEq, Eq)]
+pub enum Agreement {
+    /// Version 7 of the protocol with this minor version. `max_readahead` is in bytes.
+    Version {
+        minor: u32,
+        max_readahead: u32,
+        flags: u32,
+    },
+    /// Major version 7 alone, for a kernel of a later one. The kernel then sends INIT again.
+    MajorAlone,
+}
+
+/// The major version of the protocol.
+pub(crate) const MAJOR: u32 = 7;
+
+/// The least minor version that is taken: from 7.12 on, MKDIR and CREATE have a umask.
+const LEAST_MINOR: u32 = 12;
+
+/// The greatest minor version that is agreed to.
+const GREATEST_MINOR: u32 = 31;
+
+/// The flag `FUSE_PARALLEL_DIROPS`: lookups in one directory may overlap.
+const PARALLEL_DIROPS: u32 = 1 << 18;
+
+/// Returns what is agreed to where a kernel makes this `offer`, or `TooOld` if its version is below 7.12.
+#[tactic(auto, unfolding(crate::specs::Init::agreement_of))]
+pub fn agree(offer: &Offer) -> Result<Agreement, MountFault>
+    ensures agreement { result ≡ agreement_of offer.now }
+{
+    if offer.major > MAJOR {
+        return Ok(Agreement::MajorAlone);
+    }
+    if offer.major < MAJOR || offer.minor < LEAST_MINOR {
+        return Err(MountFault::TooOld);
+    }
+    Ok(Agreement::Version {
+        minor: offer.minor.min(GREATEST_MINOR),
+        max_readahead: offer.max_readahead,
+        flags: offer.flags & PARALLEL_DIROPS,
+    })
+}

@@ -1,0 +1,24 @@
+//! What a Linux kernel and the program that mounts say to each other, and no daemon answers.
+#![tactic(auto)]
+
+mod agreement;
+mod batch_reader;
+mod fault;
+mod field;
+mod header;
+mod init_reply;
+mod offer;
+mod opcode;
+mod owner;
+mod reply_bytes;
+mod statfs;
+
+pub use agreement::{Agreement, agree};
+pub use batch_reader::BatchReader;
+pub use fault::MountFault;
+pub use header::{RequestHeader, read_header};
+pub use init_reply::answer_init;
+pub use offer::{Offer, read_offer};
+pub use owner::{Owner, owner_of};
+pub use reply_bytes::ReplyBytes;
+pub use statfs::answer_statfs;
