@@ -67,7 +67,7 @@ impl<'a> BatchReader<'a> {
     }
 
     /// Gives the first 256 items that are left as a batch, or all if there are fewer, in memory that `alloc` gives.
-    /// Gives none if none is left. If memory is refused, nothing is given, and the call may be made again.
+    /// Gives none if none is left. If memory is refused, no batch is given, and the call may be made again.
     pub fn next(&mut self, alloc: Global) -> Result<Option<Batch>, NoMemory>
         ensures batch { IfOk result (λ batch. batch ≡ first_batch self.old) }
         ensures left { OnOk result (self.new ≡ drop 256 self.old) }
