@@ -37,6 +37,23 @@ module _ (links : FinMap link_cmp FileId) (change : LinkChange) (file : FileId) 
   colour_tells are colours right true e = (λ _. above_from_under are (right.on file e), λ _. refl)
   colour_tells are colours right false e = (λ no. absurd (cc), λ above. absurd (right.off file e (under_from_above above)))
 
+-- a target in which no link stands is above nothing
+pub none_above_leaf : (links : FinMap link_cmp FileId) (change : LinkChange) (file : FileId) → GivesTarget links change → change.target ≡ Some file → ((name : List ℕ) → get links (file.0, name) ≡ None) → IsAbove links change → ⊥
+none_above_leaf links change file gives target none above =
+    let same : above.0 ≡ file = let e = above.2 in cc (e, target) in
+    let to : end_of links file above.1 ≡ Some change.dir = subst (λ (f : FileId). end_of links f above.1 ≡ Some change.dir) same above.3 in
+    down above.1 to
+  where
+    down : (names : List (List ℕ)) → end_of links file names ≡ Some change.dir → ⊥
+    down [] to =
+        let here : file ≡ change.dir = cc in
+        let empty = ap (λ (f : FileId). get links (f.0, change.name)) (sym here) ∙ none change.name in
+        let full = gives ∙ target in
+        cc (empty, full)
+    down (name ∷ names) to =
+        let gone = ap (λ o. option_and_then (λ (child : FileId). end_of links child names) o) (none name) in
+        cc (gone, to)
+
 module _ (m : Manifest) (c : Changes) (links : FinMap link_cmp FileId) (same : (place : ℕ × List ℕ) → file_in (changed_links m c) place ≡ get links place) where
   -- where the links at each place are the same, so are the files at the end of names
   pub file_below-end_of : (dir : FileId) (names : List (List ℕ)) → file_below (changed_links m c) dir names ≡ end_of links dir names

@@ -20,6 +20,7 @@ pub mod CircleLaws
 pub mod ClimbLaws
 pub mod ColourLaws
 pub mod CreateLaws
+pub mod CutLaws
 pub mod DirLaws
 pub mod FilesFrom
 pub mod FilterLaws

@@ -39,7 +39,7 @@ module _ (n : ℕ) where
   other_ids a e = grind (arith, nat_tests)
 
   -- the first with an id is the only one
-  find_at : (xs : List Made) (i : ℕ) (d : Made) → IsStrictlySortedBy nat_cmp (file_ids xs) → i < length xs → id_at xs i d ≡ n → find is_it xs ≡ Some (get_or xs i d)
+  pub find_at : (xs : List Made) (i : ℕ) (d : Made) → IsStrictlySortedBy nat_cmp (file_ids xs) → i < length xs → id_at xs i d ≡ n → find is_it xs ≡ Some (get_or xs i d)
   find_at [] i d rising within here = absurd (omega (arith, within))
   find_at (x ∷ xs) zero d rising within here = ap (λ b. cond b (Some x) (find is_it xs)) (equal_ids x.file.0 here)
   find_at (x ∷ xs) (suc i) d rising within here =

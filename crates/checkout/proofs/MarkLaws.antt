@@ -2,14 +2,16 @@
 use Rattle.std.proofs.Common.{◌≡◌, ℕ, ◌==◌, ◌⊎◌, Bool, true, false, List, [], ◌∷◌, map, Option, Some, None, is_some, if◌then◌else◌, refl, sym, ap, subst, ◌∙◌, inl, inr, arith, eq-eqb}
 use Rattle.std.proofs.lemmas.Bool.Decides.{nat_tests}
 use Rattle.std.proofs.lemmas.Map.Keys.{IsDistinct-head, IsDistinct-tail}
-use Rattle.std.specs.List.{AllByRecursion}
-use Rattle.std.specs.Ordering.{eq_by_cmp}
+use Rattle.std.specs.List.{AllByRecursion, IsDistinct, cons_option}
+use Rattle.std.specs.Option.{option_map}
+use Rattle.std.specs.Cmp.{nat_cmp_total, tied_itself}
+use Rattle.std.specs.Ordering.{eq_by_cmp, is_eq, nat_cmp}
 use Rattle.eden_base.specs.declared.number.FileId.{FileId}
 use Rattle.manifest.specs.declared.links.LinkChange.{LinkChange}
 use Rattle.checkout.specs.BadChanges.{is_at}
 use Rattle.checkout.specs.Changes.{place_of}
 use Rattle.checkout.specs.Laying.{StandApart}
-use Rattle.checkout.specs.Rounds.{is_marked, mark_after, marked}
+use Rattle.checkout.specs.Rounds.{ids_given, is_marked, mark_after, marked}
 use Rattle.manifest.specs.Tree.{link_cmp}
 use Rattle.checkout.proofs.AmongLinks.{IsAmong, holds_among}
 use Rattle.manifest.proofs.FlatLemmas.{link_cmp-same}
@@ -98,6 +100,44 @@ gave_twice file (c ∷ cs) place apart h =
     unmapped : (ds : List LinkChange) → AllByRecursion (λ y. eq_by_cmp link_cmp (place_of c) y ≡ false) (map place_of ds) → AllByRecursion (λ y. eq_by_cmp link_cmp (place_of c) (place_of y) ≡ false) ds
     unmapped [] h = tt
     unmapped (d ∷ ds) h = (h.0, unmapped ds h.1)
+
+-- where no change gives the file, its mark stays
+mark_stays : (file : ℕ) (mark : Option Bool) (cs : List LinkChange) → AllByRecursion (λ id. (id == file) ≡ false) (ids_given cs) → marked file mark cs ≡ mark
+mark_stays file mark [] = λ _. refl
+mark_stays file mark (c ∷ cs) =
+    elim c.target as (λ o. AllByRecursion (λ id. (id == file) ≡ false) (cons_option (option_map (λ (f : FileId). f.0) o) (ids_given cs)) → marked file (mark_after file mark o) cs ≡ mark) [
+      | None ↦ λ all. mark_stays file mark cs all
+      | Some f ↦ λ all. ap (λ (b : Bool). marked file (if b then Some (is_some mark) else mark) cs) all.0 ∙ mark_stays file mark cs all.1
+    ]
+
+-- changes whose files are apart mark none
+pub apart-unmarked : (file : ℕ) (cs : List LinkChange) → IsDistinct (eq_by_cmp nat_cmp) (ids_given cs) → is_marked (marked file None cs) ≡ false
+apart-unmarked file [] = λ _. refl
+apart-unmarked file (c ∷ cs) =
+    elim c.target as (λ o. IsDistinct (eq_by_cmp nat_cmp) (cons_option (option_map (λ (f : FileId). f.0) o) (ids_given cs)) → is_marked (marked file (mark_after file None o) cs) ≡ false) [
+      | None ↦ λ apart. apart-unmarked file cs apart
+      | Some f ↦ λ apart. elim (f.0 == file) as (λ b. (f.0 == file) ≡ b → is_marked (marked file (if b then Some false else None) cs) ≡ false) [
+        | false ↦ λ _. apart-unmarked file cs (IsDistinct-tail (eq_by_cmp nat_cmp) f.0 (ids_given cs) apart)
+        | true ↦ λ e.
+            let same : f.0 ≡ file = grind (arith, nat_tests) in
+            ap is_marked (mark_stays file (Some false) cs (others same (ids_given cs) (IsDistinct-head (eq_by_cmp nat_cmp) f.0 (ids_given cs) apart)))
+      ] refl
+    ]
+  where
+    other : (n id : ℕ) → n ≡ file → eq_by_cmp nat_cmp n id ≡ false → (id == file) ≡ false
+    other n id same apart =
+        elim (id == file) as (λ b. (id == file) ≡ b → b ≡ false) [
+          | false ↦ λ _. refl
+          | true ↦ λ e.
+              let is : id ≡ n = let w : id ≡ file = grind (arith, nat_tests) in w ∙ sym same in
+              let yes = ap is_eq (tied_itself nat_cmp_total n) in
+              let moved = ap (eq_by_cmp nat_cmp n) is in
+              absurd (cc (yes, apart, moved))
+        ] refl
+
+    others : {n : ℕ} → n ≡ file → (ids : List ℕ) → AllByRecursion (λ id. eq_by_cmp nat_cmp n id ≡ false) ids → AllByRecursion (λ id. (id == file) ≡ false) ids
+    others same [] all = tt
+    others {n} same (id ∷ ids) all = (other n id same all.0, others same ids all.1)
 
 pub marked-is : (o : Option Bool) → is_marked o ≡ true → o ≡ Some true
 marked-is None h = absurd (cc)

@@ -87,6 +87,24 @@ module _ (m : Manifest) (made : FinMap nat_cmp MadeFile) (added : FinMap link_cm
   abbrev has_added : FileId → Bool
   has_added dir = list_any (λ (link : (ℕ × List ℕ) × FileId). link.0.0 == dir.0) (entries added)
 
+  -- a directory has no link where none was added and all of the manifest's are gone
+  pub none_in : (d : FileId) → has_added d ≡ false → nat_lt (lost d.0) (kids_in d.0 m.lines) ≡ false → (name : List ℕ) → child_of tree d name ≡ None
+  none_in d e g name =
+      elim (child_of tree d name) as (λ o. child_of tree d name ≡ o → o ≡ None) [
+        | None ↦ λ _. refl
+        | Some file ↦ λ h. elim (child_cases d name file h) [
+          | inl a ↦ let some = has_link added d.0 name file a in absurd (cc (some, e))
+          | inr w ↦
+              let r = line_of_link m.lines 2 d.0 name file w.0 in
+              let here : (r.line.dir.0 == d.0) ≡ true = eq-eqb r.line.dir.0 d.0 r.dir_is in
+              let left : gone (2 + r.place) ≡ false = ap gone (sym r.file_is) ∙ w.1 in
+              let below = lost_from_left gone d.0 2 r.place m.lines r.line r.here here left in
+              let c = is.lost_are_counted d.0 in
+              let lt : nat_lt (lost d.0) (kids_in d.0 m.lines) ≡ true = grind (arith, nat_tests) in
+              absurd (cc (lt, g))
+        ]
+      ] refl
+
   -- a directory has links where one was added, or not all of the manifest's are gone
   pub has_links-over : (dir : FileId) → has_links tree dir ≡ (has_added dir || nat_lt (lost dir.0) (kids_in dir.0 m.lines))
   has_links-over dir =
@@ -103,26 +121,9 @@ module _ (m : Manifest) (made : FinMap nat_cmp MadeFile) (added : FinMap link_cm
               let found = link_of_line m.lines 2 r.place r.line (apart m.lines is.is_manifest.lines) r.here in
               let here = ap (λ (d : ℕ). get base (d, r.line.name)) (sym r.in_dir) ∙ found in
               has_link tree.links dir.0 r.line.name (file_with (2 + r.place)) (child_left dir r.line.name (file_with (2 + r.place)) here r.is_left)
-          | false ↦ λ g. has_no_link tree.links dir.0 (nothing dir e g)
+          | false ↦ λ g. has_no_link tree.links dir.0 (none_in dir e g)
         ] refl
       ] refl
-    where
-      nothing : (d : FileId) → has_added d ≡ false → nat_lt (lost d.0) (kids_in d.0 m.lines) ≡ false → (name : List ℕ) → child_of tree d name ≡ None
-      nothing d e g name =
-          elim (child_of tree d name) as (λ o. child_of tree d name ≡ o → o ≡ None) [
-            | None ↦ λ _. refl
-            | Some file ↦ λ h. elim (child_cases d name file h) [
-              | inl a ↦ let some = has_link added d.0 name file a in absurd (cc (some, e))
-              | inr w ↦
-                  let r = line_of_link m.lines 2 d.0 name file w.0 in
-                  let here : (r.line.dir.0 == d.0) ≡ true = eq-eqb r.line.dir.0 d.0 r.dir_is in
-                  let left : gone (2 + r.place) ≡ false = ap gone (sym r.file_is) ∙ w.1 in
-                  let below = lost_from_left gone d.0 2 r.place m.lines r.line r.here here left in
-                  let c = is.lost_are_counted d.0 in
-                  let lt : nat_lt (lost d.0) (kids_in d.0 m.lines) ≡ true = grind (arith, nat_tests) in
-                  absurd (cc (lt, g))
-            ]
-          ] refl
 
   -- the manifest's links give its files
   pub line_of_base : (dir : FileId) (name : List ℕ) (file : FileId) → get base (dir.0, name) ≡ Some file → is_line m file ≡ true

@@ -1,6 +1,7 @@
 -- What the calls of a tree leave, in the words of their callees.
 use Rattle.std.proofs.Common.{◌≡◌, ℕ, ◌+◌, ◌<◌, ◌≤◌, ◌==◌, ◌||◌, Bool, false, if◌then◌else◌, List, length, true, Option, Some, None, IsSome, IfSome, refl, sym, ap, subst, ◌∙◌, inl, inr, arith}
 use Rattle.std.proofs.lemmas.Option.{slice_get_within}
+use Rattle.std.specs.Option.{option_map, option_or}
 use Rattle.std.specs.Ordering.{nat_cmp}
 use Rattle.std.specs.FinMap.{FinMap, get, insert, remove, empty, get-empty}
 use Rattle.eden_base.proofs.MemberLemmas.{some-IsSome, some-is}
@@ -13,7 +14,7 @@ use Rattle.eden_base.specs.declared.number.FileId.{FileId}
 use Rattle.checkout.specs.declared.made.MadeFile.{MadeFile}
 use Rattle.checkout.specs.Added.{gives}
 use Rattle.manifest.specs.Manifest.{Manifest, IsManifest}
-use Rattle.checkout.specs.Overlay.{tree_over, AreParts, IsOverlay}
+use Rattle.checkout.specs.Overlay.{file_made, tree_over, AreParts, IsOverlay}
 use Rattle.manifest.specs.Tree.{Tree, IsTree, link_cmp, kind_of, child_of, tree_of, files_from, links_from}
 use Rattle.checkout.specs.ChangedTree.{is_unlinked, is_full_dir, created, removed}
 use Rattle.manifest.proofs.FlatLemmas.{link_cmp_total, link_cmp-same}
@@ -27,7 +28,7 @@ use Rattle.manifest.proofs.MapLemmas.{removed_nothing, removed_again}
 use Rattle.checkout.proofs.OverlayCreate.{kept_file, tree_over-created, create-IsOverlay}
 use Rattle.checkout.proofs.OverlayLaws.{child_added, child_cases, none_added}
 use Rattle.checkout.proofs.OverlayRemove.{tree_over-removed_added, remove_added-IsOverlay, tree_over-removed, remove-IsOverlay}
-use Rattle.checkout.proofs.UnionLaws.{files_over-nothing, links_over-nothing}
+use Rattle.checkout.proofs.UnionLaws.{files_over-nothing, get-files_over, links_over-nothing}
 
 -- before any request
 pub start-is : (m : Manifest) (gone : ℕ → Bool) → ((q : ℕ) → gone q ≡ false) → tree_over m empty empty gone (length m.lines + 2) ≡ tree_of m
@@ -62,6 +63,13 @@ module _ (m : Manifest) (made : FinMap nat_cmp MadeFile) (added : FinMap link_cm
             let below = linked_is_below tree is.is_tree at.0 at.1 file (child_added m made added gone lost next is.parts at.0 at.1 file at.2) in
             absurd (omega (arith, below, id))
       ] refl
+
+  -- a file that was made was made before the next one
+  pub made_is_below : (id : ℕ) → IsSome (get made id) → id < next
+  made_is_below id there =
+      let w = some-is _ there in
+      let base = files_from 2 m.lines in
+      is.is_tree.ids_below_next (record { 0 = id }) (some-IsSome _ (file_made w.0) (get-files_over made base id ∙ ap (λ o. option_or (option_map file_made o) (get base id)) w.1))
 
   module _ (free : child_of self dir name ≡ None) where
     free_here : child_of tree dir name ≡ None

@@ -45,38 +45,33 @@ module _ (m : Manifest) (made : FinMap nat_cmp MadeFile) (added : FinMap link_cm
   pub added_once : (d : FileId) (n : List ℕ) → get added (d.0, n) ≡ Some file → (d ≡ dir) × (n ≡ name)
   added_once d n k = is.is_tree.links_are_apart d dir n name file (child_added m made added gone lost next is.parts d n file k) here
 
-  module _ (other : child_of self to_dir to_name ≢ child_of self dir name) where
+  module _ (replaced : Option FileId) (stood : child_of self to_dir to_name ≡ replaced) (other : replaced ≢ Some file) where
     other_here : child_of tree to_dir to_name ≡ Some file → ⊥
-    other_here at = other (sym (ap (λ (t : Tree). child_of t to_dir to_name) view) ∙ at ∙ sym child)
+    other_here at = other (sym stood ∙ sym (ap (λ (t : Tree). child_of t to_dir to_name) view) ∙ at)
 
     -- the new name doesn't give it
     pub added_not : get added (to_dir.0, to_name) ≡ Some file → ⊥
     added_not k = other_here (child_added m made added gone lost next is.parts to_dir to_name file k)
 
-    module _ (fits : IfSome (child_of self dir name) (λ f. IfSome (child_of self to_dir to_name) (λ replaced. can_replace self f replaced ≡ true)))
-        (not_above : IfSome (child_of self dir name) (λ f. IsAtOrAbove self f to_dir → ⊥))
+    module _ (fits : IfSome replaced (λ u. can_replace self file u ≡ true)) (not_above : IsAtOrAbove self file to_dir → ⊥)
         (is_dir : kind_of self to_dir ≡ Some Dir) (is_reached : is_unlinked self to_dir ≡ false) where
       fits_here : (u : FileId) → child_of tree to_dir to_name ≡ Some u → is_full_dir tree u ≡ false
       fits_here u at =
-          let there = sym (ap (λ (t : Tree). child_of t to_dir to_name) view) ∙ at in
-          let of_file : IfSome (child_of self to_dir to_name) (λ replaced. can_replace self file replaced ≡ true) = subst (λ o. IfSome o (λ f. IfSome (child_of self to_dir to_name) (λ replaced. can_replace self f replaced ≡ true))) child fits in
-          let of_u : can_replace self file u ≡ true = subst (λ o. IfSome o (λ replaced. can_replace self file replaced ≡ true)) there of_file in
+          let there : replaced ≡ Some u = sym stood ∙ sym (ap (λ (t : Tree). child_of t to_dir to_name) view) ∙ at in
+          let of_u : can_replace self file u ≡ true = subst (λ o. IfSome o (λ r. can_replace self file r ≡ true)) there fits in
           not_full-from_replaced tree file u (ap (λ (t : Tree). can_replace t file u) view ∙ of_u)
 
       not_above_here : IsAtOrAbove tree file to_dir → ⊥
-      not_above_here at =
-          let none : IsAtOrAbove self file to_dir → ⊥ = subst (λ o. IfSome o (λ f. IsAtOrAbove self f to_dir → ⊥)) child not_above in
-          none (subst (λ (t : Tree). IsAtOrAbove t file to_dir) view at)
+      not_above_here at = not_above (subst (λ (t : Tree). IsAtOrAbove t file to_dir) view at)
 
       pub rename-step : (added' : FinMap link_cmp FileId) (gone₁ gone₂ : UnlinkedFiles) (lost₂ : Tally) → IsNameText to_name → added' ≡ insert (remove added (dir.0, name)) (to_dir.0, to_name) file →
           ((q : ℕ) → is_gone gone₁ q ≡ (goes_with m (Some file) q || gone q)) →
-          (replaced : Option FileId) (there : child_of self to_dir to_name ≡ replaced) →
           ((q : ℕ) → is_gone gone₂ q ≡ (goes_with m replaced q || is_gone gone₁ q)) →
           AreTaken m gone₂ lost₂ →
           IsOverlay m made added' (is_gone gone₂) (count_of lost₂) next × (tree_over m made added' (is_gone gone₂) next ≡ renamed self dir name to_dir to_name)
-      rename-step added' gone₁ gone₂ lost₂ is_name a g₁ replaced there g₂ taken =
+      rename-step added' gone₁ gone₂ lost₂ is_name a g₁ g₂ taken =
           let first = goes_first m made added gone lost next is self view dir name (Some file) child (is_gone gone₁) g₁ in
-          let second = goes_next m made added gone lost next is self view to_dir to_name replaced there (goes_with m (Some file)) (is_gone gone₁) (is_gone gone₂) g₁ g₂ in
+          let second = goes_next m made added gone lost next is self view to_dir to_name replaced stood (goes_with m (Some file)) (is_gone gone₁) (is_gone gone₂) g₁ g₂ in
           let goes : (q : ℕ) → is_gone gone₂ q ≡ (is_file base (to_dir.0, to_name) q || (is_file base (dir.0, name) q || gone q)) =
           λ q. second q ∙ ap (λ b. is_file base (to_dir.0, to_name) q || b) (first q) in
           let tree_is = renamed-IsTree tree dir name to_dir to_name file here is.is_tree fits_here (ap (λ (t : Tree). kind_of t to_dir) view ∙ is_dir) (ap (λ (t : Tree). is_unlinked t to_dir) view ∙ is_reached) other_here not_above_here is_name in

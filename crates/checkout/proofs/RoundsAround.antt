@@ -1,19 +1,20 @@
 -- The last two rounds, by the parts of an overlay.
-use Rattle.std.proofs.Common.{◌≡◌, ◌+◌, ◌==◌, ℕ, List, Option, Some, None, sym, ap, subst, ◌∙◌}
+use Rattle.std.proofs.Common.{◌≡◌, ◌+◌, ◌==◌, ℕ, nat_lt, List, Option, Some, None, sym, ap, subst, ◌∙◌}
+use Rattle.std.proofs.lemmas.Bool.{or_parts}
 use Rattle.std.specs.FinMap.{FinMap, empty, get}
 use Rattle.std.specs.List.{AllByRecursion, list_any}
 use Rattle.std.specs.Option.{option_map}
 use Rattle.eden_base.specs.declared.number.FileId.{FileId}
 use Rattle.checkout.specs.declared.changes.Changes.{Changes}
-use Rattle.checkout.specs.Around.{AreApart, AreBeside, GivesTarget, IsFirstAbove, links_now}
+use Rattle.checkout.specs.Around.{AreApart, AreBeside, CountsLinks, GivesTarget, IsFirstAbove, links_now}
 use Rattle.checkout.specs.BadChanges.{changed_links, file_in, first_link, IsBadAround}
 use Rattle.checkout.specs.Changed.{changed, links_with}
 use Rattle.checkout.specs.Changes.{place_of}
 use Rattle.checkout.specs.UnlinkedFiles.{UnlinkedFiles, is_gone}
 use Rattle.checkout.specs.Laying.{with_made}
-use Rattle.manifest.specs.Manifest.{Manifest}
+use Rattle.manifest.specs.Manifest.{Manifest, kids_in}
 use Rattle.checkout.specs.Overlay.{AreParts, tree_over}
-use Rattle.checkout.specs.Rounds.{AreLaid, cuts, first_of}
+use Rattle.checkout.specs.Rounds.{AreLaid, cuts, first_of, has_added}
 use Rattle.manifest.specs.Tally.{Tally, count_of}
 use Rattle.manifest.specs.Tree.{link_cmp, links_from}
 use Rattle.checkout.proofs.AboveItself.{above-IsBadAround, none_above-IsBadAround}
@@ -24,6 +25,7 @@ use Rattle.checkout.proofs.FirstBadLaws.{good_itself, places_rise}
 use Rattle.checkout.proofs.LaidLinks.{links_over-changed}
 use Rattle.checkout.proofs.LaidTree.{laid-AreParts, laid-changed, stand_apart}
 use Rattle.manifest.proofs.ManifestTree.{same_id}
+use Rattle.checkout.proofs.OverlayLaws.{none_in}
 use Rattle.checkout.proofs.RoundFour.{cut-found}
 
 module _ (m : Manifest) (c : Changes) (added : FinMap link_cmp FileId) (gone : UnlinkedFiles) (lost : Tally) (laid : AreLaid m c added gone lost) where
@@ -47,6 +49,11 @@ module _ (m : Manifest) (c : Changes) (added : FinMap link_cmp FileId) (gone : U
 
   pub are_beside : AreBeside added (is_gone gone) (links_from 2 m.lines)
   are_beside = parts.added_are_apart
+
+  pub are_counted : CountsLinks m added gone (count_of lost)
+  are_counted dir name none =
+      let w = or_parts (has_added added dir) (nat_lt (count_of lost dir.0) (kids_in dir.0 m.lines)) none in
+      none_in m (with_made empty c.made) added (is_gone gone) (count_of lost) c.next_file.0 parts dir w.0 w.1 name
 
   pub are_apart : AreApart links
   are_apart = record {

@@ -1,10 +1,11 @@
 -- One more link of a manifest that goes.
-use Rattle.std.proofs.Common.{◌≡◌, ℕ, ◌+◌, ◌<◌, ◌==◌, ◌||◌, ◌++◌, true, false, cond, if◌then◌else◌, List, [], ◌∷◌, length, Some, refl, sym, ap, ◌∙◌, inl, inr, arith, nat_le, nat_lt, ◌&&◌}
+use Rattle.std.proofs.Common.{◌≡◌, ℕ, ◌+◌, ◌<◌, ◌==◌, ◌||◌, ◌++◌, true, false, cond, if◌then◌else◌, List, [], ◌∷◌, length, Some, None, refl, sym, ap, ◌∙◌, inl, inr, arith, nat_le, nat_lt, ◌&&◌}
 use Rattle.std.proofs.lemmas.Bool.Decides.{nat_tests}
 use Rattle.std.proofs.lemmas.Option.{slice_get_within}
 use Rattle.std.specs.FinMap.{get}
 use Rattle.eden_base.specs.declared.number.FileId.{FileId}
 use Rattle.manifest.specs.declared.links.LinkChange.{LinkChange}
+use Rattle.checkout.specs.BadChanges.{gives_same}
 use Rattle.checkout.specs.Changes.{place_of}
 use Rattle.checkout.specs.UnlinkedFiles.{UnlinkedFiles, is_gone}
 use Rattle.checkout.specs.Laying.{AreTaken, base_target}
@@ -26,6 +27,21 @@ line_of_place m place file h =
     let low : nat_le 2 file.0 ≡ true = let e = r.file_is in grind (arith, nat_tests) in
     let high : nat_lt file.0 (length m.lines + 2) ≡ true = let e = r.file_is in grind (arith, nat_tests) in
     ap (λ b. b && nat_lt file.0 (length m.lines + 2)) low ∙ high
+
+-- where a target is no file of the manifest, its place has another
+pub not_there : (m : Manifest) (change : LinkChange) (file : FileId) → change.target ≡ Some file → is_line m file ≡ false → gives_same change.target (base_target m change) ≡ false
+not_there m change file target none =
+    elim (base_target m change) as (λ o. base_target m change ≡ o → gives_same change.target o ≡ false) [
+      | None ↦ λ _. ap (λ t. gives_same t None) target
+      | Some other ↦ λ here. ap (λ t. gives_same t (Some other)) target ∙ (elim (file.0 == other.0) as (λ b. (file.0 == other.0) ≡ b → b ≡ false) [
+        | false ↦ λ _. refl
+        | true ↦ λ e.
+            let same : other.0 ≡ file.0 = grind (arith, nat_tests) in
+            let line = line_of_place m (place_of change) other here in
+            let its = ap (is_line m) (same_id other file same) in
+            absurd (cc (line, its, none))
+      ] refl)
+    ] refl
 
 -- two links of the manifest that give one file are one
 pub one_place : (m : Manifest) → IsManifest m → (a b : ℕ × List ℕ) (f g : FileId) → get (links_from 2 m.lines) a ≡ Some f → get (links_from 2 m.lines) b ≡ Some g → f.0 ≡ g.0 → a ≡ b

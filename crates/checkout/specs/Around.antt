@@ -1,9 +1,9 @@
 -- Which changed link is the first whose target is the link's own directory, or stands above this directory. Links are a
 -- map from a directory and a name to a file. And how files are coloured by whether they stand below themselves.
-use Rattle.std.specs.Prelude.{◌≡◌, ◌<◌, ◌==◌, ℕ, Bool, true, false, List, [], ◌∷◌, map, slice_get, Option, Some, None, IsSome, is_some, if◌then◌else◌}
+use Rattle.std.specs.Prelude.{◌≡◌, ◌<◌, ◌==◌, ◌||◌, ℕ, Bool, true, false, nat_lt, List, [], ◌∷◌, map, slice_get, Option, Some, None, IsSome, is_some, if◌then◌else◌}
 use Rattle.std.specs.Coded.{Coded, coded_ℕ, coded_bool}
 use Rattle.std.specs.FinMap as map
-use Rattle.std.specs.FinMap.{FinMap, get}
+use Rattle.std.specs.FinMap.{FinMap, entries, get}
 use Rattle.std.specs.List.{list_any}
 use Rattle.std.specs.Option.{option_and_then}
 use Rattle.std.specs.Ordering.{nat_cmp}
@@ -11,7 +11,7 @@ use Rattle.eden_base.specs.declared.number.FileId.{FileId}
 use Rattle.manifest.specs.declared.links.LinkChange.{LinkChange}
 use Rattle.checkout.specs.Changes.{place_of}
 use Rattle.checkout.specs.UnlinkedFiles.{UnlinkedFiles, is_gone}
-use Rattle.manifest.specs.Manifest.{Manifest}
+use Rattle.manifest.specs.Manifest.{Manifest, kids_in}
 use Rattle.checkout.specs.Overlay.{links_over, still}
 use Rattle.manifest.specs.Tree.{link_cmp, links_from}
 
@@ -40,6 +40,13 @@ IsFirstAbove links changes None =
 -- a manifest's links without those whose file is gone, together with the added links
 abbrev pub links_now : Manifest → FinMap link_cmp FileId → UnlinkedFiles → FinMap link_cmp FileId
 links_now m added gone = links_over added (is_gone gone) (links_from 2 m.lines)
+
+-- no link stands in a directory in which none was added, and of which all of the manifest's links are lost
+abbrev pub CountsLinks : Manifest → FinMap link_cmp FileId → UnlinkedFiles → (ℕ → ℕ) → Type 0
+CountsLinks m added gone lost =
+    (dir : FileId) (name : List ℕ) →
+    (list_any (λ link. link.0.0 == dir.0) (entries added) || nat_lt (lost dir.0) (kids_in dir.0 m.lines)) ≡ false →
+    get (links_now m added gone) (dir.0, name) ≡ None
 
 -- no file stands at two places: two links that give the same file have the same directory and the same name
 pub record AreApart (links : FinMap link_cmp FileId) : Type 0 where

@@ -1,7 +1,8 @@
 -- How the second and the fourth round of checks look for a bad changed link.
 use Rattle.std.specs.Prelude.{◌≡◌, ℕ, ◌+◌, ◌==◌, ◌&&◌, ◌||◌, Bool, false, not, nat_lt, List, [], ◌∷◌, Option, Some, None, is_some, if◌then◌else◌}
 use Rattle.std.specs.FinMap.{FinMap, empty, entries}
-use Rattle.std.specs.List.{list_any}
+use Rattle.std.specs.List.{filter_map, list_any}
+use Rattle.std.specs.Option.{option_map}
 use Rattle.eden_base.specs.declared.number.FileId.{FileId}
 use Rattle.checkout.specs.declared.changes.Changes.{Changes}
 use Rattle.manifest.specs.declared.links.LinkChange.{LinkChange}
@@ -30,6 +31,10 @@ abbrev pub marked : ℕ → Option Bool → List LinkChange → Option Bool
 marked file mark [] = mark
 marked file mark (change ∷ rest) = marked file (mark_after file mark change.target) rest
 
+-- the ids of the files that changes give, in the order of the changes
+abbrev pub ids_given : List LinkChange → List ℕ
+ids_given links = filter_map (λ change. option_map (λ (file : FileId). file.0) change.target) links
+
 -- whether a mark says that several changes gave the file
 abbrev pub is_marked : Option Bool → Bool
 is_marked None = false
@@ -54,6 +59,11 @@ is_cut m added gone lost dir =
 abbrev pub cuts : Manifest → FinMap link_cmp FileId → (ℕ → Bool) → (ℕ → ℕ) → LinkChange → Bool
 cuts m added gone lost change =
     is_cut m added gone lost change.dir || file_does (is_cut m added gone lost) (base_target m change)
+
+-- the same, but what the manifest has there is left out unless `files`
+abbrev pub cuts_if : Bool → Manifest → FinMap link_cmp FileId → (ℕ → Bool) → (ℕ → ℕ) → LinkChange → Bool
+cuts_if files m added gone lost change =
+    is_cut m added gone lost change.dir || (files && file_does (is_cut m added gone lost) (base_target m change))
 
 -- the changes are laid over the manifest as `added`, `gone` and `lost`, and the first two rounds find no bad change
 pub record AreLaid (m : Manifest) (c : Changes) (added : FinMap link_cmp FileId) (gone : UnlinkedFiles) (lost : Tally) :

@@ -14,4 +14,5 @@ mod unlinked_files;
 pub use backing::{Backing, BackingFault, ManifestBacking};
 pub use changes::{Changes, LinkList, Made, MadeList};
 pub use fault::{ChangeFault, CreateFault};
+pub use manifest::{LinkChange, Manifest, ManifestFault, ManifestFaultKind};
 pub use tree::Tree;

@@ -1,41 +1,49 @@
 //! The files that were made since the manifest.
-ghost use Rattle.std.specs.Prelude.{◌≡◌, map, None, IfOk, OnOk, OnErr};
+ghost use Rattle.std.specs.Prelude.{◌≡◌, ◌==◌, ◌<◌, ℕ, map, IfOk, IsSome, OnOk, OnErr, Some};
 ghost use Rattle.std.specs.FinMap.{empty, entries, get, insert};
+ghost use Rattle.std.specs.List.{find};
+ghost use Rattle.std.specs.List.Sorted.{IsStrictlySortedBy};
+ghost use Rattle.std.specs.Option.{IfSome};
+ghost use Rattle.std.specs.Ordering.{nat_cmp};
+ghost use Rattle.checkout.specs.Changes.{file_ids};
+ghost use Rattle.checkout.specs.Laying.{with_made};
 ghost use Rattle.checkout.specs.Listing.{listed_file};
+ghost use Rattle.checkout.specs.declared.changes.Made.{Made as MadeState};
 
 use crate::Made;
 use eden_base::{FileId, Kind, NoMemory, Perm};
 use std::alloc::Global;
-use std::collections::BTreeMap;
 use std::marker::Model;
 
-/// A file that was made. It stays when its link is removed.
+/// What is kept of a file that was made. It stays when its link is removed.
 #[derive(Clone, Copy)]
 pub struct MadeFile {
     pub kind: Kind,
     pub perm: Perm,
 }
 
-/// The made files, by id.
+/// The made files by rising id. A new file has a greater id than all others, and so goes to the end.
 #[derive(Drop)]
 pub struct MadeFiles {
-    files: BTreeMap<u64, MadeFile>,
+    files: Vec<Made>,
 }
 
 impl Model for MadeFiles {
     ghost use Rattle.std.specs.Ordering.{nat_cmp};
-    ghost use Rattle.std.specs.BTreeMap.{IsOrdered};
-    ghost use Rattle.std.specs.FinMap.{FinMap, from_entries};
+    ghost use Rattle.std.specs.List.Sorted.{IsStrictlySortedBy};
+    ghost use Rattle.std.specs.FinMap.{FinMap, empty};
     ghost use Rattle.checkout.specs.declared.made.MadeFile.{MadeFile};
+    ghost use Rattle.checkout.specs.Changes.{file_ids};
+    ghost use Rattle.checkout.specs.Laying.{with_made};
     ghost use Rattle.checkout.specs.MadeCodes.{made_code};
 
     ghost Value = { FinMap nat_cmp MadeFile };
 
     ghost coded = { made_code };
 
-    ghost view = { λ a. from_entries a.files.entries };
+    ghost view = { λ a. with_made empty a.files.items };
 
-    ghost invariant = { λ a. IsOrdered nat_cmp a.files };
+    ghost invariant = { λ a. IsStrictlySortedBy nat_cmp (file_ids a.files.items) };
 }
 
 impl MadeFiles {
@@ -44,25 +52,41 @@ impl MadeFiles {
         ensures { result ≡ empty }
     {
         MadeFiles {
-            files: BTreeMap::new(alloc),
+            files: Vec::new(alloc),
         }
+    }
+
+    /// Makes the set of the files in `list`, whose ids rise.
+    pub fn of(alloc: Global, list: &[Made]) -> Result<MadeFiles, NoMemory>
+        requires rising { IsStrictlySortedBy nat_cmp (file_ids list.now) }
+        ensures { IfOk result (λ made. made ≡ with_made empty list.now) }
+    {
+        let files = Vec::from_slice(alloc, list)?;
+        Ok(MadeFiles { files })
     }
 
     /// Returns the made file with this id, or none.
     pub fn get(&self, file: FileId) -> Option<MadeFile>
         ensures { result ≡ get self.now file.0 }
     {
-        self.files.get(&file.0).copied()
+        let made = made_at(self.files.as_slice(), file)?;
+        Some(MadeFile {
+            kind: made.kind,
+            perm: made.perm,
+        })
     }
 
-    /// Adds a file, in place of the file with the same id, if there is one. Memory is refused only for a new id, and
-    /// then nothing changes.
-    pub fn insert(&mut self, file: FileId, made: MadeFile) -> Result<(), NoMemory>
+    /// Adds a file, whose id is greater than those of all others. If memory is refused, nothing changes.
+    pub fn add(&mut self, file: FileId, made: MadeFile) -> Result<(), NoMemory>
+        requires later { (id : ℕ) → IsSome (get self.old id) → id < file.0 }
         ensures ok { OnOk result (self.new ≡ insert self.old file.0 made) }
         ensures err { OnErr result (self.new ≡ self.old) }
-        ensures absent { OnErr result (get self.old file.0 ≡ None) }
     {
-        self.files.insert(file.0, made)?;
+        self.files.push(Made {
+            file,
+            kind: made.kind,
+            perm: made.perm,
+        })?;
         Ok(())
     }
 
@@ -70,14 +94,40 @@ impl MadeFiles {
     pub fn list(&self, alloc: Global) -> Result<Vec<Made>, NoMemory>
         ensures { IfOk result (λ list. list.items ≡ map listed_file (entries self.now)) }
     {
-        let mut list = Vec::with_capacity(alloc, self.files.len())?;
-        for (file, made) in &self.files {
-            list.push(Made {
-                file: FileId(*file),
-                kind: made.kind,
-                perm: made.perm,
-            })?;
-        }
+        let list = Vec::from_slice(alloc, self.files.as_slice())?;
         Ok(list)
+    }
+}
+
+/// Returns the file with this id, or none. Looks first where it stands if no id is missing, and else searches by
+/// halving.
+pub fn made_at(files: &[Made], file: FileId) -> Option<Made>
+    requires rising { IsStrictlySortedBy nat_cmp (file_ids files.now) }
+    ensures { result ≡ find (λ (x : MadeState). x.file.0 == file.0) files.now }
+{
+    if let Some(made) = dense_at(files, file) {
+        return Some(made);
+    }
+    match files.binary_search_by_key(&file.0, |made| made.file.0) {
+        Ok(index) => Some(files[index]),
+        Err(_) => None,
+    }
+}
+
+/// Returns the file with this id, if there is one and no id between the first file's and this one is missing.
+fn dense_at(files: &[Made], file: FileId) -> Option<Made>
+    requires rising { IsStrictlySortedBy nat_cmp (file_ids files.now) }
+    ensures { IfSome result (λ made. find (λ (x : MadeState). x.file.0 == file.0) files.now ≡ Some made) }
+{
+    let first = files.first()?;
+    let index = file.0.wrapping_sub(first.file.0) as usize;
+    if index >= files.len() {
+        return None;
+    }
+    let made = files[index];
+    if made.file.0 == file.0 {
+        Some(made)
+    } else {
+        None
     }
 }

@@ -5,8 +5,8 @@ ghost use Rattle.std.specs.FinMap.{entries};
 ghost use Rattle.std.specs.List.{list_any};
 ghost use Rattle.checkout.specs.Added.{gives};
 ghost use Rattle.checkout.specs.Around.{links_now, AreBeside, IsDirAbove};
-ghost use Rattle.checkout.specs.BadChanges.{file_does};
-ghost use Rattle.checkout.specs.Laying.{AreTaken};
+ghost use Rattle.checkout.specs.BadChanges.{file_does, gives_same};
+ghost use Rattle.checkout.specs.Laying.{base_target, AreTaken};
 ghost use Rattle.checkout.specs.Listing.{differs};
 ghost use Rattle.checkout.specs.UnlinkedFiles.{is_gone};
 ghost use Rattle.checkout.specs.Overlay.{is_line};
@@ -38,7 +38,7 @@ pub fn is_left(manifest: &Manifest, gone: &UnlinkedFiles, file: FileId) -> bool
 pub fn is_linked(manifest: &Manifest, added: &Added, gone: &UnlinkedFiles, file: FileId) -> bool
     ensures { result ≡ (gives added.now file || (is_line manifest.now file && not (is_gone gone.now file.0))) }
 {
-    added.dir_of(file).is_some() || is_left(manifest, gone, file)
+    is_left(manifest, gone, file) || added.dir_of(file).is_some()
 }
 
 /// Returns whether a name stands in the directory.
@@ -91,11 +91,24 @@ pub fn lose(manifest: &Manifest, gone: &mut UnlinkedFiles, lost: &mut Tally, tar
     lost.raise(line.dir.0);
 }
 
+/// Returns whether the target of `link` is what the manifest has at this place; either may be none. The manifest is not
+/// searched for a file that is none of its own.
+pub fn is_there(manifest: &Manifest, link: &LinkChange) -> bool
+    ensures { result ≡ gives_same link.now.target (base_target manifest.now link.now) }
+{
+    if let Some(file) = link.target {
+        if !is_line(manifest, file) {
+            return false;
+        }
+    }
+    gives_same(link.target, manifest.child(link.dir, link.name.bytes()))
+}
+
 /// Returns whether the target of `link` is another than the manifest has at this place; either may be none.
 fn differs(manifest: &Manifest, link: &LinkChange) -> bool
     ensures { result ≡ differs manifest.now link.now }
 {
-    !gives_same(link.target, manifest.child(link.dir, link.name.bytes()))
+    !is_there(manifest, link)
 }
 
 /// Removes from `links` each one whose target is what the manifest has at its place: the file moved away and came back.

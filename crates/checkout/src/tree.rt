@@ -303,7 +303,7 @@ impl Tree {
             return Err(CreateFault::NoMemory);
         };
         let made = MadeFile { kind, perm };
-        let Ok(()) = self.made.insert(file, made) else {
+        let Ok(()) = self.made.add(file, made) else {
             self.added.remove(dir, name);
             return Err(CreateFault::NoMemory);
         };
@@ -329,35 +329,33 @@ impl Tree {
         file
     }
 
-    /// Moves the file under `name` in `dir` to `to_name` in `to_dir`. Returns the file that stood there, if any: it
-    /// loses its link, and stays in the tree. If memory is refused, nothing changes.
+    /// Moves `file`, which stands under `name` in `dir`, to `to_name` in `to_dir`. The file that stands there is `replaced`,
+    /// if any: it loses its link, and stays in the tree. Looks for neither file. If memory is refused, nothing changes.
     pub fn rename(
         &mut self,
         dir: FileId,
         name: &Name,
+        file: FileId,
         to_dir: FileId,
         to_name: &Name,
-    ) -> Result<Option<FileId>, NoMemory>
-        requires there { IsSome (child_of self.old dir name.now) }
+        replaced: Option<FileId>,
+    ) -> Result<(), NoMemory>
+        requires there { child_of self.old dir name.now ≡ Some file }
+        requires replaced { child_of self.old to_dir to_name.now ≡ replaced }
         requires to_dir { kind_of self.old to_dir ≡ Some Dir }
         requires reached { is_unlinked self.old to_dir ≡ false }
-        requires other { child_of self.old to_dir to_name.now ≢ child_of self.old dir name.now }
-        requires fits { IfSome (child_of self.old dir name.now) (λ file.
-            IfSome (child_of self.old to_dir to_name.now) (λ replaced. can_replace self.old file replaced ≡ true)) }
-        requires not_above { IfSome (child_of self.old dir name.now) (λ file.
-            IsAtOrAbove self.old file to_dir → ⊥) }
+        requires other { replaced ≢ Some file }
+        requires fits { IfSome replaced (λ other. can_replace self.old file other ≡ true) }
+        requires not_above { IsAtOrAbove self.old file to_dir → ⊥ }
         ensures renamed { OnOk result (self.new ≡ renamed self.old dir name.now to_dir to_name.now) }
-        ensures replaced { IfOk result (λ replaced. replaced ≡ child_of self.old to_dir to_name.now) }
         ensures unchanged { OnErr result (self.new ≡ self.old) }
         ensures is_tree { IsTree self.new }
     {
-        let file = self.child(dir, name).unwrap();
-        let replaced = self.child(to_dir, to_name);
         self.added
             .rename(self.alloc, dir, name, to_dir, to_name, file)?;
         let (gone, lost) = (&mut self.gone, &mut self.lost);
         overlay::lose(&self.manifest, gone, lost, Some(file));
         overlay::lose(&self.manifest, gone, lost, replaced);
-        Ok(replaced)
+        Ok(())
     }
 }

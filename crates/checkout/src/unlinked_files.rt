@@ -51,6 +51,13 @@ impl UnlinkedFiles {
         self.marks.count(file.0) > 0
     }
 
+    /// Returns the ids of the files, in the order in which their links went.
+    pub fn files(&self) -> &[u64]
+        ensures { result.now ≡ self.now.files }
+    {
+        self.files.as_slice()
+    }
+
     /// Appends to `links` a change without a target for each file of the set, at the file's place in the manifest. A
     /// place at which `added` has a link is left out.
     pub fn list(

@@ -37,7 +37,8 @@ impl Bucket {
         self.fourth.get(key)
     }
 
-    /// Puts `number` at `key`, which has none, into the first empty cell. Returns whether there was one. Puts no 0.
+    /// Puts `number` at `key`, which has none, into the first empty cell, and returns whether it did. It never puts a
+    /// `number` of 0.
     pub(crate) fn put(&mut self, key: u64, number: u64) -> bool
         requires free { in_bucket key self.old ≡ None }
         ensures put { (k : ℕ) → in_bucket k self.new
@@ -65,7 +66,7 @@ impl Bucket {
         self.fourth.take(key);
     }
 
-    /// Returns the bucket with the cells whose keys' bucket stands at `place` among `len`; the others are empty.
+    /// Returns a copy of the bucket with only those cells whose key has the bucket at index `place` of `len` buckets.
     pub(crate) fn kept_at(&self, shift: u32, len: usize, place: usize) -> Bucket
         requires room { 0 < len }
         ensures bucket { result ≡ bucket_at shift len place self.now }

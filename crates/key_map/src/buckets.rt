@@ -16,7 +16,8 @@ pub(crate) fn number_at(buckets: &[Bucket], shift: u32, key: u64) -> Option<u64>
     buckets[home_of(buckets.len(), shift, key)].get(key)
 }
 
-/// Puts `number` at `key`, which has none, if its bucket has an empty cell, and returns whether it did. Puts no 0.
+/// Puts `number` at `key`, which has none, if its bucket has an empty cell, and returns whether it did. It never puts a
+/// `number` of 0.
 pub(crate) fn put(buckets: &mut Vec<Bucket>, shift: u32, key: u64, number: u64) -> bool
     requires free { kept buckets.old.items shift key ≡ None }
     ensures put { (k : ℕ) → kept buckets.new.items shift k

@@ -17,7 +17,7 @@ fn bits_of(shift: u32, key: u64) -> u64
     key.wrapping_mul(0xD6E8_FEB8_6659_FD93).wrapping_shr(shift)
 }
 
-/// Returns which of `len` buckets is that of `key`.
+/// Returns the index of the bucket that `key` has among `len` buckets.
 pub(crate) fn home_of(len: usize, shift: u32, key: u64) -> usize
     requires { 0 < len }
     ensures home { result ≡ home shift len key }
@@ -39,7 +39,7 @@ impl Cell {
         None
     }
 
-    /// Fills an empty cell with `key` and `number`, and returns whether it did. Puts no 0.
+    /// Fills an empty cell with `key` and `number`, and returns whether it did. It never puts a `number` of 0.
     pub(crate) fn put(&mut self, key: u64, number: u64) -> bool
         ensures put { (k : ℕ) → in_cell k self.new
             ≡ (if result && k == key then Some number else in_cell k self.old) }
@@ -60,7 +60,7 @@ impl Cell {
         }
     }
 
-    /// Returns the cell, if its key's bucket stands at `place` among `len`, else an empty one.
+    /// Returns the cell if its key has the bucket at index `place` of `len` buckets, else an empty cell.
     pub(crate) fn kept_at(self, shift: u32, len: usize, place: usize) -> Cell
         requires room { 0 < len }
         ensures cell { result ≡ kept_at shift len place self }

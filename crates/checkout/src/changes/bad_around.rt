@@ -30,7 +30,7 @@ pub fn first_bad_around(
         IsBadAround manifest.now changes.now (option_map (λ i. first_link changes.now + i) found)) }
 {
     let links = changes.links.as_slice();
-    match first_above(alloc, manifest, added, gone, links)? {
+    match first_above(alloc, manifest, added, gone, lost, links)? {
         Some(index) => Ok(Some(index)),
         None => Ok(first_cut(manifest, added, gone, lost, links)),
     }

@@ -10,7 +10,9 @@ ghost use Rattle.checkout.specs.Changes.{file_ids};
 ghost use Rattle.manifest.specs.Tree.{is_dir};
 
 use super::{Changes, Made};
+use crate::made::made_at;
 use crate::order::compare;
+use crate::overlay::is_there;
 use eden_base::{END_OF_FILES, FileId, Kind};
 use manifest::{LinkChange, Manifest};
 use std::cmp::Ordering;
@@ -73,15 +75,13 @@ fn is_behind(before: Option<&LinkChange>, change: &LinkChange) -> bool
     }
 }
 
-/// Returns the kind of a made file, or none if `files` doesn't contain the file. Searches by halving.
+/// Returns the kind of a made file, or none if `files` doesn't contain the file.
 fn kind_made(files: &[Made], file: FileId) -> Option<Kind>
     requires rising { IsStrictlySortedBy nat_cmp (file_ids files.now) }
     ensures { result ≡ option_map (λ (x : Made). x.kind) (find (λ (x : Made). x.file.0 == file.0) files.now) }
 {
-    match files.binary_search_by_key(&file.0, |made| made.file.0) {
-        Ok(index) => Some(files[index].kind),
-        Err(_) => None,
-    }
+    let made = made_at(files, file)?;
+    Some(made.kind)
 }
 
 /// Returns the kind of the root, of a file of the manifest, or of a made file; none for any other id.
@@ -117,13 +117,6 @@ fn is_target(manifest: &Manifest, files: &[Made], target: Option<FileId>) -> boo
     }
 }
 
-/// Returns the file that the manifest has at the place of `change`, or none.
-fn manifest_target(manifest: &Manifest, change: &LinkChange) -> Option<FileId>
-    ensures { result ≡ manifest_target manifest.now change.now }
-{
-    manifest.child(change.dir, change.name.bytes())
-}
-
 /// Returns whether both targets are the same file, or both are none.
 pub fn gives_same(target: Option<FileId>, other: Option<FileId>) -> bool
     ensures { result ≡ gives_same target other }
@@ -133,6 +126,13 @@ pub fn gives_same(target: Option<FileId>, other: Option<FileId>) -> bool
         (None, None) => true,
         _ => false,
     }
+}
+
+/// Returns whether the target of `change` is what the manifest has at this place; either may be none.
+fn is_no_change(manifest: &Manifest, change: &LinkChange) -> bool
+    ensures { result ≡ gives_same change.now.target (manifest_target manifest.now change.now) }
+{
+    is_there(manifest, change)
 }
 
 /// Returns whether a changed link is bad: its place doesn't come after that of the change before it, or its `dir` is no
@@ -149,7 +149,7 @@ fn is_bad_link(
     !is_behind(before, change)
         || !is_dir(kind_with(manifest, files, change.dir))
         || !is_target(manifest, files, change.target)
-        || gives_same(change.target, manifest_target(manifest, change))
+        || is_no_change(manifest, change)
 }
 
 /// Returns the position of the first bad changed link, or none. The positions of links follow those of the made files.

@@ -1,9 +1,10 @@
 //! The first changed link whose target another link gives too.
-ghost use Rattle.std.specs.Prelude.{◌≡◌, ℕ, None, IfOk};
+ghost use Rattle.std.specs.Prelude.{◌≡◌, ℕ, None, IfOk, IsTrue};
+ghost use Rattle.std.specs.List.{IsDistinct};
 ghost use Rattle.std.specs.BTreeMap.{get as mark_of, IsOrdered};
-ghost use Rattle.std.specs.Ordering.{nat_cmp};
+ghost use Rattle.std.specs.Ordering.{eq_by_cmp, nat_cmp};
 ghost use Rattle.checkout.specs.UnlinkedFiles.{is_gone};
-ghost use Rattle.checkout.specs.Rounds.{first_of, is_given_twice, is_marked, marked};
+ghost use Rattle.checkout.specs.Rounds.{first_of, ids_given, is_given_twice, is_marked, marked};
 
 use crate::overlay::is_left;
 use crate::unlinked_files::UnlinkedFiles;
@@ -12,8 +13,49 @@ use manifest::{LinkChange, Manifest};
 use std::alloc::Global;
 use std::collections::BTreeMap;
 
-/// Returns the ids of the files that changed links give, each with whether several of these links give the file.
+/// Returns the ids of the files that changed links give, in the order of the links.
+fn ids_given(alloc: Global, links: &[LinkChange]) -> Result<Vec<u64>, NoMemory>
+    ensures ids { IfOk result (λ ids. ids.items ≡ ids_given links.now) }
+{
+    let mut ids = Vec::with_capacity(alloc, links.len())?;
+    for change in links {
+        if let Some(file) = change.target {
+            ids.push(file.0)?;
+        }
+    }
+    Ok(ids)
+}
+
+/// Returns whether no id is in `ids` twice. Sorts the list in its own memory.
+fn are_apart(ids: Vec<u64>) -> bool
+    ensures apart { IsTrue result → IsDistinct (eq_by_cmp nat_cmp) ids.items }
+{
+    let mut ids = ids;
+    ids.sort_unstable();
+    for i in 1..ids.len() {
+        if ids[i - 1] >= ids[i] {
+            return false;
+        }
+    }
+    true
+}
+
+/// Returns the ids of the files that several changed links give, each marked. If there are any, other files that changed
+/// links give are there too, without a mark.
 fn marks(alloc: Global, links: &[LinkChange]) -> Result<BTreeMap<u64, bool>, NoMemory>
+    ensures ordered { IfOk result (λ marks. IsOrdered nat_cmp marks) }
+    ensures marks { IfOk result (λ marks. (file : ℕ) →
+        is_marked (mark_of nat_cmp marks file) ≡ is_marked (marked file None links.now)) }
+{
+    let ids = ids_given(alloc, links)?;
+    if are_apart(ids) {
+        return Ok(BTreeMap::new(alloc));
+    }
+    all_marks(alloc, links)
+}
+
+/// Returns the ids of the files that changed links give, each with whether several of these links give the file.
+fn all_marks(alloc: Global, links: &[LinkChange]) -> Result<BTreeMap<u64, bool>, NoMemory>
     ensures ordered { IfOk result (λ marks. IsOrdered nat_cmp marks) }
     ensures marks { IfOk result (λ marks. (file : ℕ) → mark_of nat_cmp marks file ≡ marked file None links.now) }
 {
@@ -69,7 +111,8 @@ pub fn first_given_twice(
     Ok(first_marked(manifest, gone, &marks, links))
 }
 
-/// Returns the same index as `first_given_twice`. `marks` must be what the function `marks` returns for `links`.
+/// Returns the index of the first changed link whose target a link of the manifest gives too, or `marks` has as one that
+/// several give.
 fn first_marked(
     manifest: &Manifest,
     gone: &UnlinkedFiles,

@@ -2,10 +2,13 @@
 ghost use Rattle.std.specs.Prelude.{◌≡◌, ◌+◌, ◌<◌, None, IfErr, IfOk, OnOk, length};
 ghost use Rattle.std.specs.FinMap.{empty};
 ghost use Rattle.std.specs.List.{AllByRecursion};
+ghost use Rattle.std.specs.List.Sorted.{IsStrictlySortedBy};
+ghost use Rattle.std.specs.Ordering.{nat_cmp};
 ghost use Rattle.eden_base.specs.Name.{IsNameText};
 ghost use Rattle.checkout.specs.declared.fault.ChangeFault.TheVariants.{BadChange};
 ghost use Rattle.checkout.specs.BadChanges.{bad_by_other, bad_itself, IsBadAround};
 ghost use Rattle.checkout.specs.Changed.{IsChangeRefusal};
+ghost use Rattle.checkout.specs.Changes.{file_ids};
 ghost use Rattle.checkout.specs.Laying.{taken, with_added, with_made, AreTaken, CanAdd};
 ghost use Rattle.manifest.specs.Manifest.{IsManifest};
 ghost use Rattle.checkout.specs.Rounds.{AreLaid};
@@ -102,8 +105,8 @@ fn taken(
     Ok((gone, lost))
 }
 
-/// Checks that no other link gives the target of a changed link, else returns the position of the first change of which
-/// one does. `gone` has the manifest's files at the places of changed links.
+/// Checks that no other link gives the target of a changed link, else returns the position of the first change whose
+/// target another link gives. `gone` has the manifest's files at the places of changed links.
 fn look_for_others(
     alloc: Global,
     manifest: &Manifest,
@@ -125,11 +128,12 @@ fn look_for_others(
 
 /// Returns what the changes add to the manifest: the made files, and the added links.
 fn brought(alloc: Global, changes: &Changes) -> Result<(MadeFiles, Added), NoMemory>
+    requires rising { IsStrictlySortedBy nat_cmp (file_ids changes.now.made) }
     requires fit { CanAdd empty changes.now.links }
     ensures made { IfOk result (λ p. p.0 ≡ with_made empty changes.now.made) }
     ensures added { IfOk result (λ p. p.1 ≡ with_added empty changes.now.links) }
 {
-    let made = laying::made(alloc, changes.made.as_slice())?;
+    let made = MadeFiles::of(alloc, changes.made.as_slice())?;
     let added = laying::added(alloc, changes.links.as_slice())?;
     Ok((made, added))
 }

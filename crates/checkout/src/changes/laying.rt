@@ -3,11 +3,9 @@ ghost use Rattle.std.specs.Prelude.{◌≡◌, ◌∷◌, ◌++◌, [], IfOk};
 ghost use Rattle.std.specs.FinMap.{empty};
 ghost use Rattle.std.specs.List.{AllByRecursion};
 ghost use Rattle.eden_base.specs.Name.{IsNameText};
-ghost use Rattle.checkout.specs.Laying.{taken, with_added, with_made, AreTaken, CanAdd, IsLeft, StandApart};
+ghost use Rattle.checkout.specs.Laying.{taken, with_added, AreTaken, CanAdd, IsLeft, StandApart};
 
-use super::Made;
 use crate::added::Added;
-use crate::made::{MadeFile, MadeFiles};
 use crate::unlinked_files::UnlinkedFiles;
 use eden_base::NoMemory;
 use manifest::{LinkChange, Manifest, Tally};
@@ -61,19 +59,4 @@ pub fn added(alloc: Global, links: &[LinkChange]) -> Result<Added, NoMemory>
         }
     }
     Ok(added)
-}
-
-/// Returns the made files of `list`, by their ids.
-pub fn made(alloc: Global, list: &[Made]) -> Result<MadeFiles, NoMemory>
-    ensures { IfOk result (λ files. files ≡ with_made empty list.now) }
-{
-    let mut files = MadeFiles::new(alloc);
-    for made in list {
-        let kept = MadeFile {
-            kind: made.kind,
-            perm: made.perm,
-        };
-        files.insert(made.file, kept)?;
-    }
-    Ok(files)
 }

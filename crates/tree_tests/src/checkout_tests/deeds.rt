@@ -148,12 +148,16 @@ pub(crate) fn renamed(
     if tree.is_at_or_above(file, to_dir) {
         return None;
     }
-    if let Some(other) = tree.child(to_dir, to_name) {
+    let replaced = tree.child(to_dir, to_name);
+    if let Some(other) = replaced {
         if other.0 == file.0 || !can_replace(tree, file, other) {
             return None;
         }
     }
-    Some(tree.rename(dir, name, to_dir, to_name))
+    match tree.rename(dir, name, file, to_dir, to_name, replaced) {
+        Ok(()) => Some(Ok(replaced)),
+        Err(NoMemory) => Some(Err(NoMemory)),
+    }
 }
 
 /// Calls `renamed`, and once more if memory was refused.

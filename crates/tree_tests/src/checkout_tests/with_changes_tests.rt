@@ -170,7 +170,7 @@ fn has_the_changes_that_it_was_made_of(rt: HostRuntime) {
     assert!(rt; goes_so(rt.alloc(), MOVED, None));
 }
 
-/// The changes of a tree without changes that has no file id left.
+/// No made files and no changed names, but no file id is left.
 static USED_UP: Told = (&[], &[], 9_223_372_036_854_775_807);
 
 /// Returns whether making a file in the root of `tree` fails because no id is left, and changes nothing.

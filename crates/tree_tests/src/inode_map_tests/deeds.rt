@@ -23,7 +23,7 @@ pub enum Deed {
     Foresee(u64, u64, Forgot),
     After(u64, u64),
     Count(u64, u64),
-    /// All entries, each as its number, directory and count. For no directory stands 0.
+    /// All entries, each as its number, directory and count. A directory 0 stands for none.
     Entries(&'static [(u64, u64, u64)]),
     /// The directory in which a number stands.
     Parent(u64, u64),
@@ -182,7 +182,7 @@ fn mark_of(map: &InodeMap, number: u64) -> u64 {
     }
 }
 
-/// Moves `number` to the directory and the name in `place`, and returns whether it moved. For no file stands 0.
+/// Moves `number` to the directory and the name in `place`, and returns whether it moved. A file 0 stands for none.
 fn moves(alloc: Global, map: &mut InodeMap, number: u64, place: (u64, &[u8]), file: u64) -> bool {
     let (parent, name) = place;
     let file = if file == 0 { None } else { Some(FileId(file)) };

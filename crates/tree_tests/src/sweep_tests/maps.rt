@@ -97,7 +97,7 @@ pub(crate) fn are_given(alloc: Global, count: u64, deep: bool, giving: Giving) -
     }
 }
 
-/// Gives a number to a name of `len` bytes. Returns whether the map then has `len` entries.
+/// Gives a number to a name of `len` bytes, after each shorter one. Returns whether the map then has `len` entries.
 fn is_name_given(alloc: Global, map: &mut InodeMap, len: usize) -> bool {
     match parsed(alloc, &LONGEST_NAME[..len.min(255)]) {
         Some(name) => {

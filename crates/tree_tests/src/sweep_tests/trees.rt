@@ -72,7 +72,8 @@ pub(crate) fn are_made(alloc: Global, count: u64, deep: bool) -> bool {
     }
 }
 
-/// Makes a directory under a name of `len` bytes. Returns whether the tree then tells `len` made files.
+/// Makes a directory under a name of `len` bytes, after each shorter one. Returns whether the tree then tells `len`
+/// made files.
 fn is_name_made(alloc: Global, tree: &mut Tree, len: usize) -> bool {
     match parsed(alloc, &LONGEST_NAME[..len.min(255)]) {
         Some(name) => {

@@ -5,11 +5,14 @@ use Rattle.checkout.specs.Around.{GivesTarget, IsFirstAbove, links_now}
 use Rattle.checkout.specs.UnlinkedFiles.{is_gone}
 use Rattle.checkout.specs.Rounds.{cuts, first_of}
 use Rattle.manifest.specs.Tally.{count_of}
-use Rattle.checkout.proofs.RoundsAround.{all_give, are_apart, are_beside, around_above, around_cut}
+use Rattle.checkout.proofs.RoundsAround.{all_give, are_apart, are_beside, are_counted, around_above, around_cut}
 use Rattle.checkout.proofs.changes.bad_around.first_bad_around.Goals as goal
 
 pub first_above-requires-clause-beside : goal.first_above-requires-clause-beside
 first_above-requires-clause-beside c = are_beside c.args.manifest.now c.args.changes.now c.args.added.now c.args.gone.now c.args.lost.now c.requires.laid
+
+pub first_above-requires-clause-counted : goal.first_above-requires-clause-counted
+first_above-requires-clause-counted c = are_counted c.args.manifest.now c.args.changes.now c.args.added.now c.args.gone.now c.args.lost.now c.requires.laid
 
 pub first_above-requires-clause-apart : goal.first_above-requires-clause-apart
 first_above-requires-clause-apart c = are_apart c.args.manifest.now c.args.changes.now c.args.added.now c.args.gone.now c.args.lost.now c.requires.laid

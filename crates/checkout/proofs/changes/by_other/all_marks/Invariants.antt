@@ -3,7 +3,7 @@ use Rattle.std.proofs.Common.{◌≡◌, ℕ, None, drop}
 use Rattle.std.specs.BTreeMap.{get as mark_of, IsOrdered}
 use Rattle.std.specs.Ordering.{nat_cmp}
 use Rattle.checkout.specs.Rounds.{marked}
-use Rattle.checkout.proofs.changes.by_other.marks.Given as goal
+use Rattle.checkout.proofs.changes.by_other.all_marks.Given as goal
 
 abbrev pub invariant-loop-change : goal.invariant-loop-change
 invariant-loop-change l = record {
