@@ -1,6 +1,6 @@
 -- A table of which an entry was taken out of its slot.
 use Rattle.std.proofs.Common.{◌≡◌, ℕ, List, Option, Some, get_or, refl, sym, ap, ◌∙◌, subst}
-use Rattle.std.specs.Option.{option_map}
+use Rattle.std.specs.Option.{option_map, option_and_then}
 use Rattle.eden_base.specs.First.{without_where}
 use Rattle.eden_base.specs.declared.number.FileId.{FileId}
 use Rattle.eden_base.specs.declared.number.Number.{Number}
@@ -9,12 +9,13 @@ use Rattle.entry_table.specs.Entries.{has_number, entry_of, place_of_kept}
 use Rattle.entry_table.specs.Inside.{IsTable}
 use Rattle.entry_table.specs.Links.{Unlinks}
 use Rattle.entry_table.specs.Slots.{kept_from, slot_at, file_beside, note_beside, files_from, notes_from, spare_of, AreSlots, IsIndexed, IsIndexOf}
-use Rattle.entry_table.specs.Table.{TableState, kept_of, without_entry}
+use Rattle.entry_table.specs.Table.{TableState, kept_of, without_entry, note_of}
 use Rattle.entry_table.specs.declared.kept.Kept.{Kept}
 use Rattle.entry_table.specs.declared.kept.Entry.{Entry}
 use Rattle.entry_table.specs.declared.index.Index.{Index}
 use Rattle.entry_table.specs.declared.table.Table.TheInside.{Inside}
 use Rattle.entry_table.proofs.IndexedLosses.{indexed-lost, indexed-left}
+use Rattle.entry_table.proofs.SlotLemmas.{held-beside}
 use Rattle.entry_table.proofs.SlotWrites.{set-slots, emptied, emptied-kept, emptied-beside}
 use Rattle.entry_table.proofs.TableLemmas.{view_of, slot-entry, found-held, written, without-loses}
 use Rattle.entry_table.proofs.Standing.{Loses}
@@ -60,6 +61,11 @@ module _ {t : Inside} {n : ℕ} {h : Entry} {left : List (ℕ × Option Entry)} 
   -- what its view says
   pub left-place : (now : TableState) → view_of t ≡ now → option_map place_of_kept (entry_of now.entries n) ≡ Some h.place
   left-place now view = rw (← view) (ap (option_map place_of_kept) (slot-entry t n h out.is out.found))
+
+  pub left-note : (now : TableState) → view_of t ≡ now → note_of now.notes n ≡ h.note
+  left-note now view =
+      rw (← view) (sym (held-beside note_beside t.slots.items 2 t.next n out.is.slots)
+      ∙ ap (λ (s : Option (Option Entry)). option_and_then note_beside (option_and_then (λ (entry : Option Entry). entry) s)) out.found)
 
   pub left-view : (now : TableState) → view_of t ≡ now →
       record { entries = kept_from left; remembered = files_from left; notes = notes_from left; next = t.next; spare = spare_of t.is_reserved } ≡ without_entry now n (without_where (has_number n) now.entries)

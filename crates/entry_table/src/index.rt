@@ -118,8 +118,8 @@ impl Index {
         });
     }
 
-    /// Removes the link of `number`, which stands under `name` in the directory `parent`. The link that was added last
-    /// stands in no map.
+    /// Removes the link of `number`, which stands under `name` in the directory `parent`. If that link was added last,
+    /// no map has it, and none changes.
     pub fn remove(&mut self, parent: u64, name: &Name, number: u64)
         ensures { Unlinks self.old self.new parent name.now number }
     {

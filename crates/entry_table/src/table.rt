@@ -15,7 +15,7 @@ ghost use Rattle.entry_table.specs.Table.{IsIn, kept_of, without_entry, AreOfKep
 
 mod moves;
 
-use crate::dense::dense_index_of;
+use crate::dense::{dense_index_from_end, dense_index_of, index_if};
 use crate::index::Index;
 use crate::kept::{Entry, Kept};
 use crate::way::locate;
@@ -28,7 +28,9 @@ use std::marker::Model;
 pub(crate) type Slot = (u64, Option<Entry>);
 
 /// The entries, by number and by place. The slots stand by rising number, so that a new number's slot is the last. If
-/// `is_reserved`, there is room for the slot of the next number. `way` has room for a walk past all entries.
+/// `is_reserved`, there is room for the slot of the next number. `way` has room for a walk past all entries. `near` is
+/// the index of the slot that was added or lowered last, if no empty slot was dropped since: calls for one number mostly
+/// follow one another.
 #[derive(Drop)]
 pub struct Table {
     slots: Vec<Slot>,
@@ -36,6 +38,7 @@ pub struct Table {
     next: u64,
     is_reserved: bool,
     way: Vec<Number>,
+    near: usize,
 }
 
 impl Model for Table {
@@ -68,6 +71,7 @@ impl Table {
             next: 2,
             is_reserved: false,
             way: Vec::new(alloc),
+            near: 0,
         }
     }
 
@@ -87,6 +91,7 @@ impl Table {
             next,
             is_reserved: false,
             way,
+            near: 0,
         })
     }
 
@@ -179,6 +184,7 @@ impl Table {
             file: None,
             note: None,
         };
+        self.near = self.slots.len();
         self.slots.push_reserved((number.0, Some(entry)));
         self.next += 1;
         self.is_reserved = false;
@@ -222,6 +228,7 @@ impl Table {
             return None;
         }
         let index = index_of(self.slots.as_slice(), number)?;
+        self.near = index;
         let slot = &mut self.slots[index];
         let Some(entry) = &mut slot.1 else {
             return None;
@@ -240,7 +247,7 @@ impl Table {
           remembered = remembered self.old.remembered number.0 file;
         } }
     {
-        let Some(index) = index_of(self.slots.as_slice(), number) else {
+        let Some(index) = index_near(self.slots.as_slice(), self.near, number) else {
             unreachable!()
         };
         let slot = &mut self.slots[index];
@@ -250,12 +257,12 @@ impl Table {
         entry.file = Some(file);
     }
 
-    /// Replaces the note of `number` by `note`, or removes it.
+    /// Replaces the note of `number` by `note`, or removes it if `note` is none.
     pub fn note(&mut self, number: Number, note: Option<u32>)
         requires held { IsSome (entry_of self.old.entries number.0) }
         ensures noted { self.new ≡ record self.old { notes = noted self.old.notes number.0 note } }
     {
-        let Some(index) = index_of(self.slots.as_slice(), number) else {
+        let Some(index) = index_near(self.slots.as_slice(), self.near, number) else {
             unreachable!()
         };
         let slot = &mut self.slots[index];
@@ -295,14 +302,15 @@ impl Table {
         *parent
     }
 
-    /// Removes the entry of `number`, and returns the place where it stood.
-    pub fn remove(&mut self, number: Number) -> Place
+    /// Removes the entry of `number`, and returns it.
+    pub fn remove(&mut self, number: Number) -> Entry
         requires held { IsSome (entry_of self.old.entries number.0) }
-        ensures place { option_map place_of_kept (entry_of self.old.entries number.0) ≡ Some result }
+        ensures place { option_map place_of_kept (entry_of self.old.entries number.0) ≡ Some result.place }
+        ensures note { note_of self.old.notes number.0 ≡ result.note }
         ensures removed { self.new ≡ without_entry self.old number.0
             (without_where (has_number number.0) self.old.entries) }
     {
-        let Some(index) = index_of(self.slots.as_slice(), number) else {
+        let Some(index) = index_near(self.slots.as_slice(), self.near, number) else {
             unreachable!()
         };
         let Some(entry) = self.slots[index].1.take() else {
@@ -311,7 +319,7 @@ impl Table {
         if let Place::Linked { parent, name } = &entry.place {
             self.index.remove(parent.0, name, number.0);
         }
-        entry.place
+        entry
     }
 
     /// Returns the file that `number` names in `tree`, found by the names above it.
@@ -431,12 +439,38 @@ fn index_of(slots: &[Slot], number: Number) -> Option<usize>
     if let Some(index) = dense_index_of(slots, number) {
         return Some(index);
     }
+    sparse_index_of(slots, number)
+}
+
+/// Returns the index of the slot of `number`, where numbers before it are missing. It isn't inlined, so that the code
+/// of its callers stays short.
+#[inline(never)]
+fn sparse_index_of(slots: &[Slot], number: Number) -> Option<usize>
+    requires { IsSlots slots.now }
+    ensures index { IfSome result (IsIndexOf slots.now number.0) }
+    ensures none { IfNone result (slot_at slots.now number.0 ≡ None) }
+{
+    if let Some(index) = dense_index_from_end(slots, number) {
+        return Some(index);
+    }
     let index = up_to(slots, number).checked_sub(1)?;
     if slots[index].0 == number.0 {
         Some(index)
     } else {
         None
     }
+}
+
+/// Returns the index of the slot of `number`. It looks at the slot with the index `near` first.
+fn index_near(slots: &[Slot], near: usize, number: Number) -> Option<usize>
+    requires { IsSlots slots.now }
+    ensures index { IfSome result (IsIndexOf slots.now number.0) }
+    ensures none { IfNone result (slot_at slots.now number.0 ≡ None) }
+{
+    if let Some(index) = index_if(slots, near, number) {
+        return Some(index);
+    }
+    index_of(slots, number)
 }
 
 /// Returns the entry of `number`.

@@ -16,7 +16,7 @@ use Rattle.checkout.specs.RenamedTree.{can_replace, renamed, IsAtOrAbove}
 use Rattle.entry_table.proofs.EntryLemmas.{entry_of-first}
 use Rattle.entry_table.proofs.FileLemmas.{IsFileOf-same, linked-child}
 use Rattle.entry_table.proofs.Places.{stands-place}
-use Rattle.entry_table.specs.Entries.{entry_at, entry_of, is_kept, is_kid_of, number_of_kept, stands_at, IsFileOf, IsLinked}
+use Rattle.entry_table.specs.Entries.{entry_at, entry_of, file_remembered, is_kept, is_kid_of, number_of_kept, stands_at, IsFileOf, IsLinked}
 use Rattle.entry_table.specs.declared.kept.Kept.{Kept}
 use Rattle.fuse_wire.specs.declared.reply.Answer.{Answer}
 use Rattle.fuse_wire.specs.declared.reply.Answer.TheVariants.{Done, Error}
@@ -200,17 +200,26 @@ fits-take served now dir found name to to_name same asked =
     let m : MayTakeName served dir found name to to_name = subst (λ (s : ServedState). MayTakeName s dir found name to to_name) (sym same) asked in
     (waits-found served.tree found to_name m.waits).fits
 
--- what holds of the file that is there
-pub if-there : (P : FileId → Type 0) (o : Option FileId) (file : FileId) → o ≡ Some file → P file → IfSome o P
-if-there P None file e h = absurd (let none : ⊥ = cc in none)
-if-there P (Some f) file e h = let same : file ≡ f = cc in subst P same h
-
 -- the number that was found is an entry's
 pub numbered : (es : List Kept) (dir : ℕ) (name : List ℕ) (n : Number) → Some n ≡ option_map number_of_kept (entry_at es dir name) → (kept : Kept) × (entry_at es dir name ≡ Some kept) × (kept.number ≡ n)
 numbered es dir name n e = in_ (entry_at es dir name) refl e where
   in_ : (o : Option Kept) → entry_at es dir name ≡ o → Some n ≡ option_map number_of_kept o → (kept : Kept) × (entry_at es dir name ≡ Some kept) × (kept.number ≡ n)
   in_ None at h = absurd (let none : ⊥ = cc in none)
   in_ (Some kept) at h = (kept, at, let same : kept.number ≡ n = (let s : Some n ≡ Some kept.number = h in let r : n ≡ kept.number = cc in sym r) in same)
+
+-- the file that is remembered for a name's number stands under the name
+pub recalled-child : (served now : ServedState) (from : Number) (dir : FileId) (name : List ℕ) (n : Number) (file : FileId) → served ≡ now → IsSound served → AreRemembered served → IsFileOf now.tree now.map.entries from.0 dir →
+    Some n ≡ option_map number_of_kept (entry_at now.map.entries from.0 name) → file_remembered served.map.remembered n.0 ≡ Some file → child_of now.tree dir name ≡ Some file
+recalled-child served now from dir name n file same sound remembered above is told =
+    let es = served.map.entries in
+    let at : IsFileOf served.tree es from.0 dir = subst (λ (s : ServedState). IsFileOf s.tree s.map.entries from.0 dir) (sym same) above in
+    let k = numbered es from.0 name n (is ∙ ap (λ (s : ServedState). option_map number_of_kept (entry_at s.map.entries from.0 name)) (sym same)) in
+    let kept = k.0 in
+    let entry : entry_of es kept.number.0 ≡ Some kept = entry_of-first es 2 served.map.next (stands_at from.0 name) kept sound.numbers k.1 in
+    let names = remembered kept.number.0 file (ap (λ (x : Number). file_remembered served.map.remembered x.0) k.2 ∙ told) in
+    let c = linked-child served.tree es kept.number.0 kept from name file (not-one es served.map.next kept.number.0 kept sound.numbers entry) entry (stands-place from.0 name kept (first-passes es (stands_at from.0 name) kept k.1)) names in
+    let is_dir : c.dir_file ≡ dir = IsFileOf-same served.tree es from.0 c.dir_file dir c.at at in
+    sym (ap (λ (s : ServedState). child_of s.tree dir name) same) ∙ ap (λ (y : FileId). child_of served.tree y name) (sym is_dir) ∙ c.child
 
 -- no number was found
 pub unnumbered : (es : List Kept) (dir : ℕ) (name : List ℕ) → None ≡ option_map number_of_kept (entry_at es dir name) → entry_at es dir name ≡ None

@@ -3,4 +3,5 @@
 
 mod served;
 
+pub use journal::{Journal, Record};
 pub use served::Served;

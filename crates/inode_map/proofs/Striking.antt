@@ -1,7 +1,7 @@
 -- Striking what is of no use, a number after another: the walk upwards.
 use Rattle.std.proofs.Common.{◌≡◌, ℕ, zero, suc, ◌+◌, Bool, true, false, not, List, [], ◌∷◌, Option, Some, None, refl, sym, ap, ◌∙◌, subst, inl, inr, ◌⊎◌, arith, length}
 use Rattle.std.proofs.lemmas.Bool.{not-true, or_parts}
-use Rattle.std.specs.Prelude.{◌==◌, nat_lt}
+use Rattle.std.specs.Prelude.{◌==◌, ◌||◌, nat_lt}
 use Rattle.std.specs.Option.{option_map_or}
 use Rattle.std.specs.List.{filter, list_any}
 use Rattle.std.proofs.lemmas.Bool.Decides.{nat_tests}
@@ -28,6 +28,19 @@ useless-entry es n h = useless_in (entry_of es n) refl h where
       let p = or_parts (nat_lt 0 kept.count) (list_any (is_kid_of kept.number.0) es) (not-true (is_of_use es kept) h') in
       let zero_count : nat_lt 0 kept.count ≡ false = p.0 in
       (kept, record { entry = e; no_count = grind (arith, nat_tests); no_kids = subst (λ (m : ℕ). list_any (is_kid_of m) es ≡ false) (entry_of-number es n kept e) p.1 })
+
+-- an entry in whose directory another stands is of use
+pub kids-useful : (es : List Kept) (n : ℕ) → list_any (is_kid_of n) es ≡ true → is_useless es n ≡ false
+kids-useful es n kids = kids_in (entry_of es n) refl where
+  either : (b : Bool) → not (b || true) ≡ false
+  either true = refl
+  either false = refl
+
+  kids_in : (o : Option Kept) → entry_of es n ≡ o → option_map_or (λ (kept : Kept). not (is_of_use es kept)) o false ≡ false
+  kids_in None e = refl
+  kids_in (Some kept) e =
+      let own : list_any (is_kid_of kept.number.0) es ≡ true = subst (λ (m : ℕ). list_any (is_kid_of m) es ≡ true) (sym (entry_of-number es n kept e)) kids in
+      ap (λ b. not (nat_lt 0 kept.count || b)) own ∙ either (nat_lt 0 kept.count)
 
 -- the number of an entry of a shorter list is that of the longer one
 tail-entry : (x : Kept) (es : List Kept) (low next n : ℕ) (kept : Kept) → AreNumbers low next (x ∷ es) → entry_of es n ≡ Some kept → entry_of (x ∷ es) n ≡ Some kept

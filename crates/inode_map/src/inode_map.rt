@@ -386,10 +386,12 @@ impl InodeMap {
 /// Returns whether `number` has an entry with count 0 and no child.
 fn is_useless(table: &Table, number: Number) -> bool
     ensures useless { result ≡ is_useless table.now.entries number.0 }
-    ensures kept { AreOfKept file_number table.now.entries table.now.remembered }
 {
+    if table.has_kids(number) {
+        return false;
+    }
     match table.get(number) {
-        Some(entry) => entry.count == 0 && !table.has_kids(number),
+        Some(entry) => entry.count == 0,
         None => false,
     }
 }

@@ -132,9 +132,9 @@ pub(crate) fn strike(table: &mut Table, nodes: &mut Nodes<LoadedAttr>, number: N
     ensures still_named { AreNamed table.new.notes nodes.new }
 {
     nodes.slots_are_apart();
-    let Some(slot) = slot_of(table, number) else {
-        return table.remove(number);
-    };
-    nodes.remove(slot);
-    table.remove(number)
+    let entry = table.remove(number);
+    if let Some(index) = entry.note {
+        nodes.remove(Slot { index });
+    }
+    entry.place
 }

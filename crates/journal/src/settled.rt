@@ -23,7 +23,7 @@ fn same_outcome(first: &Option<Answer>, second: &Option<Answer>) -> bool
     }
 }
 
-/// Returns whether the record at the receipt's position has the receipt's request and its answer.
+/// Returns whether the record at the receipt's index has the receipt's request and its answer.
 fn is_of(records: &[Record], receipt: &Receipt) -> bool
     ensures same { IsTrue result ↔ IsOf records.now receipt.now }
 {
@@ -35,7 +35,7 @@ fn is_of(records: &[Record], receipt: &Receipt) -> bool
     }
 }
 
-/// Returns whether the record at each receipt's position has that receipt's request and its answer.
+/// Returns whether the record at each receipt's index has that receipt's request and its answer.
 fn are_of(records: &[Record], receipts: &[Receipt]) -> bool
     ensures same { IsTrue result ↔ All (IsOf records.now) receipts.now }
 {
@@ -47,7 +47,7 @@ fn are_of(records: &[Record], receipts: &[Receipt]) -> bool
     true
 }
 
-/// Returns whether each receipt's position is below that of the next receipt.
+/// Returns whether each receipt's index is below that of the next receipt.
 fn is_rising(receipts: &[Receipt]) -> bool
     ensures rising { IsTrue result ↔ IsRising receipts.now }
 {
@@ -59,7 +59,7 @@ fn is_rising(receipts: &[Receipt]) -> bool
     true
 }
 
-/// Counts the position of each receipt in `counts`, and returns whether none was counted before.
+/// Counts the index of each receipt in `counts`, and returns whether none was counted before.
 fn count(counts: &mut Vec<u8>, receipts: &[Receipt]) -> bool
     requires in_range { All (λ (receipt : ReceiptValue). receipt.position < length counts.old.items) receipts.now }
     ensures len { length counts.new.items ≡ length counts.old.items }
@@ -77,15 +77,15 @@ fn count(counts: &mut Vec<u8>, receipts: &[Receipt]) -> bool
     true
 }
 
-/// Returns whether each position was counted once.
+/// Returns whether each index was counted once.
 fn all_once(counts: &[u8]) -> bool
     ensures once { IsTrue result ↔ EachIndex counts.now (λ (position : ℕ). slice_index counts.now position ≡ 1) }
 {
     counts.iter().all(|count| *count == 1)
 }
 
-/// Counts the positions of a worker's receipts. Returns whether each receipt is that of the record at its position, and
-/// the positions rise and were not counted before.
+/// Counts the indices of a worker's receipts. Returns whether each receipt is that of the record at its index, and
+/// the indices rise and were not counted before.
 fn joins(records: &[Record], counts: &mut Vec<u8>, receipts: &[Receipt]) -> bool
     requires len { length counts.old.items ≡ length records.now }
     ensures len { length counts.new.items ≡ length counts.old.items }
@@ -103,8 +103,8 @@ fn joins(records: &[Record], counts: &mut Vec<u8>, receipts: &[Receipt]) -> bool
     count(counts, receipts)
 }
 
-/// Returns whether a round is settled: each receipt is that of the record at its position, the positions of each worker
-/// rise, and each position of the journal has one receipt.
+/// Returns whether a round is settled: each receipt is that of the record at its index, the indices of each worker
+/// rise, and each record of the journal has one receipt.
 pub fn is_settled(alloc: Global, journal: &Journal, workers: &[Receipts]) -> Result<bool, NoMemory>
     ensures settled { IfOk result (λ settled. IsTrue settled ↔ IsSettled journal.now.records workers.now) }
 {

@@ -41,8 +41,8 @@ pub type Shared<N, B> = Mutex<LockedMap<N, B>>;
 
 /// The served state, its backing, the journal, and the total of the round's ledger. Contracts see the journal's
 /// records. By the invariant, the served state is the replay of the journal from the opening state. Each turn leaves
-/// one part of the ledger here, and the journal has room for a record of each other part but one, so no turn finds the
-/// journal full.
+/// one part of the ledger here, and takes one place in the journal. The journal has a place for each other part but
+/// one, so no turn finds it full.
 #[derive(Drop)]
 pub struct LockedMap<N: Opening, B: Backing + Drop> {
     alloc: Global,
@@ -72,7 +72,7 @@ impl<N: Opening, B: Backing + Drop> Model for LockedMap<N, B> {
         × (N.parts ≤ length locked.journal.records + locked.journal.room + 1) };
 }
 
-/// The lock of a round that opens, and the share of its ledger with every part, which is split among the workers.
+/// The lock of a round that opens, and a share with all parts of its ledger, which is to be split among the workers.
 #[derive(Drop)]
 pub struct Opened<N: Opening, B: Backing + Drop> {
     pub shared: Shared<N, B>,
@@ -90,8 +90,8 @@ pub struct Parts<N: Opening, B: Backing + Drop> {
 }
 
 impl<N: Opening, B: Backing + Drop> LockedMap<N, B> {
-    /// Opens a round over what is served, under a ledger that nobody used. The journal has to have room for a record of
-    /// each part of the ledger but one.
+    /// Opens a round over what is served, under a ledger that nobody used. The journal has to have room for as many
+    /// records as the ledger has parts, less one.
     pub fn open(
         alloc: Global,
         blank: Blank,
@@ -121,7 +121,7 @@ impl<N: Opening, B: Backing + Drop> LockedMap<N, B> {
         Opened { shared, share }
     }
 
-    /// Serves `ask`, and counts it in `share`, of which one part stays under the lock.
+    /// Serves `ask`, and counts it in `share`. One part of `share` goes to the lock.
     pub(crate) fn turn(&mut self, ask: Ask, share: &mut Share<N>) -> Turn
         requires parts { 1 < share.old.parts }
         ensures parts { share.new.parts + 1 ≡ share.old.parts }

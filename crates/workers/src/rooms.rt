@@ -30,7 +30,7 @@ impl Model for Rooms {
     } };
 }
 
-/// Returns how many records a round needs room for: one for each part of its ledger but one.
+/// Returns how many records a round needs room for: as many as its ledger has parts, less one.
 fn records_of(channels: usize, turns: usize) -> usize
     requires channels { (1 ≤ channels) × (channels ≤ 16) }
     requires turns { turns ≤ 4096 }

@@ -76,9 +76,9 @@ fn serve_all<
     )
 }
 
-/// Makes what a round leaves, after its workers are done. Their shares of the ledger show that there are as many
-/// records as receipts: their amount is at most the total, and their parts with those under the lock are at most the
-/// ledger's.
+/// Makes what a round leaves, after its workers are done. The ledger shows that there are as many records as receipts.
+/// There are no more receipts, since the amount of the shares is at most the total. There are no more records, since
+/// all parts together are at most the ledger's.
 fn closed<N: Opening, B: Backing + Drop, C: Channel + Drop>(
     parts: Parts<N, B>,
     joined: Joined<N, C>,

@@ -23,7 +23,7 @@ pub struct Shift<N: Opening, C: Channel + Drop> {
 
 /// Takes asks from a channel, at most `turns`, serves each under the map's lock and posts its reply. Ends if there is
 /// no ask, a stop is asked for, or the spare room of `room` is used. Each turn leaves one part of `share` under the
-/// lock, and needs one more. The contract says nothing of the state under the lock.
+/// lock, and never the last. The contract says nothing of the state under the lock.
 pub fn serve_channel<N: Opening, B: Backing + Drop, C: Channel + Drop, G: Hook, R: Wait>(
     rt: &R,
     shared: &Shared<N, B>,

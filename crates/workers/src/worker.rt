@@ -49,7 +49,7 @@ fn post<C: Channel>(channel: &mut C, unique: u64, answer: Option<Answer>) -> Pos
     }
 }
 
-/// Serves an ask under the map's lock, and counts it in `share`, of which one part goes to the lock.
+/// Serves an ask under the map's lock, and counts it in `share`. One part of `share` goes to the lock.
 fn turn_alone<N: Opening, B: Backing + Drop, R: Wait>(
     rt: &R,
     shared: &Shared<N, B>,

@@ -3,7 +3,7 @@ use Rattle.std.proofs.Common.{◌≡◌, ℕ, List, Option, Some, None, sym, ap,
 use Rattle.entry_table.specs.Slots.{slot_at, IsIndexOf}
 use Rattle.entry_table.specs.declared.kept.Entry.{Entry}
 use Rattle.entry_table.proofs.IndexedLosses.{still-ready}
-use Rattle.entry_table.proofs.Removing.{taken-at, left-slots, left-lost, left-marked, left-place, left-view}
+use Rattle.entry_table.proofs.Removing.{taken-at, left-slots, left-lost, left-marked, left-place, left-note, left-view}
 use Rattle.entry_table.proofs.TableLemmas.{never-none, never-empty, found-in}
 use Rattle.entry_table.proofs.table.Table.remove.Goals as goal
 
@@ -60,3 +60,13 @@ pub returns-in_default-place-clause-removed : goal.returns-in_default-place-clau
 returns-in_default-place-clause-removed c =
     let out = taken-at c.self.inside c.args.number.0 c.in-Some.index c.index_mut.result.now c.in-Some-take.entry c.take.new.self c.as_slice.result.now c.self.invariant c.as_slice.ensures.value c.in-Some.ensures.index c.index_mut.ensures.value (sym c.take.ensures.value ∙ c.in-Some-take.is) c.take.ensures.after in
     left-view out c.args.self.now c.self.view_is
+
+pub returns-in-Linked-clause-note : goal.returns-in-Linked-clause-note
+returns-in-Linked-clause-note c =
+    let out = taken-at c.self.inside c.args.number.0 c.in-Some.index c.index_mut.result.now c.in-Some-take.entry c.take.new.self c.as_slice.result.now c.self.invariant c.as_slice.ensures.value c.in-Some.ensures.index c.index_mut.ensures.value (sym c.take.ensures.value ∙ c.in-Some-take.is) c.take.ensures.after in
+    left-note out c.args.self.now c.self.view_is
+
+pub returns-in_default-place-clause-note : goal.returns-in_default-place-clause-note
+returns-in_default-place-clause-note c =
+    let out = taken-at c.self.inside c.args.number.0 c.in-Some.index c.index_mut.result.now c.in-Some-take.entry c.take.new.self c.as_slice.result.now c.self.invariant c.as_slice.ensures.value c.in-Some.ensures.index c.index_mut.ensures.value (sym c.take.ensures.value ∙ c.in-Some-take.is) c.take.ensures.after in
+    left-note out c.args.self.now c.self.view_is

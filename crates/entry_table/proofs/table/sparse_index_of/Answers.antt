@@ -1,7 +1,7 @@
 -- A number that the last slot up to it doesn't have has none.
 use Rattle.std.proofs.Common.{◌≡◌, ◌+◌, ℕ, None, get_or, ap, ◌∙◌, arith}
 use Rattle.entry_table.proofs.SlotSearch.{none-up_to}
-use Rattle.entry_table.proofs.table.index_of.Goals as goal
+use Rattle.entry_table.proofs.table.sparse_index_of.Goals as goal
 
 pub returns-in_err-index-clause-none : goal.returns-in_err-index-clause-none
 returns-in_err-index-clause-none c =
