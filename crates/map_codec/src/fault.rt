@@ -26,7 +26,7 @@ pub enum RaiseFault {
 /// What stops a handover or a takeover.
 #[derive(Clone, Copy, Debug, PartialEq, Eq, Error)]
 pub enum HandoverFault {
-    /// No memory would help: what is served, or the bytes, cannot be handed or taken over.
+    /// What is served cannot be handed over, or the bytes cannot be taken over, however much memory there is.
     #[error("refused")]
     Refused,
     #[error("out of memory")]

@@ -22,7 +22,7 @@ use Rattle.entry_table.specs.EntryPlaces.{HasName}
 use Rattle.map_image.specs.declared.fault.ImageFault.TheVariants.{NotRising, BadMark}
 use Rattle.map_image.specs.Fit.{is_next_number, is_next_file, is_next_place, entry_follows, made_follows, link_follows}
 use Rattle.map_image.specs.ImageText.{name_text, place_mark, place_text, entry_text, kind_mark, made_text, target_text, link_text, FitsPlace, FitsEntry, FitsMade, FitsTarget, FitsLink}
-use Rattle.map_image.specs.ImageReading.{counted_at, named, place_at, rising_at, entry_at, file_at, kind_of_mark, perm_at, made_at, rising_place, target_at, link_at}
+use Rattle.map_image.specs.ImageReading.{counted_at, place_at, rising_at, entry_at, file_at, kind_of_mark, perm_at, made_at, rising_place, target_at, link_at}
 use Rattle.map_image.proofs.FieldLaws.{bit, bit_text, named_again, named_yields, of_count, of_counted, of_eight, of_mark, of_name, of_two, short_name}
 use Rattle.map_image.specs.Versions.{IsForm, width_of}
 use Rattle.map_image.specs.declared.version.VersionForm.{VersionForm}

@@ -25,11 +25,11 @@ pub(crate) fn copied_numbers(alloc: Global, numbers: &[u64]) -> Result<Vec<u64>,
     Ok(copy)
 }
 
-/// Makes a copy of `files`.
-pub(crate) fn copied_made(alloc: Global, files: &[Made]) -> Result<Vec<Made>, NoMemory>
+/// Makes a copy of `files`, with room for `more`.
+pub(crate) fn copied_made(alloc: Global, files: &[Made], more: usize) -> Result<Vec<Made>, NoMemory>
     ensures { IfOk result (λ copy. copy.items ≡ files.now) }
 {
-    let mut copy = Vec::new(alloc);
+    let mut copy = Vec::with_capacity(alloc, files.len().saturating_add(more))?;
     copy.extend_from_slice(files)?;
     Ok(copy)
 }
@@ -62,11 +62,15 @@ fn copied_entry(alloc: Global, kept: &Kept) -> Result<Kept, NoMemory>
     })
 }
 
-/// Makes a copy of `entries`.
-pub(crate) fn copied_entries(alloc: Global, entries: &[Kept]) -> Result<Vec<Kept>, NoMemory>
+/// Makes a copy of `entries`, with room for `more`.
+pub(crate) fn copied_entries(
+    alloc: Global,
+    entries: &[Kept],
+    more: usize,
+) -> Result<Vec<Kept>, NoMemory>
     ensures { IfOk result (λ copy. copy.items ≡ entries.now) }
 {
-    let mut copy = Vec::with_capacity(alloc, entries.len())?;
+    let mut copy = Vec::with_capacity(alloc, entries.len().saturating_add(more))?;
     for kept in entries {
         copy.push(copied_entry(alloc, kept)?)?;
     }
@@ -85,11 +89,15 @@ fn copied_link(alloc: Global, link: &LinkChange) -> Result<LinkChange, NoMemory>
     })
 }
 
-/// Makes a copy of the changed names `links`.
-pub(crate) fn copied_links(alloc: Global, links: &[LinkChange]) -> Result<Vec<LinkChange>, NoMemory>
+/// Makes a copy of the changed names `links`, with room for `more`.
+pub(crate) fn copied_links(
+    alloc: Global,
+    links: &[LinkChange],
+    more: usize,
+) -> Result<Vec<LinkChange>, NoMemory>
     ensures { IfOk result (λ copy. copy.items ≡ links.now) }
 {
-    let mut copy = Vec::with_capacity(alloc, links.len())?;
+    let mut copy = Vec::with_capacity(alloc, links.len().saturating_add(more))?;
     for link in links {
         copy.push(copied_link(alloc, link)?)?;
     }

@@ -74,8 +74,8 @@ fn links_rise(links: &[LinkChange]) -> bool
 }
 
 impl Image {
-    /// Returns whether the image has a text, if its counts and its lists are not too large. Takes memory for the
-    /// directories in which entries stand, which are sorted.
+    /// Returns whether the image has a text, as far as no count or list is too large: its lists rise, and each entry is
+    /// of use. Takes memory for a sorted list of the directories in which entries stand.
     pub fn is_fit(&self, alloc: Global) -> Result<bool, NoMemory>
         ensures fit { IfOk result (λ fit. IsTrue fit ↔ IsFit self.now) }
     {

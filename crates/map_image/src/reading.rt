@@ -6,7 +6,7 @@ ghost use Rattle.map_image.specs.declared.reading.Reading.{Reading};
 
 use crate::copying::{copied_entries, copied_links, copied_made, copied_numbers};
 use crate::header::{form_at, header_at, magic_at};
-use crate::list_reader::{more_entries, more_links, more_made};
+use crate::list_reader::{in_a_part, more_entries, more_links, more_made};
 use crate::usage::{all_of_use, sorted};
 use crate::{Entries, Header, Image, ImageFault, VersionForm};
 use byte_codec::u32_at;
@@ -248,15 +248,27 @@ impl Reading {
         self.links.truncate(mark.links);
     }
 
-    /// Makes a copy of what was read.
+    /// Returns how many entries, made files and changed names a copy gets room for beside those that were read: as many
+    /// as a part may have of the list in which reading stands.
+    fn room_for_a_part(&self) -> (usize, usize, usize) {
+        match self.stage {
+            Stage::AtFront => (0, 0, 0),
+            Stage::AtEntries { left, .. } => (in_a_part(left), 0, 0),
+            Stage::AtMade { left, .. } => (0, in_a_part(left), 0),
+            Stage::AtLinks { left, .. } => (0, 0, in_a_part(left)),
+        }
+    }
+
+    /// Makes a copy of what was read, with room for one more part.
     pub(crate) fn copy(&self) -> Result<Reading, NoMemory>
         ensures copy { IfOk result (λ copy. IsSame self.now copy) }
     {
         let alloc = self.alloc;
-        let entries = copied_entries(alloc, self.entries.as_slice())?;
+        let (more_entries, more_made, more_links) = self.room_for_a_part();
+        let entries = copied_entries(alloc, self.entries.as_slice(), more_entries)?;
         let parents = copied_numbers(alloc, self.parents.as_slice())?;
-        let made = copied_made(alloc, self.made.as_slice())?;
-        let links = copied_links(alloc, self.links.as_slice())?;
+        let made = copied_made(alloc, self.made.as_slice(), more_made)?;
+        let links = copied_links(alloc, self.links.as_slice(), more_links)?;
         Ok(Reading {
             alloc,
             stage: self.stage,

@@ -17,8 +17,8 @@ use map_codec::{RaiseFault, image_of, raise};
 use map_image::{Image, ImageFault, ImageReader, WriteFault, read, write};
 use std::alloc::{AllocError, Global};
 
-/// Returns how many attributes may be loaded. If the call has the number itself, the proof of `image_raised` takes
-/// several times as long.
+/// Returns how many attributes may be loaded. If the caller wrote this number itself, the proof of `image_raised` would
+/// take several times as long.
 fn loaded_limit() -> usize {
     64
 }

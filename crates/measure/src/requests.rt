@@ -98,8 +98,8 @@ fn look_up_twice(alloc: Global, served: &mut Hosted, dir: Number, name: Name) ->
     number
 }
 
-/// Looks every directory up twice, and every file that is not one in `every`. Returns the requests that look up the
-/// other files.
+/// Looks up twice each directory, and each file but one of every few. Returns the requests that look up the files left
+/// out.
 fn look_half_up(alloc: Global, served: &mut Hosted, lines: u64) -> Result<Vec<Request>, NoMemory> {
     let mut others = Vec::new(alloc);
     let every = (lines / ASKED).max(2);

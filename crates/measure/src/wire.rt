@@ -7,7 +7,7 @@ use eden_base::NoMemory;
 use fuse_wire::{Ask, Items, WireFault, read_items, read_request};
 use std::alloc::{AllocError, Global};
 
-/// How many different messages of one form are read, one after another, so that a read doesn't find its bytes again.
+/// How many different messages of one form are read one after another, so that no message is read twice in a row.
 const MESSAGES: u32 = 64;
 
 const FORMS: [&str; 11] = [

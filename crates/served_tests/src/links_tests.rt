@@ -252,8 +252,8 @@ fn sink(alloc: Global, most: usize, fails: usize, stutters: bool) -> Option<Sink
     }
 }
 
-/// Writes a Claim to `writer`. Returns whether that comes to `fault`, and `writes` writes took just the first `len`
-/// bytes of its text.
+/// Writes a Claim to `writer`. Returns whether the result is `fault`, and `writes` writes took just the first `len`
+/// bytes of the text.
 fn writes_claim(
     alloc: Global,
     writer: Option<Sink>,
@@ -360,7 +360,7 @@ fn an_interrupted_write_is_made_again_131072_times(rt: HostRuntime) {
     assert!(rt; writes_to_the_last(rt.alloc()) || writes_to_the_last(rt.alloc()));
 }
 
-/// Writes an Ask of `len` bytes. Returns whether that comes to `fault`, and `written` bytes are written.
+/// Writes an Ask of `len` bytes. Returns whether the result is `fault`, and `written` bytes are written.
 fn writes_ask(alloc: Global, len: usize, fault: Option<FrameFault>, written: usize) -> bool {
     let mut writer = Vec::new(alloc);
     let Ok(bytes) = Vec::from_elem(alloc, 7, len) else {

@@ -67,8 +67,8 @@ impl Hosted {
         self.served.apply(alloc, &mut backing, request)
     }
 
-    /// Answers a request from a backing that gives `answers` answers more, and then fails once. It takes those that it
-    /// gave from `answers`, which is beyond all once it has failed.
+    /// Answers `request` with a backing that gives `answers` answers, and then fails once. `answers` becomes the count
+    /// of answers that are left before the failure, or `u64::MAX` if the backing has failed.
     pub fn apply_counting(
         &mut self,
         alloc: Global,

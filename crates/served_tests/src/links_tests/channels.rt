@@ -204,7 +204,7 @@ fn is_left(expected: &Expected, taken: &Taken, ended: Option<TakeFault>) -> bool
     }
 }
 
-/// Returns whether a `take` of a channel that hears the bytes of `row` comes to what `row` says.
+/// Returns whether a `take` of a channel that hears the bytes of `row` has the result of `row`.
 fn takes(alloc: Global, row: &Row) -> bool {
     let Some(hears) = joined(alloc, row.hears) else {
         return false;

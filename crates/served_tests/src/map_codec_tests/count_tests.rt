@@ -29,7 +29,7 @@ pub enum Does {
     Exists,
     /// A CREATE of this name opens a new file, with this number.
     Creates(&'static [u8], u64),
-    /// Number 3 is forgotten so often.
+    /// A forget takes this many lookups of number 3 back.
     Forgets(u64),
     /// The next daemon takes the image of this version over, and serves from then on.
     Hands(u16),
@@ -106,7 +106,7 @@ fn creates(
     matches!(answer, Some(Answer::Opened { number, .. }) if number == Number(expected))
 }
 
-/// Forgets number 3 so often, and returns whether that has no answer.
+/// Takes `times` lookups of number 3 back, and returns whether that has no answer.
 fn forgets(alloc: Global, served: &mut Served, manifest: &Manifest, times: u64) -> bool
     requires over { served.old.tree.manifest ≡ manifest.now }
     ensures over { served.new.tree.manifest ≡ manifest.now }
@@ -144,7 +144,7 @@ fn cannot_hand(alloc: Global, served: &Served, version: u16) -> bool {
     }
 }
 
-/// Does what `does` says, and returns whether it comes out so.
+/// Does what `does` says, and returns whether the result is the one in `does`.
 fn goes_so(alloc: Global, served: &mut Served, manifest: &Manifest, does: Does) -> bool
     requires over { served.old.tree.manifest ≡ manifest.now }
     ensures over { served.new.tree.manifest ≡ manifest.now }
@@ -163,7 +163,8 @@ fn goes_so(alloc: Global, served: &mut Served, manifest: &Manifest, does: Does) 
     }
 }
 
-/// Does what each of `rows` says. Returns whether all comes out so, with the count of number 3 that the row says.
+/// Does what each of `rows` says. Returns whether each result, and the count of number 3 after it, are those of the
+/// row.
 fn each_goes_so(alloc: Global, served: &mut Served, manifest: &Manifest, rows: &[Row]) -> bool
     requires over { served.old.tree.manifest ≡ manifest.now }
     ensures over { served.new.tree.manifest ≡ manifest.now }

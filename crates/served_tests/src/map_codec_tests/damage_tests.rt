@@ -1,6 +1,6 @@
 //! Images with one byte set to 00, set to ff, or with its lowest bit flipped. Each damaged image is refused, whole and
-//! in pieces, or its bytes are just those that are written for what is read. If a daemon can be raised from the image,
-//! it knows each of its numbers, and is handed over and taken over again.
+//! in pieces, or its bytes are just those that are written for what is read. If a daemon can be restored from the
+//! image, it knows each of its numbers, and is handed over and taken over again.
 ghost use Rattle.std.specs.Prelude.{◌≡◌, IfOk};
 ghost use Rattle.map_image.specs.Fit.{IsFit};
 
@@ -103,7 +103,7 @@ fn is_sound(alloc: Global, served: &mut Served, manifest: &Manifest, version: u1
     }
 }
 
-/// Returns whether nothing can be raised from `bytes`, or what is raised is sound.
+/// Returns whether nothing can be restored from `bytes`, or what is restored is sound.
 fn is_refused_or_sound(alloc: Global, manifest: &Manifest, version: u16, bytes: &[u8]) -> bool {
     match raised(alloc, manifest, bytes) {
         Ok(served) => {

@@ -24,7 +24,7 @@ file 0644 7 README
 pub enum Deed {
     /// After these requests to a new daemon, its image is written as these bytes.
     Spell(&'static [Asking], &'static [u8]),
-    /// The daemon that is restored from these bytes has an image that is written as these bytes.
+    /// The daemon that is restored from these bytes writes the same bytes as its image.
     Raise(&'static [u8]),
     /// `CHANGED` with this byte at this index is refused for this cause.
     Refuse(usize, u8, RaiseFault),
@@ -46,8 +46,8 @@ pub enum Deed {
     RefuseCircle(u32),
     /// The changed image in this version, with any byte damaged, is refused or sound.
     Damage(u8),
-    /// The wide image with this count of `README` is restored, and these rows come out as they say. The last field is
-    /// the count with which the image is written then, if it has no other change.
+    /// The wide image with this count of `README` is restored, and each of these rows has its result. If the last field
+    /// has a count, the image that is written then is the wide one with that count.
     Counted(u64, &'static [Row], Option<u64>),
 }
 

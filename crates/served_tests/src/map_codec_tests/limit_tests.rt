@@ -105,15 +105,16 @@ pub(crate) fn is_limited(
     refuses(alloc, manifest, bytes.as_slice(), asking, errno)
 }
 
-/// `CHANGED` with the next number 2^63 - 1, which is never given.
-static LAST_NUMBER: Deed = Deed::Limit(
-    34,
-    [0x7f, 0xff, 0xff, 0xff, 0xff, 0xff, 0xff, 0xff],
-    (Asks::Create(0o600), 1, b"x"),
-    Errno::ENOSPC,
-);
+/// The next number 2^63 - 1, which is never given.
+const LAST: [u8; 8] = [0x7f, 0xff, 0xff, 0xff, 0xff, 0xff, 0xff, 0xff];
+
+/// `CHANGED` with the next number `LAST`: neither a file that is made nor one that has no number yet gets one.
+static NO_NUMBER: [Deed; 2] = [
+    Deed::Limit(34, LAST, (Asks::Create(0o600), 1, b"x"), Errno::ENOSPC),
+    Deed::Limit(34, LAST, (Asks::LookUp, 2, b"a"), Errno::ENOSPC),
+];
 
 #[test]
 fn refuses_a_number_behind_the_last(rt: HostRuntime) {
-    assert!(rt; all_go_so(rt.alloc(), &[LAST_NUMBER]));
+    assert!(rt; all_go_so(rt.alloc(), &NO_NUMBER));
 }

@@ -109,7 +109,7 @@ fn refuses_two_numbers_of_one_file(rt: HostRuntime) {
     assert!(rt; all_go_so(rt.alloc(), &[Deed::RefuseTwice]));
 }
 
-/// Returns whether a daemon that is restored from `bytes` has an image that is written as `bytes`.
+/// Returns whether a daemon that is restored from `bytes` writes the same bytes as its image.
 pub(crate) fn is_raised_and_spelled(alloc: Global, manifest: &Manifest, bytes: &[u8]) -> bool {
     match raised(alloc, manifest, bytes) {
         Ok(served) => {

@@ -4,7 +4,7 @@ ghost use Rattle.std.specs.Prelude.{◌≤◌, length, IfOk, IsTrue};
 ghost use Rattle.map_image.specs.Fit.{IsFit};
 
 use super::images::{has_text_in, image_of_bytes, text_of};
-use super::sized::sized;
+use super::sized::{sized, unlinked};
 use super::vectors::CHANGED;
 use byte_codec::Bytes;
 use eden_base::NoMemory;
@@ -153,6 +153,20 @@ fn first_failed(alloc: Global, sizes: &[Size]) -> Option<u32> {
 #[test]
 fn writes_and_cuts_at_the_limits(rt: HostRuntime) {
     assert!(rt; first_failed(rt.alloc(), &SIZES).is_none());
+}
+
+/// Returns whether 3,092 unlinked entries are written in version 1, in 64,994 bytes, and one entry more is too long.
+fn is_written_to_the_last_entry(alloc: Global) -> bool {
+    let most = unlinked(alloc, 3_092);
+    let more = unlinked(alloc, 3_093);
+    most.len() == 64_994
+        && is_written_in(alloc, 1, most.as_slice())
+        && is_too_long(alloc, more.as_slice())
+}
+
+#[test]
+fn writes_3092_unlinked_entries_in_version_1(rt: HostRuntime) {
+    assert!(rt; is_written_to_the_last_entry(rt.alloc()));
 }
 
 /// Returns whether `image` is fit, and asks once more if memory was refused.

@@ -59,6 +59,23 @@ fn put_sized(bytes: &mut Vec<u8>, version: u8, len: u32) -> Result<(), AllocErro
     put(bytes, &[[0; 8].as_slice()])
 }
 
+/// Appends a text of `count` unlinked entries alone, in version 1.
+fn put_unlinked(bytes: &mut Vec<u8>, count: u32) -> Result<(), AllocError> {
+    put(bytes, &[&CHANGED[..50], count.to_be_bytes().as_slice()])?;
+    put_unnamed(bytes, count)?;
+    put(bytes, &[[0; 8].as_slice()])
+}
+
+/// Makes a text by `put_unlinked`, and tries once more if memory was refused.
+pub(crate) fn unlinked(alloc: Global, count: u32) -> Vec<u8> {
+    let mut bytes = Vec::new(alloc);
+    if put_unlinked(&mut bytes, count).is_err() {
+        bytes.clear();
+        let _ = put_unlinked(&mut bytes, count);
+    }
+    bytes
+}
+
 /// Makes a text of `len` bytes by `put_sized`, and tries once more if memory was refused.
 pub(crate) fn sized(alloc: Global, version: u8, len: u32) -> Vec<u8> {
     let mut bytes = Vec::new(alloc);

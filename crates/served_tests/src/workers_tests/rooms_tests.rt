@@ -200,7 +200,7 @@ fn take_all<R: Threads + Wait + Sync>(
     Some(done)
 }
 
-/// If memory suffices, one round takes all asks: no worker stops for want of memory for a copy.
+/// If memory suffices, one round takes all asks: no worker stops because memory for a copy was refused.
 #[test]
 fn a_round_takes_the_longest_asks(rt: HostRuntime) -> Result<(), Fail> {
     let alloc = rt.alloc();

@@ -7,7 +7,7 @@ use Rattle.map_image.proofs.SteadyMembers.{steady_entry}
 use Rattle.map_image.proofs.list_reader.more_entries.Goals as goal
 
 pub loop-i-init : goal.loop-i-init
-loop-i-init c = (starts (entry_at c.args.form) c.args.entries.now.items c.args.left c.args.bytes.now, extends_same c.args.parents.now.items, λ has. has)
+loop-i-init c = rw c.make_room.ensures.same (starts (entry_at c.args.form) c.args.entries.now.items c.args.left c.args.bytes.now, extends_same c.args.parents.now.items, λ has. has)
 
 pub loop-i-preserved : goal.loop-i-preserved
 loop-i-preserved c =

@@ -7,7 +7,7 @@ use Rattle.map_image.proofs.SteadyMembers.{steady_link}
 use Rattle.map_image.proofs.list_reader.more_links.Goals as goal
 
 pub loop-i-init : goal.loop-i-init
-loop-i-init c = starts link_at c.args.links.now.items c.args.left c.args.bytes.now
+loop-i-init c = rw c.make_room.ensures.same (starts link_at c.args.links.now.items c.args.left c.args.bytes.now)
 
 pub loop-i-preserved : goal.loop-i-preserved
 loop-i-preserved c =
