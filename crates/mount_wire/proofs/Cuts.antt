@@ -10,6 +10,10 @@ use Rattle.mount_wire.specs.Batches.{first_batch}
 pub fields_apart : (offset : ℕ) (bytes : List ℕ) → drop 8 (drop offset bytes) ≡ drop (offset + 8) bytes
 fields_apart offset bytes = drop-drop 8 offset bytes ∙ ap (λ (n : ℕ). drop n bytes) (omega arith)
 
+-- what is behind the blocks and the times
+pub times_apart : (offset : ℕ) (bytes : List ℕ) → drop 44 (drop offset bytes) ≡ drop (offset + 44) bytes
+times_apart offset bytes = drop-drop 44 offset bytes ∙ ap (λ (n : ℕ). drop n bytes) (omega arith)
+
 pub items_apart : (n m : ℕ) (bytes : List ℕ) → items_at (n + m) bytes ≡ items_at n bytes ++ items_at m (drop (16 * n) bytes)
 unfolding items_at
 items_apart zero m bytes = ap (λ (k : ℕ). items_at k bytes) (omega arith)

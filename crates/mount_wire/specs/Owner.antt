@@ -1,8 +1,6 @@
 -- Who answers a request, by its opcode (linux/fuse.h: enum fuse_opcode). The kernel counts ENOSYS as success for what it
 -- only tells a file system: it then opens and syncs by itself, and doesn't tell again (fs/fuse/file.c, dir.c of Linux).
-use Rattle.std.specs.Prelude.{ℕ, ◌==◌, ◌||◌, Bool, Option, Some, None, if◌then◌else◌}
-use Rattle.eden_base.specs.declared.errno.Errno.{Errno}
-use Rattle.eden_base.specs.declared.errno.Errno.TheVariants.{ENOSYS}
+use Rattle.std.specs.Prelude.{ℕ, ◌==◌, ◌||◌, Bool, if◌then◌else◌}
 use Rattle.mount_wire.specs.declared.owner.Owner.{Owner}
 use Rattle.mount_wire.specs.declared.owner.Owner.TheVariants.{Init, Statfs, Allowed, Refused, Nobody, Daemon}
 
@@ -27,9 +25,3 @@ owner_of n =
     else if is_unanswered n then Nobody
     else if is_for_a_daemon n then Daemon
     else Refused
-
--- the error with which the program that mounts answers, if it answers with an error
-abbrev pub error_of : Owner → Option Errno
-error_of Allowed = Some ENOSYS
-error_of Refused = Some ENOSYS
-error_of owner = None

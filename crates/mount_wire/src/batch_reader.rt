@@ -90,7 +90,7 @@ impl<'a> BatchReader<'a> {
     }
 }
 
-/// Reads the first `count` items of `bytes`, which may go on behind them.
+/// Reads the first `count` items of `bytes`, which may have more after them.
 fn first_items(bytes: &[u8], count: usize) -> Items
     requires whole { 16 * count ≤ length bytes.now }
     requires at_most { count ≤ 256 }

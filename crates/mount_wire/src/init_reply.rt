@@ -6,8 +6,8 @@ ghost use Rattle.mount_wire.specs.Init.{agreement_of, init_out, init_reply_text,
 use crate::agreement::{MAJOR, agree};
 use crate::{Agreement, Offer, ReplyBytes};
 
-/// The greatest length of a WRITE's data, in bytes. A kernel takes no less than 4,096, and refuses to give a request to
-/// a reader whose buffer is under 8,192 bytes or under this and 80. So a buffer of 8,192 bytes suffices.
+/// The greatest length of a WRITE's data, in bytes. A kernel takes no less than 4,096. It gives no request to a reader
+/// whose buffer is under 8,192 bytes, or less than 80 bytes longer than this. So a buffer of 8,192 bytes suffices.
 const MAX_WRITE: u32 = 4096;
 
 /// How exactly times are kept, in nanoseconds.
@@ -82,7 +82,7 @@ fn later_len(minor: u32) -> usize
 /// Appends the `struct fuse_init_out` that tells the `agreement`.
 #[tactic(auto, using(crate::proofs::Texts::texts))]
 fn put_agreement(reply: &mut ReplyBytes, agreement: &Agreement)
-    requires room { length reply.old + 64 ≤ 96 }
+    requires room { length reply.old + 64 ≤ 160 }
     ensures put { reply.new ≡ reply.old ++ init_out agreement.now }
 {
     match agreement {
@@ -101,7 +101,7 @@ fn put_agreement(reply: &mut ReplyBytes, agreement: &Agreement)
 /// Appends the `struct fuse_init_out` of version 7 with this `minor`, as far as the kernel reads it.
 #[tactic(auto, using(crate::proofs::Texts::texts))]
 fn put_version(reply: &mut ReplyBytes, minor: u32, max_readahead: u32, flags: u32)
-    requires room { length reply.old + 64 ≤ 96 }
+    requires room { length reply.old + 64 ≤ 160 }
     ensures put { reply.new ≡ reply.old ++ init_out (Version minor max_readahead flags) }
 {
     reply.put_u32(MAJOR);
@@ -116,7 +116,7 @@ fn put_version(reply: &mut ReplyBytes, minor: u32, max_readahead: u32, flags: u3
 /// Appends the fields that a kernel reads from 7.23 on, if `minor` is such a version.
 #[tactic(auto, using(crate::proofs::Texts::texts))]
 fn put_later_fields(reply: &mut ReplyBytes, minor: u32)
-    requires room { length reply.old + 40 ≤ 96 }
+    requires room { length reply.old + 40 ≤ 160 }
     ensures put { reply.new ≡ reply.old ++ later_fields minor }
 {
     if minor < LONG_SINCE {

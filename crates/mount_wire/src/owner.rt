@@ -1,12 +1,11 @@
 //! Who answers a kernel's request.
 ghost use Rattle.std.specs.Prelude.{◌≡◌};
-ghost use Rattle.mount_wire.specs.Owner.{error_of, owner_of};
+ghost use Rattle.mount_wire.specs.Owner.{owner_of};
 
 use crate::opcode::{
     ACCESS, BATCH_FORGET, CREATE, DESTROY, FLUSH, FORGET, FSYNC, FSYNCDIR, GETATTR, INIT,
     INTERRUPT, LOOKUP, MKDIR, OPEN, OPENDIR, RELEASE, RELEASEDIR, RENAME, RMDIR, STATFS, UNLINK,
 };
-use eden_base::Errno;
 
 /// Who answers a request of a kernel. All but `Daemon` are the program that mounts.
 #[derive(Clone, Copy, PartialEq, Eq)]
@@ -23,18 +22,6 @@ pub enum Owner {
     Nobody,
     /// A daemon. To a forget it makes no reply.
     Daemon,
-}
-
-impl Owner {
-    /// Returns the error with which the program answers, if it answers with an error.
-    pub fn error(self) -> Option<Errno>
-        ensures error { result ≡ error_of self }
-    {
-        match self {
-            Owner::Allowed | Owner::Refused => Some(Errno::ENOSYS),
-            Owner::Init | Owner::Statfs | Owner::Nobody | Owner::Daemon => None,
-        }
-    }
 }
 
 /// Returns who answers a request with this `opcode`.

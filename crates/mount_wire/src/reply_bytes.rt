@@ -7,11 +7,11 @@ use arrayvec::ArrayVec;
 use byteorder::{ByteOrder, LittleEndian};
 use std::marker::Model;
 
-/// The bytes of a reply, at most 96, which contracts see as a list. They stand in the value itself, so that no memory
+/// The bytes of a reply, at most 160, which contracts see as a list. They stand in the value itself, so that no memory
 /// is taken.
 #[derive(Drop)]
 pub struct ReplyBytes {
-    bytes: ArrayVec<u8, 96>,
+    bytes: ArrayVec<u8, 160>,
 }
 
 impl Model for ReplyBytes {
@@ -21,7 +21,7 @@ impl Model for ReplyBytes {
 
     ghost view = { λ reply. reply.bytes.items };
 
-    ghost invariant = { λ reply. length reply.bytes.items ≤ 96 };
+    ghost invariant = { λ reply. length reply.bytes.items ≤ 160 };
 }
 
 /// As many zero bytes as the longest run of them in a reply.
@@ -31,15 +31,22 @@ impl ReplyBytes {
     /// The length of a reply's header, in bytes (`struct fuse_out_header`).
     pub(crate) const HEADER_LEN: usize = 16;
 
+    /// Makes a reply without bytes.
+    pub(crate) fn new() -> ReplyBytes
+        ensures empty { result ≡ [] }
+    {
+        ReplyBytes {
+            bytes: ArrayVec::new(),
+        }
+    }
+
     /// Makes a reply of its header alone: the length `len` of the whole reply, `error`, and `unique`.
     #[tactic(auto, using(crate::proofs::Texts::texts))]
     pub(crate) fn with_header(len: u32, error: i32, unique: u64) -> ReplyBytes
         ensures header { result ≡ reply_header len error unique }
         ensures len { length result ≡ 16 }
     {
-        let mut reply = ReplyBytes {
-            bytes: ArrayVec::new(),
-        };
+        let mut reply = ReplyBytes::new();
         reply.put_u32(len);
         reply.put_i32(error);
         reply.put_u64(unique);
@@ -49,7 +56,7 @@ impl ReplyBytes {
     /// Appends a field of four bytes.
     #[tactic(auto, unfolding(fuse_wire::specs::Field::u32_bytes))]
     pub(crate) fn put_u32(&mut self, value: u32)
-        requires room { length self.old + 4 ≤ 96 }
+        requires room { length self.old + 4 ≤ 160 }
         ensures put { self.new ≡ self.old ++ u32_bytes value }
         ensures len { length self.new ≡ length self.old + 4 }
     {
@@ -61,7 +68,7 @@ impl ReplyBytes {
     /// Appends a signed field of four bytes.
     #[tactic(auto, unfolding(fuse_wire::specs::Field::i32_bytes, fuse_wire::specs::Field::u32_bytes))]
     fn put_i32(&mut self, value: i32)
-        requires room { length self.old + 4 ≤ 96 }
+        requires room { length self.old + 4 ≤ 160 }
         ensures put { self.new ≡ self.old ++ i32_bytes value }
         ensures len { length self.new ≡ length self.old + 4 }
     {
@@ -72,8 +79,8 @@ impl ReplyBytes {
 
     /// Appends a field of eight bytes.
     #[tactic(auto, unfolding(fuse_wire::specs::Field::u64_bytes))]
-    fn put_u64(&mut self, value: u64)
-        requires room { length self.old + 8 ≤ 96 }
+    pub(crate) fn put_u64(&mut self, value: u64)
+        requires room { length self.old + 8 ≤ 160 }
         ensures put { self.new ≡ self.old ++ u64_bytes value }
         ensures len { length self.new ≡ length self.old + 8 }
     {
@@ -86,7 +93,7 @@ impl ReplyBytes {
     #[tactic(auto, using(crate::proofs::Texts::zeros_in_zeros), unfolding(fuse_wire::specs::Field::zeros))]
     pub(crate) fn put_zeros(&mut self, count: usize)
         requires few { count ≤ 60 }
-        requires room { length self.old + count ≤ 96 }
+        requires room { length self.old + count ≤ 160 }
         ensures put { self.new ≡ self.old ++ zeros count }
         ensures len { length self.new ≡ length self.old + count }
     {
@@ -94,8 +101,8 @@ impl ReplyBytes {
     }
 
     /// Appends these `bytes`.
-    fn put(&mut self, bytes: &[u8])
-        requires room { length self.old + length bytes.now ≤ 96 }
+    pub(crate) fn put(&mut self, bytes: &[u8])
+        requires room { length self.old + length bytes.now ≤ 160 }
         ensures put { self.new ≡ self.old ++ bytes.now }
         ensures len { length self.new ≡ length self.old + length bytes.now }
     {
@@ -105,7 +112,7 @@ impl ReplyBytes {
     /// Returns the bytes in their order.
     pub fn as_slice(&self) -> &[u8]
         ensures bytes { result.now ≡ self.now }
-        ensures at_most { length result.now ≤ 96 }
+        ensures at_most { length result.now ≤ 160 }
     {
         self.bytes.as_slice()
     }

@@ -135,7 +135,7 @@ fn refuses_who_has_not_the_seat(rt: HostRuntime) {
 }
 
 /// Posts `said` for `unique` twice, while the lookup of unique 1 is taken and that of unique 2 waits. Returns whether
-/// the first post comes to `posted`, and the second to NotAsked.
+/// the first post results in `posted`, and the second in NotAsked.
 fn is_posted_so(alloc: Global, unique: u64, said: Said, posted: Result<(), PostFault>) -> bool {
     let deeds = [
         SERVE,

@@ -1,5 +1,5 @@
 //! Worked examples: the answers that daemons get at the broker's desk.
-mod steps;
+pub(crate) mod steps;
 
 use crate::broker_desk_tests::steps::{Says, Step, Told, all_go_so};
 use Step::{Closes, Delivers, Forgets, Issues, Leaves, On, Runs};

@@ -1,4 +1,4 @@
-//! Tests of `byte_codec`, `eden_base`, `node_arena`, `fuse_wire`, `mount_wire`, `broker_core`, `broker_desk` and `frames` by their public calls.
+//! Tests of `byte_codec`, `eden_base`, `node_arena`, `fuse_wire`, `mount_wire`, `mount_desk`, `broker_core`, `broker_desk` and `frames` by their public calls.
 #![tactic(auto)]
 
 #[cfg(test)]
@@ -15,6 +15,8 @@ mod eden_base_tests;
 mod frames_tests;
 #[cfg(test)]
 mod fuse_wire_tests;
+#[cfg(test)]
+mod mount_desk_tests;
 #[cfg(test)]
 mod mount_wire_tests;
 #[cfg(test)]

@@ -1,7 +1,9 @@
-//! Messages between a kernel and the program that mounts. Those of `vectors.rt`, and the opcodes of `owner_tests.rt`,
-//! were printed by a small C program with `linux/fuse.h` (7.38), which is no part of the repository.
+//! Messages between a kernel and the program that mounts. Those of `vectors.rt` and `told_vectors.rt`, and the opcodes of
+//! `owner_tests.rt`, were printed by a small C program with `linux/fuse.h` (7.38), which is no part of the repository.
 mod batch_tests;
+mod message_tests;
 mod owner_tests;
+mod told_vectors;
 mod vectors;
 
 use crate::mount_wire_tests::vectors::*;
@@ -58,7 +60,7 @@ static ANSWERS: [(&[u8], &[u8]); 7] = [
     (&INIT_OF_MAJOR_8, &REPLY_TO_MAJOR_8),
 ];
 
-/// Returns whether the INIT that `bytes` are is answered by `reply`.
+/// Returns whether the INIT in `bytes` is answered by `reply`.
 fn is_answered(bytes: &[u8], reply: &[u8]) -> bool {
     match read_offer(bytes) {
         Ok(offer) => answer_init(&offer).as_slice() == reply,
@@ -95,7 +97,7 @@ static AGREEMENTS: [(&[u8], Result<Agreement, MountFault>); 4] = [
     (&INIT_OF_MAJOR_8, Ok(Agreement::MajorAlone)),
 ];
 
-/// Returns whether the INIT that `bytes` are comes to this agreement or fault.
+/// Returns whether the INIT in `bytes` leads to this agreement or fault.
 fn is_agreed(bytes: &[u8], agreed: &Result<Agreement, MountFault>) -> bool {
     match read_offer(bytes) {
         Ok(offer) => agree(&offer) == *agreed,
@@ -103,7 +105,7 @@ fn is_agreed(bytes: &[u8], agreed: &Result<Agreement, MountFault>) -> bool {
     }
 }
 
-/// Returns whether each INIT comes to the agreement or the fault beside it.
+/// Returns whether each INIT leads to the agreement or the fault beside it.
 fn are_agreed(agreements: &[(&[u8], Result<Agreement, MountFault>)]) -> bool {
     for (bytes, agreed) in agreements {
         if !is_agreed(bytes, agreed) {

@@ -140,7 +140,7 @@ fn told_of(alloc: Global, response: &Response) -> Told {
 }
 
 /// Answers the frame of `says` on the connection of `peer`, and returns what the daemon is told.
-fn answered(alloc: Global, desk: &mut Desk, peer: &mut Peer, says: Says) -> Told {
+pub(crate) fn answered(alloc: Global, desk: &mut Desk, peer: &mut Peer, says: Says) -> Told {
     let Ok(frame) = frame_of(alloc, says) else {
         return Told::Other;
     };

@@ -1,6 +1,5 @@
 //! Who answers each opcode. The numbers are those that a C program with `linux/fuse.h` (7.38) printed for the names of
 //! `enum fuse_opcode` beside them.
-use eden_base::Errno;
 use mount_wire::{Owner, owner_of};
 
 static OWNERS: [(u32, Owner); 53] = [
@@ -72,24 +71,4 @@ fn are_owned(owners: &[(u32, Owner)]) -> bool {
 #[test]
 fn tells_who_answers_each_opcode(rt: HostRuntime) {
     assert!(rt; are_owned(&OWNERS));
-}
-
-/// Returns whether the owner answers with ENOSYS.
-fn is_enosys(owner: Owner) -> bool {
-    owner.error() == Some(Errno::ENOSYS)
-}
-
-/// Returns whether ENOSYS answers what is allowed and what is refused, and nothing else.
-fn is_each_enosys() -> bool {
-    is_enosys(Owner::Allowed)
-        && is_enosys(Owner::Refused)
-        && Owner::Init.error() == None
-        && Owner::Statfs.error() == None
-        && Owner::Nobody.error() == None
-        && Owner::Daemon.error() == None
-}
-
-#[test]
-fn answers_enosys_to_two_owners(rt: HostRuntime) {
-    assert!(rt; is_each_enosys());
 }

@@ -1,0 +1,88 @@
+-- The asks of a real kernel at the broker's desk. The kernel numbers its requests itself (linux/fuse.h: unique), and the
+-- desk numbers asks anew, so each ask under way has a pair of uniques. (The pairs are this project's own.)
+use Rattle.std.specs.Prelude.{◌≡◌, ℕ, ◌≤◌, ◌⊎◌, Bool, ◌==◌, List, [], ◌∷◌, ◌++◌, length, remove, slice_get, Option, Some, None}
+use Rattle.std.specs.List.{position_from}
+use Rattle.fuse_wire.specs.declared.reply.Answer.{Answer}
+use Rattle.fuse_wire.specs.declared.reply.Reply.{Reply}
+use Rattle.fuse_wire.specs.declared.request.Ask.{Ask}
+use Rattle.broker_core.specs.Broker.{delivered, issue_fault, issued, IsDeliverRefusal, IsIssueRefusal}
+use Rattle.broker_core.specs.Traffic.{front}
+use Rattle.broker_core.specs.declared.broker.IssueFault.{IssueFault}
+use Rattle.broker_core.specs.declared.broker.IssueFault.TheVariants as issue
+use Rattle.broker_core.specs.declared.fault.DeliverFault.TheVariants as fault
+use Rattle.broker_desk.specs.Desk.{DeskState}
+use Rattle.mount_desk.specs.declared.kernel.Delivered.{Delivered}
+use Rattle.mount_desk.specs.declared.kernel.Delivered.TheVariants as delivers
+use Rattle.mount_desk.specs.declared.kernel.Heard.{Heard}
+use Rattle.mount_desk.specs.declared.kernel.Heard.TheVariants as heard
+use Rattle.mount_desk.specs.declared.pair.Pair.{Pair}
+
+-- ---- asks
+
+-- the pair of an ask with this unique of the kernel, as the desk takes it next
+abbrev pub pair_of : DeskState → ℕ → Pair
+pair_of desk unique = record { kernel = unique; desk = desk.broker.next_unique }
+
+-- the ask is issued at the desk, and noted behind those that are under way
+pub record IsTaken (old : DeskState) (pairs : List Pair) (ask : Ask) (new : DeskState) (after : List Pair) : Type 0 where
+  pub accepted : issue_fault old.broker ask.what ≡ None
+  pub desk : new ≡ record old { broker = issued old.broker ask.what }
+  pub noted : after ≡ pairs ++ pair_of old ask.unique ∷ []
+
+-- why an ask is refused: the desk refuses it, or all pairs are in use
+abbrev pub IsRefusal : DeskState → List Pair → Ask → Heard → Type 0
+IsRefusal desk pairs ask heard.Waits = ⊥
+IsRefusal desk pairs ask heard.Full = (1024 ≤ length pairs) ⊎ IsIssueRefusal desk.broker ask.what issue.Full
+IsRefusal desk pairs ask heard.NoMemory = IsIssueRefusal desk.broker ask.what issue.NoMemory
+IsRefusal desk pairs ask heard.NotHeld = IsIssueRefusal desk.broker ask.what issue.NotHeld
+IsRefusal desk pairs ask heard.NotMounted = IsIssueRefusal desk.broker ask.what issue.NotMounted
+
+-- the ask is refused, and nothing changes
+pub record IsRefused (old : DeskState) (pairs : List Pair) (ask : Ask) (result : Heard) (new : DeskState) (after : List Pair) : Type 0 where
+  pub cause : IsRefusal old pairs ask result
+  pub unchanged : new ≡ old
+  pub unnoted : after ≡ pairs
+
+-- what becomes of an ask of the kernel
+abbrev pub Hears : DeskState → List Pair → Ask → Heard → DeskState → List Pair → Type 0
+Hears old pairs ask heard.Waits new after = IsTaken old pairs ask new after
+Hears old pairs ask result new after = IsRefused old pairs ask result new after
+
+-- ---- replies
+
+-- the ask has this unique of the desk
+abbrev pub has_desk : ℕ → Pair → Bool
+has_desk unique pair = pair.desk == unique
+
+-- the first posted reply leaves the desk, with the kernel's unique of the ask that it answers, whose pair leaves
+pub record IsReply (old : DeskState) (pairs : List Pair) (told : Reply) (new : DeskState) (after : List Pair) : Type 0 where
+  pub reply : Reply
+  pub first : front old.broker.traffic.posted ≡ Some reply
+  pub index : ℕ
+  pub found : position_from (has_desk reply.unique) 0 pairs ≡ Some index
+  pub pair : Pair
+  pub at : slice_get pairs index ≡ Some pair
+  pub told_is : told ≡ record { unique = pair.kernel; answer = reply.answer }
+  pub left : after ≡ remove pairs index
+  pub desk : new ≡ record old { broker = delivered old.broker }
+
+-- the first posted reply leaves the desk, and no ask of the kernel has its unique
+pub record IsUnasked (old : DeskState) (pairs : List Pair) (answer : Answer) (new : DeskState) (after : List Pair) : Type 0 where
+  pub reply : Reply
+  pub first : front old.broker.traffic.posted ≡ Some reply
+  pub nobody : position_from (has_desk reply.unique) 0 pairs ≡ None
+  pub answer_is : answer ≡ reply.answer
+  pub desk : new ≡ record old { broker = delivered old.broker }
+  pub unchanged : after ≡ pairs
+
+-- nothing is delivered, and nothing changes
+pub record IsKept (old : DeskState) (pairs : List Pair) (new : DeskState) (after : List Pair) : Type 0 where
+  pub desk : new ≡ old
+  pub unchanged : after ≡ pairs
+
+-- what there is to deliver
+abbrev pub Delivers : DeskState → List Pair → Delivered → DeskState → List Pair → Type 0
+Delivers old pairs (delivers.Reply told) new after = IsReply old pairs told new after
+Delivers old pairs (delivers.Unasked answer) new after = IsUnasked old pairs answer new after
+Delivers old pairs delivers.Nothing new after = IsDeliverRefusal old.broker fault.Empty × IsKept old pairs new after
+Delivers old pairs delivers.NoMemory new after = IsDeliverRefusal old.broker fault.NoMemory × IsKept old pairs new after

@@ -1,0 +1,110 @@
+//! A kernel's message, and what becomes of it.
+ghost use Rattle.std.specs.Prelude.{◌≡◌};
+ghost use Rattle.fuse_wire.specs.FaultReply.{fault_reply_of};
+ghost use Rattle.fuse_wire.specs.Request.{IsSendable};
+ghost use Rattle.mount_wire.specs.Batches.{forgotten_of};
+ghost use Rattle.mount_wire.specs.Init.{offer_of};
+ghost use Rattle.mount_wire.specs.Message.{init_message, many_message, read_message, refused_message, IsForDaemons, Reads, ReadsFor};
+
+use crate::opcode::BATCH_FORGET;
+use crate::told_answer::tell_reply;
+use crate::{
+    BatchReader, Owner, ReplyBytes, answer_init, answer_statfs, owner_of, read_header, read_offer,
+    tell_error,
+};
+use eden_base::Errno;
+use fuse_wire::{Ask, Item, WireFault, fault_reply, read_request};
+use std::alloc::Global;
+
+/// What a kernel's message comes to.
+#[derive(Drop)]
+pub enum Message<'a> {
+    /// The program that mounts answers with these bytes, and asks no daemon.
+    Answered(ReplyBytes),
+    /// A daemon is asked. The reply has the unique of this ask.
+    Asked(Ask),
+    /// A daemon hears that a number is forgotten.
+    Forgot(Item),
+    /// A daemon hears of many numbers that are forgotten.
+    ForgotMany(BatchReader<'a>),
+    /// The kernel awaits no answer, and no daemon hears of it.
+    Ignored,
+}
+
+/// Reads the kernel's message `bytes`. Takes memory for an ask's names, and answers ENOMEM if that is refused.
+#[tactic(auto, unfolding(crate::specs::Message::message_of))]
+pub fn read_message(alloc: Global, bytes: &[u8]) -> Message<'_>
+    ensures reads { Reads bytes.now result }
+    ensures for_daemons { IsForDaemons result }
+{
+    let Ok(header) = read_header(bytes) else {
+        return Message::Ignored;
+    };
+    match owner_of(header.opcode) {
+        Owner::Init => init_message(header.unique, bytes),
+        Owner::Statfs => Message::Answered(answer_statfs(header.unique)),
+        Owner::Allowed | Owner::Refused => Message::Answered(tell_error(
+            header.unique,
+            Errno::ENOSYS,
+        )),
+        Owner::Nobody => Message::Ignored,
+        Owner::Daemon if header.opcode == BATCH_FORGET => many_message(bytes),
+        Owner::Daemon => daemon_message(alloc, bytes),
+    }
+}
+
+/// Answers the INIT that `bytes` are, whose header has this `unique`.
+fn init_message<'a>(unique: u64, bytes: &'a [u8]) -> Message<'a>
+    ensures init { result ≡ init_message unique (offer_of bytes.now) }
+{
+    match read_offer(bytes) {
+        Ok(offer) => Message::Answered(answer_init(&offer)),
+        Err(_fault) => Message::Answered(tell_error(unique, Errno::EINVAL)),
+    }
+}
+
+/// Reads the BATCH_FORGET that `bytes` are.
+fn many_message(bytes: &[u8]) -> Message<'_>
+    ensures many { result ≡ many_message (forgotten_of bytes.now) }
+{
+    match BatchReader::of(bytes) {
+        Ok(items) => Message::ForgotMany(items),
+        Err(_fault) => Message::Ignored,
+    }
+}
+
+/// Reads a request of an opcode that daemons answer, but for a BATCH_FORGET.
+fn daemon_message<'a>(alloc: Global, bytes: &'a [u8]) -> Message<'a>
+    ensures reads { ReadsFor bytes.now result }
+    ensures for_daemons { IsForDaemons result }
+{
+    match read_request(alloc, bytes) {
+        Ok(ask) => asked_message(ask),
+        Err(fault) => refused_message(bytes, &fault),
+    }
+}
+
+/// Returns the message of a request that was read.
+fn asked_message<'a>(ask: Ask) -> Message<'a>
+    requires sendable { IsSendable ask.what }
+    ensures read { result ≡ read_message ask }
+    ensures for_daemons { IsForDaemons result }
+{
+    if ask.what.is_ask() {
+        return Message::Asked(ask);
+    }
+    match ask.what.item() {
+        Some(item) => Message::Forgot(item),
+        None => Message::Ignored,
+    }
+}
+
+/// Answers the request `bytes` that was refused by `fault`, unless it is a forget.
+fn refused_message<'a>(bytes: &'a [u8], fault: &WireFault) -> Message<'a>
+    ensures refused { result ≡ refused_message (fault_reply_of bytes.now fault.now) }
+{
+    match fault_reply(bytes, fault) {
+        Some(reply) => Message::Answered(tell_reply(&reply)),
+        None => Message::Ignored,
+    }
+}

@@ -1,0 +1,132 @@
+//! A daemon's answer, as the kernel is told it.
+ghost use Rattle.std.specs.Prelude.{◌≡◌, ◌+◌, ◌≤◌, ◌++◌, length};
+ghost use Rattle.mount_wire.specs.Told.{attributes_told, error_text, filled, told_text, with_times};
+ghost use Rattle.fuse_wire.specs.ReplyText.{reply_text};
+
+use crate::ReplyBytes;
+use eden_base::Errno;
+use fuse_wire::{Answer, MAX_REPLY_LEN, Reply, write_reply};
+
+/// When a mount began, since 1970. Each of its files has this as all its times, so that `make` sees no file change.
+#[derive(Clone, Copy, PartialEq, Eq)]
+pub struct MountTime {
+    pub seconds: u64,
+    pub nanoseconds: u32,
+}
+
+/// Attributes in a reply: the size of the file, and the offset in the reply at which the blocks and the times stand.
+#[derive(Clone, Copy, PartialEq, Eq)]
+pub(crate) struct Shown {
+    pub(crate) offset: usize,
+    pub(crate) size: u64,
+}
+
+/// The size of the blocks in which `st_blocks` counts, in bytes.
+const BLOCK: u64 = 512;
+
+/// The length in bytes of these fields of `struct fuse_attr`: blocks, atime, mtime, ctime and their nanoseconds.
+const BLOCKS_AND_TIMES_LEN: usize = 44;
+
+/// The offset of the blocks in a reply with an entry.
+const ENTRY_BLOCKS: usize = 72;
+
+/// The offset of the blocks in a reply with attributes alone.
+const ATTRS_BLOCKS: usize = 48;
+
+/// Returns the reply with this `unique` that tells `answer`. A daemon tells neither blocks nor times, so they are put
+/// in: the blocks follow from the size, and each time is `since`.
+#[tactic(auto, using(crate::proofs::Texts::texts))]
+pub fn tell_answer(unique: u64, answer: &Answer, since: &MountTime) -> ReplyBytes
+    ensures text { result ≡ told_text unique answer.now since.now }
+{
+    let reply = Reply {
+        unique,
+        answer: *answer,
+    };
+    let mut room = [0; MAX_REPLY_LEN];
+    let len = write_reply(&reply, &mut room);
+    let (text, _) = room.split_at(len);
+    match attributes_told(answer) {
+        Some(shown) => with_times(text, &shown, since),
+        None => whole(text),
+    }
+}
+
+/// Returns the reply with this `unique` that tells an error.
+pub fn tell_error(unique: u64, errno: Errno) -> ReplyBytes
+    ensures text { result ≡ error_text unique errno }
+{
+    tell_reply(&Reply {
+        unique,
+        answer: Answer::Error(errno),
+    })
+}
+
+/// Returns the bytes of `reply` as a daemon writes them.
+#[tactic(auto, using(crate::proofs::Texts::texts))]
+pub(crate) fn tell_reply(reply: &Reply) -> ReplyBytes
+    ensures text { result ≡ reply_text reply.now }
+{
+    let mut room = [0; MAX_REPLY_LEN];
+    let len = write_reply(reply, &mut room);
+    let (text, _) = room.split_at(len);
+    whole(text)
+}
+
+/// Returns where a reply with this answer has attributes, if it has some.
+fn attributes_told(answer: &Answer) -> Option<Shown>
+    ensures shown { result ≡ attributes_told answer.now }
+{
+    match answer {
+        Answer::Entry { attr, .. } | Answer::Opened { attr, .. } => Some(Shown {
+            offset: ENTRY_BLOCKS,
+            size: attr.size,
+        }),
+        Answer::Attrs { attr, .. } => Some(Shown {
+            offset: ATTRS_BLOCKS,
+            size: attr.size,
+        }),
+        Answer::Done | Answer::Error(_) => None,
+    }
+}
+
+/// Copies a reply's `text`.
+fn whole(text: &[u8]) -> ReplyBytes
+    requires short { length text.now ≤ 160 }
+    ensures same { result ≡ text.now }
+{
+    let mut reply = ReplyBytes::new();
+    reply.put(text);
+    reply
+}
+
+/// Copies a reply's `text`, in which the attributes that are `shown` get their blocks and times.
+#[tactic(auto, using(crate::proofs::Cuts::times_apart, crate::proofs::Texts::texts))]
+fn with_times(text: &[u8], shown: &Shown, since: &MountTime) -> ReplyBytes
+    requires short { length text.now ≤ 160 }
+    requires within { shown.now.offset + 44 ≤ length text.now }
+    ensures timed { result ≡ with_times text.now shown.now since.now }
+{
+    let mut reply = ReplyBytes::new();
+    let (before, rest) = text.split_at(shown.offset);
+    let (_, after) = rest.split_at(BLOCKS_AND_TIMES_LEN);
+    reply.put(before);
+    put_blocks_and_times(&mut reply, shown.size, since);
+    reply.put(after);
+    reply
+}
+
+/// Appends how many blocks a file of this `size` has, and its times.
+fn put_blocks_and_times(reply: &mut ReplyBytes, size: u64, since: &MountTime)
+    requires room { length reply.old + 44 ≤ 160 }
+    ensures put { reply.new ≡ reply.old ++ filled size since.now }
+    ensures len { length reply.new ≡ length reply.old + 44 }
+{
+    reply.put_u64(size.div_ceil(BLOCK));
+    reply.put_u64(since.seconds);
+    reply.put_u64(since.seconds);
+    reply.put_u64(since.seconds);
+    reply.put_u32(since.nanoseconds);
+    reply.put_u32(since.nanoseconds);
+    reply.put_u32(since.nanoseconds);
+}
