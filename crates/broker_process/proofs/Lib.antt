@@ -1,1 +1,2 @@
+mod MountingLemmas
 mod PlayingLemmas

@@ -1,3 +1,4 @@
 pub mod Hall
+pub mod Mounting
 pub mod Playing
 pub mod Visitors

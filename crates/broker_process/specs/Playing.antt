@@ -16,7 +16,7 @@ use Rattle.broker_process.specs.declared.fault.BrokerFault.TheVariants.{CannotWr
 
 -- Daemons change the desk between these steps, so each definition below speaks of the desk as its own step found it.
 
--- `begun` is what the line of the script came to, over some state of the desk
+-- `begun` is the immediate result of the line of the script, over some state of the desk
 abbrev pub Began : BrokerLine → Begun → Type 0
 Began line begun = (before : DeskState) × (after : DeskState) × Begins before line begun after
 

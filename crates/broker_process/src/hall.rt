@@ -1,4 +1,4 @@
-//! What the connections of a broker share with its script.
+//! What the connections of a broker share with who plays the kernel.
 ghost use Rattle.std.specs.Prelude.{◌≡◌, ◌↔◌, false, IsTrue, OnOk};
 ghost use Rattle.std.specs.Option.{option_map_or};
 ghost use Rattle.broker_desk.specs.Desk.{told_by};
@@ -10,14 +10,20 @@ ghost use Rattle.broker_script.specs.Printed.{PrintsBegun};
 ghost use Rattle.broker_script.specs.declared.awaited.Came.TheVariants.{Lacks};
 ghost use Rattle.script_lines.specs.BrokerLine.{IsSendableLine};
 
+mod mounted;
+
 use crate::visitors::Visitors;
 use broker_desk::{Desk, Peer, Response};
-use broker_script::{Awaited, Begun, BrokerLine, Came, begin, look, print_begun};
+use broker_script::{Awaited, Begun, BrokerLine, Came, begin, look, print_begun, print_held};
 use eden_base::NoMemory;
 use links::Frame;
+use mount_desk::Kernel;
+pub(crate) use mounted::Next;
+use script_lines::print_numbered;
 use sockets::{Deadline, Left};
 use std::alloc::Global;
-use std::io::{self, Write};
+use std::fs::File;
+use std::io::{self, BufWriter, Write};
 use std::os::unix::net::UnixStream;
 use std::rt::Clock;
 use std::sync::{Condvar, Mutex, Wait};
@@ -59,6 +65,12 @@ struct State {
     /// When the kernel asked last.
     asked: Option<Instant>,
     waiting: Waiting,
+    /// The asks of a real kernel; a script has none.
+    kernel: Kernel,
+    /// Whether a kernel has a mount that stands.
+    is_mounted: bool,
+    /// Where it is noted at each takeover what the kernel holds, if it is.
+    log: Option<BufWriter<File>>,
     is_over: bool,
 }
 
@@ -90,13 +102,35 @@ impl State {
         if visit.is_strange() && !self.has_place(frame) {
             return (Response::Closes, false);
         }
+        if !visit.is_strange() && self.has_dead_mount() && matches!(frame, Frame::Mount) {
+            return (Response::Tells(Frame::Seated), false);
+        }
         let before = visit.peer;
         let response = self.desk.answer(&mut visit.peer, frame);
         if visit.peer != before {
             self.visitors.name(visit.number, visit.peer);
         }
+        if let Response::Tells(Frame::Claimed { generation }) = &response {
+            self.log_held(*generation);
+        }
         let wakes = is_waited_for(self.waiting, &response);
         (response, wakes)
+    }
+
+    /// Notes what the kernel holds as a daemon takes the seat over at `generation`. What can't be written is left out.
+    fn log_held(&mut self, generation: u64) {
+        let Some(log) = &mut self.log else {
+            return;
+        };
+        let _told = print_numbered(log, "seat", generation);
+        let _told = print_held(log, self.desk.broker());
+        let _told = log.flush();
+    }
+
+    /// Returns whether a kernel still has the mount of a daemon that is gone. Until that ends no daemon may mount, since
+    /// the kernel would take the next daemon's numbers for those of the last one.
+    fn has_dead_mount(&self) -> bool {
+        self.is_mounted && self.desk.broker().seat().is_none()
     }
 
     /// Returns whether the connection that a stranger's Attach asks for is within the limit.
@@ -176,15 +210,19 @@ fn finds_nothing(response: &Response) -> bool {
 }
 
 impl Hall {
-    /// Makes a hall without connections.
-    pub(crate) fn new(alloc: Global) -> Result<Hall, NoMemory> {
+    /// Makes a hall without connections, which notes what the kernel holds in `log` if there is one.
+    pub(crate) fn new(alloc: Global, log: Option<BufWriter<File>>) -> Result<Hall, NoMemory> {
         let desk = Desk::new(alloc)?;
+        let kernel = Kernel::new(alloc)?;
         Ok(Hall {
             state: Mutex::new(State {
                 desk,
                 visitors: Visitors::new(alloc),
                 asked: None,
                 waiting: Waiting::Nothing,
+                kernel,
+                is_mounted: false,
+                log,
                 is_over: false,
             }),
             asks: Condvar::new(),
@@ -287,7 +325,7 @@ impl Hall {
         begun
     }
 
-    /// Waits until something came of `awaited`, and returns what came.
+    /// Waits until the wait for `awaited` has a result, and returns the result.
     pub(crate) fn wait_for<R: Wait + Clock>(&self, rt: &R, awaited: &Awaited) -> Came
         ensures come { HasCome awaited.now result }
     {
@@ -338,6 +376,7 @@ impl Hall {
     pub(crate) fn close<R: Wait>(&self, rt: &R) {
         self.state.lock(rt).desk.close();
         self.asks.notify_all();
+        self.events.notify_all();
     }
 
     /// Waits until every daemon closed its first connection.

@@ -1,4 +1,4 @@
-//! What a line of a broker's script waits for, and what came of the wait.
+//! What a line of a broker's script waits for, and the results of such waits.
 ghost use Rattle.std.specs.Prelude.{◌≡◌};
 ghost use Rattle.broker_script.specs.Looking.{idle_come, seat_come, Looks};
 ghost use Rattle.broker_script.specs.declared.awaited.Awaited.TheVariants.{Reply as AReply};
@@ -18,7 +18,7 @@ pub enum Awaited {
     Idle,
 }
 
-/// What came of a wait.
+/// The result of a wait.
 #[derive(Clone, Copy)]
 pub enum Came {
     /// The awaited reply, which reached the kernel.
@@ -33,8 +33,8 @@ pub enum Came {
     Lacks,
 }
 
-/// Returns what came of `awaited`, if anything did. A reply that came is delivered to the kernel; else nothing changes.
-/// A reply does not come while another posted one is before it.
+/// Returns the result of the wait for `awaited`, or none if the wait goes on. Delivers an awaited reply to the kernel
+/// once no other posted reply is before it, and else changes nothing.
 pub fn look(desk: &mut Desk, awaited: &Awaited) -> Option<Came>
     ensures looks { Looks desk.old awaited.now result desk.new }
 {

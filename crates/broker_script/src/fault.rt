@@ -8,7 +8,7 @@ use std::alloc::AllocFailed;
 /// A bad line, or no memory for what the lines say.
 #[derive(Clone, Copy, Debug, PartialEq, Eq)]
 pub enum BrokerScriptFault {
-    /// The number of the first line that says nothing. The first line of the script is line 1.
+    /// The number of the first bad line, counted from 1.
     BadLine(usize),
     NoMemory,
 }

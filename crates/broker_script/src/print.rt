@@ -23,7 +23,7 @@ pub fn print_begun<W: Write>(out: &mut W, broker: &Broker, begun: &Begun) -> io:
     }
 }
 
-/// Prints the line of what came of a wait. There is none if memory was refused.
+/// Prints the line for the result of a wait. If memory was refused, there is no line.
 pub fn print_came<W: Write>(out: &mut W, came: &Came) -> io::Result<()>
     ensures printed { OnOk result (Appends (W.contents out.old) (W.contents out.new)
         (came_lines came.now)) }

@@ -7,8 +7,8 @@ use crate::fault::BrokerScriptFault;
 use script_lines::{BrokerLine, first_line, read_broker_line};
 use std::alloc::Global;
 
-/// Reads each line of `text`, else returns the first line that says nothing. The last line may lack its LF. An empty
-/// text has no line. Each ask that is read can be sent, as `begin` requires.
+/// Reads each line of `text`, or returns the number of the first bad one. The last line may lack its LF. An empty text
+/// has no line. Each ask that is read can be sent, as `begin` requires.
 pub fn read_broker_script(alloc: Global, text: &[u8]) -> Result<Vec<BrokerLine>, BrokerScriptFault>
     ensures says { IfOk result (λ lines. Says text.now lines.items) }
     ensures sendable { IfOk result (λ lines. All IsSendableLine lines.items) }

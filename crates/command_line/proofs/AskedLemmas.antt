@@ -11,7 +11,7 @@ use Rattle.command_line.specs.CommandLine.{is_errand, script_in, start_fault_in}
 use Rattle.command_line.specs.declared.asked.Asked.{Asked}
 use Rattle.command_line.specs.declared.asked.Asked.TheVariants.{World, Serve}
 use Rattle.command_line.specs.declared.errand.Errand.{Errand}
-use Rattle.command_line.specs.declared.errand.Errand.TheVariants.{Broker, Daemon}
+use Rattle.command_line.specs.declared.errand.Errand.TheVariants.{Broker, Daemon, Mount}
 use Rattle.command_line.proofs.CommandLemmas.{start_fault-other}
 
 -- an error where nothing is wrong is want of memory
@@ -39,6 +39,7 @@ fails_first (Err error) first next refused fails = elim fails [
 pub errand_is : (command : Option (Text × List Row)) (errand : Errand) → IsErrand command errand → is_errand command ≡ true
 errand_is command (Broker broker) (rows, is, parts) = ap is_errand is
 errand_is command (Daemon daemon) (rows, is, parts) = ap is_errand is
+errand_is command (Mount mount) (rows, is, parts) = ap is_errand is
 
 -- what is asked for by words that name a script plainly
 pub plain_asked : (result : Result Asked Error) (command : Option (Text × List Row)) (script : Text) → script_in command ≡ script → is_errand command ≡ false →

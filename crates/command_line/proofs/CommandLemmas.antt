@@ -109,16 +109,34 @@ command_is (Some sub) name rows name_is is =
     let same_rows : sub.1 ≡ rows = cc in
     ap₂ (λ (n : Text) (r : List Row). Some (n, r)) same_name same_rows
 
+-- one of three holds, or none does
+none_of : (a b c : Bool) → a ≡ false → b ≡ false → c ≡ false → ((a || b) || c) ≡ false
+none_of true b c is other third = let bad : true ≡ false = is in cc
+none_of false true c is other third = let bad : true ≡ false = other in cc
+none_of false false true is other third = let bad : true ≡ false = third in cc
+none_of false false false is other third = refl
+
+first_of_two : (a b c : Bool) → a ≡ true → ((a || b) || c) ≡ true
+first_of_two true b c is = refl
+first_of_two false b c is = let bad : true ≡ false = sym is in cc
+
+second_of_two : (a b c : Bool) → b ≡ true → ((a || b) || c) ≡ true
+second_of_two true b c is = refl
+second_of_two false true c is = refl
+second_of_two false false c is = let bad : true ≡ false = sym is in cc
+
 -- a command of another name is no errand
 pub is_errand-other : (sub : Option (Text × List Row)) → (option_map (λ (p : Text × List Row). p.0) sub ≡ Some (codes "broker") → ⊥) →
-    (option_map (λ (p : Text × List Row). p.0) sub ≡ Some (codes "daemon") → ⊥) → is_errand sub ≡ false
-is_errand-other None no_broker no_daemon = refl
-is_errand-other (Some sub) no_broker no_daemon = go (bytes_eq sub.0 (codes "broker")) (bytes_eq sub.0 (codes "daemon")) refl refl
+    (option_map (λ (p : Text × List Row). p.0) sub ≡ Some (codes "daemon") → ⊥) →
+    (option_map (λ (p : Text × List Row). p.0) sub ≡ Some (codes "mount") → ⊥) → is_errand sub ≡ false
+is_errand-other None no_broker no_daemon no_mount = refl
+is_errand-other (Some sub) no_broker no_daemon no_mount = go (bytes_eq sub.0 (codes "broker")) (bytes_eq sub.0 (codes "daemon")) (bytes_eq sub.0 (codes "mount")) refl refl refl
   where
-    go : (broker daemon : Bool) → bytes_eq sub.0 (codes "broker") ≡ broker → bytes_eq sub.0 (codes "daemon") ≡ daemon → is_errand (Some sub) ≡ false
-    go true daemon is other = absurd (no_broker (ap (λ (t : Text). Some t) ((bytes_eq-Decides sub.0 (codes "broker")).0 is)))
-    go false true is other = absurd (no_daemon (ap (λ (t : Text). Some t) ((bytes_eq-Decides sub.0 (codes "daemon")).0 other)))
-    go false false is other = ap₂ (λ (a b : Bool). a || b) is other
+    go : (broker daemon mount : Bool) → bytes_eq sub.0 (codes "broker") ≡ broker → bytes_eq sub.0 (codes "daemon") ≡ daemon → bytes_eq sub.0 (codes "mount") ≡ mount → is_errand (Some sub) ≡ false
+    go true daemon mount is other third = absurd (no_broker (ap (λ (t : Text). Some t) ((bytes_eq-Decides sub.0 (codes "broker")).0 is)))
+    go false true mount is other third = absurd (no_daemon (ap (λ (t : Text). Some t) ((bytes_eq-Decides sub.0 (codes "daemon")).0 other)))
+    go false false true is other third = absurd (no_mount (ap (λ (t : Text). Some t) ((bytes_eq-Decides sub.0 (codes "mount")).0 third)))
+    go false false false is other third = none_of (bytes_eq sub.0 (codes "broker")) (bytes_eq sub.0 (codes "daemon")) (bytes_eq sub.0 (codes "mount")) is other third
 
 -- nothing is wrong with the start of a command that is no errand
 pub start_fault-other : (sub : Option (Text × List Row)) → is_errand sub ≡ false → start_fault_in sub ≡ []
@@ -126,6 +144,6 @@ start_fault-other None apart = refl
 start_fault-other (Some sub) apart = go (bytes_eq sub.0 (codes "broker")) (bytes_eq sub.0 (codes "daemon")) refl refl
   where
     go : (broker daemon : Bool) → bytes_eq sub.0 (codes "broker") ≡ broker → bytes_eq sub.0 (codes "daemon") ≡ daemon → start_fault_in (Some sub) ≡ []
-    go true daemon is other = let bad : true ≡ false = sym (ap (λ (a : Bool). a || bytes_eq sub.0 (codes "daemon")) is) ∙ apart in cc
-    go false true is other = let bad : true ≡ false = sym (ap₂ (λ (a b : Bool). a || b) is other) ∙ apart in cc
+    go true daemon is other = let bad : true ≡ false = sym (first_of_two (bytes_eq sub.0 (codes "broker")) (bytes_eq sub.0 (codes "daemon")) (bytes_eq sub.0 (codes "mount")) is) ∙ apart in cc
+    go false true is other = let bad : true ≡ false = sym (second_of_two (bytes_eq sub.0 (codes "broker")) (bytes_eq sub.0 (codes "daemon")) (bytes_eq sub.0 (codes "mount")) other) ∙ apart in cc
     go false false is other = ap (λ (b : Bool). if b then start_fault sub.1 else []) other

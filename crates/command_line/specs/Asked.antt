@@ -7,7 +7,8 @@ use Rattle.command_line.specs.declared.asked.Asked.TheVariants.{World, Serve}
 use Rattle.command_line.specs.declared.errand.BrokerWords.{BrokerWords}
 use Rattle.command_line.specs.declared.errand.DaemonWords.{DaemonWords}
 use Rattle.command_line.specs.declared.errand.Errand.{Errand}
-use Rattle.command_line.specs.declared.errand.Errand.TheVariants.{Broker, Daemon}
+use Rattle.command_line.specs.declared.errand.Errand.TheVariants.{Broker, Daemon, Mount}
+use Rattle.command_line.specs.declared.errand.MountWords.{MountWords}
 
 -- each word of `broker` is that of its argument
 pub record IsBroker (rows : List Row) (broker : BrokerWords) : Type 0 where
@@ -25,12 +26,20 @@ pub record IsDaemon (rows : List Row) (daemon : DaemonWords) : Type 0 where
   pub patience : daemon.patience ≡ number_or 2000 (first_of (codes "patience") rows)
   pub until_closed : daemon.until_closed ≡ has_flag (codes "until-closed") rows
 
+-- each word of `mount` is that of its argument
+pub record IsMount (rows : List Row) (mount : MountWords) : Type 0 where
+  pub mountpoint : mount.mountpoint.now ≡ word_in (codes "MOUNTPOINT") rows
+  pub socket : mount.socket.now ≡ word_in (codes "SOCKET") rows
+  pub held : mount.held.now ≡ word_in (codes "held") rows
+
 -- the command asks for this process
 abbrev pub IsErrand : Option (Text × List Row) → Errand → Type 0
 IsErrand command (Broker broker) =
     (rows : List Row) × (command ≡ Some (codes "broker", rows)) × IsBroker rows broker
 IsErrand command (Daemon daemon) =
     (rows : List Row) × (command ≡ Some (codes "daemon", rows)) × IsDaemon rows daemon
+IsErrand command (Mount mount) =
+    (rows : List Row) × (command ≡ Some (codes "mount", rows)) × IsMount rows mount
 
 -- the command asks for this
 abbrev pub IsAsked : Option (Text × List Row) → Asked → Type 0

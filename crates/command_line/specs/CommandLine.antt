@@ -68,12 +68,22 @@ daemon_app = with_rules (new_app (codes "daemon")) (
     ∷ word_rule (codes "BROKER") ∷ word_rule (codes "TAKEOVER") ∷ word_rule (codes "MANIFEST")
     ∷ workers_rule ∷ limit_rule ∷ patience_rule ∷ flag_rule (codes "until-closed") ∷ [])
 
--- the program, which has a version and these three commands
+-- the rule of the option that names a file for what the kernel holds
+abbrev pub held_rule : Rule
+held_rule = record (new_rule (codes "held")) { long = Some (codes "held"); action = Some Set; value_names = 1 }
+
+-- the command `mount MOUNTPOINT SOCKET`, perhaps with `--held`
+abbrev pub mount_app : App
+mount_app =
+    with_rules (new_app (codes "mount"))
+    (word_rule (codes "MOUNTPOINT") ∷ word_rule (codes "SOCKET") ∷ held_rule ∷ [])
+
+-- the program, which has a version and these four commands
 abbrev pub edend_app : App
 edend_app =
-    with_subcommand (with_subcommand (with_subcommand
+    with_subcommand (with_subcommand (with_subcommand (with_subcommand
     (record { top = record (new_shape (codes "edend")) { has_version = true }; subs = [] })
-    world_app.top) broker_app.top) daemon_app.top
+    world_app.top) broker_app.top) daemon_app.top) mount_app.top
 
 -- the command that the words have, and what it was given; the first word is the program's name
 abbrev pub command_of : List Text → Option (Text × List Row)
@@ -158,4 +168,4 @@ wrong_of words = or_else (fault_of edend_app words) (start_fault_in (command_of 
 abbrev pub is_errand : Option (Text × List Row) → Bool
 is_errand None = false
 is_errand (Some command) =
-    bytes_eq command.0 (codes "broker") || bytes_eq command.0 (codes "daemon")
+    bytes_eq command.0 (codes "broker") || bytes_eq command.0 (codes "daemon") || bytes_eq command.0 (codes "mount")

@@ -2,14 +2,15 @@
 ghost use Rattle.std.specs.Prelude.{◌≡◌, map, IfOk, MatchResult, codes, string_bytes};
 ghost use Rattle.std.specs.Option.{option_map};
 ghost use Rattle.clap.specs.Words.{FailsBy, found_of, kind_of, rows_of, subcommand_rows_of};
-ghost use Rattle.command_line.specs.Asked.{IsAsked, IsBroker, IsDaemon, IsScript};
+ghost use Rattle.command_line.specs.Asked.{IsAsked, IsBroker, IsDaemon, IsMount, IsScript};
 ghost use Rattle.command_line.specs.CommandLine.{NamesPlainly, command_of, has_flag, limit_in, number_or, script_in, start_by, start_fault, start_fault_in, word_in, wrong_of};
 
 use crate::commands::{
-    BROKER, BROKER_SOCKET, DAEMON, LIMIT, LISTEN_SOCKET, MANIFEST, MOUNT, PATIENCE, SCRIPT, SOCKET,
-    TAKEOVER, UNTIL_CLOSED, WORKERS, WORLD, daemon_command, edend_command,
+    BROKER, BROKER_SOCKET, DAEMON, HELD, LIMIT, LISTEN_SOCKET, MANIFEST, MOUNT, MOUNTPOINT,
+    PATIENCE, SCRIPT, SOCKET, TAKEOVER, UNTIL_CLOSED, WORKERS, WORLD, daemon_command,
+    edend_command,
 };
-use crate::{BrokerWords, DaemonWords, Errand, Start};
+use crate::{BrokerWords, DaemonWords, Errand, MountWords, Start};
 use clap::error::ErrorKind;
 use clap::{ArgMatches, Error};
 use script_lines::number;
@@ -63,10 +64,12 @@ fn asked_in<'a>(alloc: Global, matches: &ArgMatches<'a>) -> Result<Asked<'a>, Er
     match (
         matches.subcommand_matches(BROKER),
         matches.subcommand_matches(DAEMON),
+        matches.subcommand_matches(MOUNT),
     ) {
-        (Some(broker), _) => Ok(Asked::Serve(Errand::Broker(broker_in(broker)))),
-        (None, Some(daemon)) => Ok(Asked::Serve(Errand::Daemon(daemon_in(alloc, daemon)?))),
-        (None, None) => Ok(Asked::World(world_in(matches))),
+        (Some(broker), _, _) => Ok(Asked::Serve(Errand::Broker(broker_in(broker)))),
+        (None, Some(daemon), _) => Ok(Asked::Serve(Errand::Daemon(daemon_in(alloc, daemon)?))),
+        (None, None, Some(mount)) => Ok(Asked::Serve(Errand::Mount(mount_in(mount)))),
+        (None, None, None) => Ok(Asked::World(world_in(matches))),
     }
 }
 
@@ -108,6 +111,17 @@ fn broker_in<'a>(broker: &ArgMatches<'a>) -> BrokerWords<'a>
     BrokerWords {
         socket: word_in(broker, SOCKET),
         script: word_in(broker, SCRIPT),
+    }
+}
+
+/// Returns the words of `mount`.
+fn mount_in<'a>(mount: &ArgMatches<'a>) -> MountWords<'a>
+    ensures { IsMount (rows_of (found_of mount.now)) result }
+{
+    MountWords {
+        mountpoint: word_in(mount, MOUNTPOINT),
+        socket: word_in(mount, SOCKET),
+        held: word_in(mount, HELD),
     }
 }
 

@@ -1,7 +1,7 @@
 //! The commands that the program has, as `clap` reads them.
 ghost use Rattle.std.specs.Prelude.{◌≡◌, false, IfOk};
 ghost use Rattle.clap.specs.Words.{app_of, rule_of};
-ghost use Rattle.command_line.specs.CommandLine.{IsReadAs, broker_app, daemon_app, edend_app, flag_rule, limit_rule, patience_rule, word_rule, workers_rule, world_app};
+ghost use Rattle.command_line.specs.CommandLine.{IsReadAs, broker_app, daemon_app, edend_app, flag_rule, held_rule, limit_rule, mount_app, patience_rule, word_rule, workers_rule, world_app};
 
 use clap::builder::ValueParser;
 use clap::{Arg, ArgAction, Command};
@@ -17,6 +17,11 @@ pub const SCRIPT: &str = "SCRIPT";
 
 pub const SOCKET: &str = "SOCKET";
 
+pub const MOUNTPOINT: &str = "MOUNTPOINT";
+
+pub const HELD: &str = "held";
+
+/// A command, and an option of `daemon`.
 pub const MOUNT: &str = "mount";
 
 pub const TAKEOVER: &str = "takeover";
@@ -37,7 +42,7 @@ pub const PATIENCE: &str = "patience";
 
 pub const UNTIL_CLOSED: &str = "until-closed";
 
-/// What the help of `world` ends with.
+/// The end of the help of `world`.
 const WORLD_HELP: &str = "\
 Example:
   printf 'commit %040d\\ndir src\\n--\\nstart\\nmount 1\\ndo lookup 1 src\\nshow\\n' 0 | edend world -
@@ -47,7 +52,7 @@ Exit status:
   1  a fault, told by a line 'fault: TEXT' on standard output
   2  the command line was refused";
 
-/// What the help of `broker` ends with.
+/// The end of the help of `broker`.
 const BROKER_HELP: &str = "\
 Example:
   printf 'seat 1\\nask getattr 1\\n' | edend broker broker.socket -
@@ -61,7 +66,7 @@ Exit status:
 const DAEMON_USAGE: &str =
     "edend daemon [OPTIONS] <--mount|--takeover> <BROKER> <TAKEOVER> <MANIFEST>";
 
-/// What the help of `daemon` ends with.
+/// The end of the help of `daemon`.
 const DAEMON_HELP: &str = "\
 Example:
   printf 'commit %040d\\ndir src\\n' 0 > manifest
@@ -73,13 +78,28 @@ Exit status:
   1  a fault, told by a line 'fault: TEXT' on standard output
   2  the command line was refused";
 
-/// Returns the program's command, with its three subcommands.
+/// What the help of `mount` ends with.
+const MOUNT_HELP: &str = "\
+Example:
+  mkdir checkout
+  edend mount checkout broker.socket &
+  edend daemon --mount broker.socket takeover.socket manifest &
+  stat checkout/src
+  umount checkout
+
+Exit status:
+  0  the checkout was unmounted
+  1  a fault, told by a line 'fault: TEXT' on standard output
+  2  the command line was refused";
+
+/// Returns the program's command, with its four subcommands.
 pub fn edend_command<'a>(alloc: Global) -> Result<Command<'a>, AllocError>
     ensures { IfOk result (λ command. app_of command ≡ edend_app) }
 {
     let world = world_command(alloc)?;
     let broker = broker_command(alloc)?;
     let daemon = daemon_command(alloc)?;
+    let mount = mount_command(alloc)?;
     Command::new(alloc, "edend")
         .version("0.1.0")
         .about(
@@ -87,7 +107,8 @@ pub fn edend_command<'a>(alloc: Global) -> Result<Command<'a>, AllocError>
         )
         .subcommand(world)?
         .subcommand(broker)?
-        .subcommand(daemon)
+        .subcommand(daemon)?
+        .subcommand(mount)
 }
 
 /// Returns the command `world`, which runs a script.
@@ -131,6 +152,18 @@ pub fn daemon_command<'a>(alloc: Global) -> Result<Command<'a>, AllocError>
         .arg(flag_arg(alloc, UNTIL_CLOSED, UNTIL_CLOSED_HELP))
 }
 
+/// Returns the command `mount`, which mounts what daemons serve.
+fn mount_command<'a>(alloc: Global) -> Result<Command<'a>, AllocError>
+    ensures { IfOk result (IsReadAs mount_app) }
+{
+    Command::new(alloc, MOUNT)
+        .about("Mounts a checkout: the Linux kernel asks, and daemons answer")
+        .after_help(MOUNT_HELP)
+        .arg(word_arg(alloc, MOUNTPOINT, "The directory to mount at"))?
+        .arg(word_arg(alloc, SOCKET, "The socket to listen at"))?
+        .arg(held_arg(alloc))
+}
+
 const SCRIPT_HELP: &str = "The script, or - for standard input";
 
 const TAKEOVER_HELP: &str = "Takes over from the daemon that listens at TAKEOVER";
@@ -161,6 +194,18 @@ fn flag_arg<'a>(alloc: Global, name: &'a str, help: &'a str) -> Arg<'a>
         .long(name)
         .help(help)
         .action(ArgAction::SetTrue)
+}
+
+/// Returns the option that names a file for what the kernel holds.
+fn held_arg<'a>(alloc: Global) -> Arg<'a>
+    ensures rule { rule_of result ≡ held_rule }
+    ensures own { result.global ≡ false }
+{
+    Arg::new(alloc, HELD)
+        .long(HELD)
+        .value_name("FILE")
+        .help("Notes in FILE at each takeover how often the kernel holds each number")
+        .action(ArgAction::Set)
 }
 
 /// Returns the option that says how many files are kept loaded.

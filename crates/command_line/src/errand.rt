@@ -5,6 +5,7 @@
 pub enum Errand<'a> {
     Broker(BrokerWords<'a>),
     Daemon(DaemonWords<'a>),
+    Mount(MountWords<'a>),
 }
 
 /// The words of `broker`.
@@ -43,4 +44,15 @@ pub struct DaemonWords<'a> {
     pub patience: u64,
     /// Whether the daemon ends when standard input ends.
     pub until_closed: bool,
+}
+
+/// The words of `mount`.
+#[derive(Clone, Copy)]
+pub struct MountWords<'a> {
+    /// The path of the directory at which the checkout is mounted.
+    pub mountpoint: &'a str,
+    /// The path of the socket at which daemons reach the broker.
+    pub socket: &'a str,
+    /// The path of a file for what the kernel holds at each takeover; empty if no file is asked for.
+    pub held: &'a str,
 }

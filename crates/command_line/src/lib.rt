@@ -6,4 +6,4 @@ mod commands;
 mod errand;
 
 pub use asked::{Asked, DEFAULT_LIMIT, WorldWords, asked_of, not_text};
-pub use errand::{BrokerWords, DaemonWords, Errand, Start};
+pub use errand::{BrokerWords, DaemonWords, Errand, MountWords, Start};

@@ -3,6 +3,8 @@ use Rattle.std.proofs.Common.{◌≡◌, ◌<◌, ◌⊎◌, ℕ, List, [], leng
 use Rattle.std.specs.Option.{IfSome}
 use Rattle.std.specs.Io.KnownBytes.{Keeps}
 use Rattle.std.proofs.KnownBytes.{Appends-kept, Appends-nil}
+use Rattle.broker_process.specs.Mounting.{PrintsDead}
+use Rattle.broker_process.specs.declared.fault.MountFault.TheVariants as mount
 use Rattle.broker_script.specs.Reading.{IsRefusal}
 use Rattle.broker_script.specs.declared.fault.BrokerScriptFault.{BrokerScriptFault}
 use Rattle.command_line.specs.declared.errand.BrokerWords.{BrokerWords}
@@ -19,14 +21,19 @@ use Rattle.edend.specs.Errands.{Fails, IsTold, IsUnread, Names, PrintsFirst, Run
 
 -- ---- what was printed
 
+none-dead : (before after : Option (List ℕ)) → Keeps before after → PrintsDead before after
+none-dead before after kept = ([], Appends-kept before before after [] (Appends-nil before) kept)
+
 prints-nothing : (e : Errand) (before after : Option (List ℕ)) → Keeps before after → PrintsFirst e before after
 prints-nothing (errand.Broker words) before after kept = Appends-kept before before after [] (Appends-nil before) kept
 prints-nothing (errand.Daemon words) before after kept = ([], Appends-kept before before after [] (Appends-nil before) kept)
+prints-nothing (errand.Mount words) before after kept = inl (none-dead before after kept)
 
 -- a failure before anything was printed
 first-none : (e : Errand) (known : Option (List ℕ)) → PrintsFirst e known known
 first-none (errand.Broker words) known = Appends-nil known
 first-none (errand.Daemon words) known = ([], Appends-nil known)
+first-none (errand.Mount words) known = inl ([], Appends-nil known)
 
 pub fails-to : (input : Option (List ℕ)) (file : List ℕ → Option (List ℕ)) (e : Errand) (failure : Failure) (ended : Result (Unit {0}) Failure) (old new : Option (List ℕ)) →
     ended ≡ Err failure → new ≡ old → Names e failure → IsTold input file e old old failure.fault → RunsTo input file e ended old new
@@ -40,14 +47,16 @@ fails-to input file e failure ended old new is same names told =
 names-no_memory : (e : Errand) → Names e (plain NoMemory)
 names-no_memory (errand.Broker words) = refl
 names-no_memory (errand.Daemon words) = refl
+names-no_memory (errand.Mount words) = refl
 
-told-no_memory : (input : Option (List ℕ)) (file : List ℕ → Option (List ℕ)) (e : Errand) (before after : Option (List ℕ)) → IsTold input file e before after NoMemory
-told-no_memory input file (errand.Broker words) before after = inl tt
-told-no_memory input file (errand.Daemon words) before after = inl tt
+told-no_memory : (input : Option (List ℕ)) (file : List ℕ → Option (List ℕ)) (e : Errand) (before after : Option (List ℕ)) → Keeps before after → IsTold input file e before after NoMemory
+told-no_memory input file (errand.Broker words) before after kept = inl tt
+told-no_memory input file (errand.Daemon words) before after kept = inl tt
+told-no_memory input file (errand.Mount words) before after kept = record { fault = mount.NoMemory; ran = inl (none-dead before after kept); is_told = refl }
 
 pub fails-no_memory : (input : Option (List ℕ)) (file : List ℕ → Option (List ℕ)) (e : Errand) (before after : Option (List ℕ)) → Keeps before after → Fails input file e (plain NoMemory) before after
 fails-no_memory input file e before after kept =
-    record { names = names-no_memory e; told = told-no_memory input file e before after; first = inr (prints-nothing e before after kept) }
+    record { names = names-no_memory e; told = told-no_memory input file e before after kept; first = inr (prints-nothing e before after kept) }
 
 -- ---- a text that was not read
 

@@ -1,19 +1,20 @@
 -- Errands that were noted alike run alike.
-use Rattle.std.proofs.Common.{◌≡◌, ◌⊎◌, ℕ, Bool, List, Option, Some, Result, Ok, Err, ap, subst, sym, ◌∙◌, inl, inr}
+use Rattle.std.proofs.Common.{◌≡◌, ◌⊎◌, ℕ, Bool, List, Option, Some, Result, Ok, Err, refl, ap, subst, sym, ◌∙◌, inl, inr}
 use Rattle.daemon_process.specs.Ending.{RunsDaemon}
 use Rattle.world_script.specs.Source.{script_at}
 use Rattle.command_line.specs.declared.errand.BrokerWords.{BrokerWords}
 use Rattle.command_line.specs.declared.errand.DaemonWords.{DaemonWords}
+use Rattle.command_line.specs.declared.errand.MountWords.{MountWords}
 use Rattle.command_line.specs.declared.errand.Errand.{Errand}
 use Rattle.command_line.specs.declared.errand.Errand.TheVariants as errand
 use Rattle.world_script.specs.ProgramEnd.{name_by}
 use Rattle.world_script.specs.declared.failure.Failure.{Failure}
 use Rattle.world_script.specs.declared.fault.Fault.{Fault}
-use Rattle.world_script.specs.declared.fault.Fault.TheVariants.{CannotListen, CannotWrite, NoBroker, NoDaemon}
+use Rattle.world_script.specs.declared.fault.Fault.TheVariants.{Broken, CannotListen, CannotMount, CannotWrite, NoBroker, NoDaemon, NoDevice, NoLog}
 use Rattle.edend.specs.Errands.{BrokerTells, DaemonTells, IsTold, PlaysRead, PrintsFirst, RunsTo, RunsWell, name_at}
 use Rattle.edend.specs.Note.{IsNoted}
 use Rattle.edend.specs.declared.note.Noted.{Noted}
-use Rattle.edend.specs.declared.note.Noted.TheVariants.{Broker, Daemon}
+use Rattle.edend.specs.declared.note.Noted.TheVariants.{Broker, Daemon, Mount}
 
 -- two errands with the same words name the same for a fault
 same_of_broker : (a b : BrokerWords) (fault : Fault) → a.socket.now ≡ b.socket.now → a.script.now ≡ b.script.now → name_at (errand.Broker a) fault ≡ name_at (errand.Broker b) fault
@@ -26,6 +27,14 @@ same_of_daemon a b NoBroker broker takeover manifest = ap (λ (p : List ℕ). So
 same_of_daemon a b NoDaemon broker takeover manifest = ap (λ (p : List ℕ). Some p) takeover
 same_of_daemon a b fault broker takeover manifest = ap (λ (p : List ℕ). name_by p fault) manifest
 
+same_of_mount : (a b : MountWords) (fault : Fault) → a.mountpoint.now ≡ b.mountpoint.now → a.socket.now ≡ b.socket.now → a.held.now ≡ b.held.now → name_at (errand.Mount a) fault ≡ name_at (errand.Mount b) fault
+same_of_mount a b CannotListen mountpoint socket held = ap (λ (p : List ℕ). Some p) socket
+same_of_mount a b NoLog mountpoint socket held = ap (λ (p : List ℕ). Some p) held
+same_of_mount a b NoDevice mountpoint socket held = refl
+same_of_mount a b CannotMount mountpoint socket held = ap (λ (p : List ℕ). Some p) mountpoint
+same_of_mount a b Broken mountpoint socket held = refl
+same_of_mount a b fault mountpoint socket held = ap (λ (p : List ℕ). name_by p fault) mountpoint
+
 same_names : (noted : Noted) (a b : Errand) (fault : Fault) → IsNoted noted a → IsNoted noted b → name_at a fault ≡ name_at b fault
 same_names (Broker noted) (errand.Broker a) (errand.Broker b) fault of_a of_b =
     same_of_broker a b fault (sym of_a.0 ∙ of_b.0) (sym of_a.1 ∙ of_b.1)
@@ -35,6 +44,16 @@ same_names (Broker noted) (errand.Daemon a) b fault of_a of_b = absurd of_a
 same_names (Broker noted) (errand.Broker a) (errand.Daemon b) fault of_a of_b = absurd of_b
 same_names (Daemon noted) (errand.Broker a) b fault of_a of_b = absurd of_a
 same_names (Daemon noted) (errand.Daemon a) (errand.Broker b) fault of_a of_b = absurd of_b
+same_names (Mount noted) (errand.Mount a) (errand.Mount b) fault of_a of_b =
+    same_of_mount a b fault (sym of_a.0 ∙ of_b.0) (sym of_a.1 ∙ of_b.1) (sym of_a.2 ∙ of_b.2)
+same_names (Broker noted) (errand.Mount a) b fault of_a of_b = absurd of_a
+same_names (Daemon noted) (errand.Mount a) b fault of_a of_b = absurd of_a
+same_names (Mount noted) (errand.Broker a) b fault of_a of_b = absurd of_a
+same_names (Mount noted) (errand.Daemon a) b fault of_a of_b = absurd of_a
+same_names (Broker noted) (errand.Broker a) (errand.Mount b) fault of_a of_b = absurd of_b
+same_names (Daemon noted) (errand.Daemon a) (errand.Mount b) fault of_a of_b = absurd of_b
+same_names (Mount noted) (errand.Mount a) (errand.Broker b) fault of_a of_b = absurd of_b
+same_names (Mount noted) (errand.Mount a) (errand.Daemon b) fault of_a of_b = absurd of_b
 
 -- and they run alike
 runs_well-noted : (noted : Noted) (a b : Errand) (input : Option (List ℕ)) (file : List ℕ → Option (List ℕ)) (before after : Option (List ℕ)) →
@@ -47,6 +66,15 @@ runs_well-noted (Broker noted) (errand.Daemon a) b input file before after of_a 
 runs_well-noted (Broker noted) (errand.Broker a) (errand.Daemon b) input file before after of_a of_b well = absurd of_b
 runs_well-noted (Daemon noted) (errand.Broker a) b input file before after of_a of_b well = absurd of_a
 runs_well-noted (Daemon noted) (errand.Daemon a) (errand.Broker b) input file before after of_a of_b well = absurd of_b
+runs_well-noted (Mount noted) (errand.Mount a) (errand.Mount b) input file before after of_a of_b well = well
+runs_well-noted (Broker noted) (errand.Mount a) b input file before after of_a of_b well = absurd of_a
+runs_well-noted (Daemon noted) (errand.Mount a) b input file before after of_a of_b well = absurd of_a
+runs_well-noted (Mount noted) (errand.Broker a) b input file before after of_a of_b well = absurd of_a
+runs_well-noted (Mount noted) (errand.Daemon a) b input file before after of_a of_b well = absurd of_a
+runs_well-noted (Broker noted) (errand.Broker a) (errand.Mount b) input file before after of_a of_b well = absurd of_b
+runs_well-noted (Daemon noted) (errand.Daemon a) (errand.Mount b) input file before after of_a of_b well = absurd of_b
+runs_well-noted (Mount noted) (errand.Mount a) (errand.Broker b) input file before after of_a of_b well = absurd of_b
+runs_well-noted (Mount noted) (errand.Mount a) (errand.Daemon b) input file before after of_a of_b well = absurd of_b
 
 prints_first-noted : (noted : Noted) (a b : Errand) (before after : Option (List ℕ)) → IsNoted noted a → IsNoted noted b → PrintsFirst a before after → PrintsFirst b before after
 prints_first-noted (Broker noted) (errand.Broker a) (errand.Broker b) before after of_a of_b first = first
@@ -55,6 +83,15 @@ prints_first-noted (Broker noted) (errand.Daemon a) b before after of_a of_b fir
 prints_first-noted (Broker noted) (errand.Broker a) (errand.Daemon b) before after of_a of_b first = absurd of_b
 prints_first-noted (Daemon noted) (errand.Broker a) b before after of_a of_b first = absurd of_a
 prints_first-noted (Daemon noted) (errand.Daemon a) (errand.Broker b) before after of_a of_b first = absurd of_b
+prints_first-noted (Mount noted) (errand.Mount a) (errand.Mount b) before after of_a of_b first = first
+prints_first-noted (Broker noted) (errand.Mount a) b before after of_a of_b first = absurd of_a
+prints_first-noted (Daemon noted) (errand.Mount a) b before after of_a of_b first = absurd of_a
+prints_first-noted (Mount noted) (errand.Broker a) b before after of_a of_b first = absurd of_a
+prints_first-noted (Mount noted) (errand.Daemon a) b before after of_a of_b first = absurd of_a
+prints_first-noted (Broker noted) (errand.Broker a) (errand.Mount b) before after of_a of_b first = absurd of_b
+prints_first-noted (Daemon noted) (errand.Daemon a) (errand.Mount b) before after of_a of_b first = absurd of_b
+prints_first-noted (Mount noted) (errand.Mount a) (errand.Broker b) before after of_a of_b first = absurd of_b
+prints_first-noted (Mount noted) (errand.Mount a) (errand.Daemon b) before after of_a of_b first = absurd of_b
 
 failed-noted : (noted : Noted) (a b : Errand) (fault : Fault) (before after : Option (List ℕ)) → IsNoted noted a → IsNoted noted b →
     (fault ≡ CannotWrite) ⊎ PrintsFirst a before after → (fault ≡ CannotWrite) ⊎ PrintsFirst b before after
@@ -71,6 +108,15 @@ told-noted (Broker noted) (errand.Daemon a) b input file fault before after of_a
 told-noted (Broker noted) (errand.Broker a) (errand.Daemon b) input file fault before after of_a of_b told = absurd of_b
 told-noted (Daemon noted) (errand.Broker a) b input file fault before after of_a of_b told = absurd of_a
 told-noted (Daemon noted) (errand.Daemon a) (errand.Broker b) input file fault before after of_a of_b told = absurd of_b
+told-noted (Mount noted) (errand.Mount a) (errand.Mount b) input file fault before after of_a of_b told = told
+told-noted (Broker noted) (errand.Mount a) b input file fault before after of_a of_b told = absurd of_a
+told-noted (Daemon noted) (errand.Mount a) b input file fault before after of_a of_b told = absurd of_a
+told-noted (Mount noted) (errand.Broker a) b input file fault before after of_a of_b told = absurd of_a
+told-noted (Mount noted) (errand.Daemon a) b input file fault before after of_a of_b told = absurd of_a
+told-noted (Broker noted) (errand.Broker a) (errand.Mount b) input file fault before after of_a of_b told = absurd of_b
+told-noted (Daemon noted) (errand.Daemon a) (errand.Mount b) input file fault before after of_a of_b told = absurd of_b
+told-noted (Mount noted) (errand.Mount a) (errand.Broker b) input file fault before after of_a of_b told = absurd of_b
+told-noted (Mount noted) (errand.Mount a) (errand.Daemon b) input file fault before after of_a of_b told = absurd of_b
 
 pub runs_to-noted : (noted : Noted) (a b : Errand) (input : Option (List ℕ)) (file : List ℕ → Option (List ℕ)) (ran : Result (Unit {0}) Failure) (before after : Option (List ℕ)) →
     IsNoted noted a → IsNoted noted b → RunsTo input file a ran before after → RunsTo input file b ran before after

@@ -1,15 +1,18 @@
 -- How an errand over sockets ends. (This project's own.)
-use Rattle.std.specs.Prelude.{ℕ, ◌<◌, List, [], length, Option, Some, Result, Ok, Err, ◌≡◌, ◌⊎◌, ⊤}
+use Rattle.std.specs.Prelude.{ℕ, ◌<◌, List, [], length, codes, Option, Some, Result, Ok, Err, ◌≡◌, ◌⊎◌, ⊤}
 use Rattle.std.specs.Io.KnownBytes.{Appends}
 use Rattle.std.specs.Option.{IfSome}
 use Rattle.std.specs.declared.io.Error.{Error as IoError}
 use Rattle.command_line.specs.declared.errand.Errand.{Errand}
-use Rattle.command_line.specs.declared.errand.Errand.TheVariants.{Broker, Daemon}
+use Rattle.command_line.specs.declared.errand.Errand.TheVariants.{Broker, Daemon, Mount}
 use Rattle.command_line.specs.declared.errand.Start.{Start}
-use Rattle.command_line.specs.declared.errand.Start.TheVariants.{Mount, Takeover}
+use Rattle.command_line.specs.declared.errand.Start.TheVariants as way
+use Rattle.broker_process.specs.Mounting.{PrintsDead, PrintsThen, RunsMount, mounted_line}
 use Rattle.broker_process.specs.Playing.{PlaysScript, RunsBroker}
 use Rattle.broker_process.specs.declared.fault.BrokerFault.{BrokerFault}
 use Rattle.broker_process.specs.declared.fault.BrokerFault.TheVariants as broker
+use Rattle.broker_process.specs.declared.fault.MountFault.{MountFault}
+use Rattle.broker_process.specs.declared.fault.MountFault.TheVariants as mount
 use Rattle.broker_script.specs.Reading.{IsRefusal, Says}
 use Rattle.broker_script.specs.declared.fault.BrokerScriptFault.{BrokerScriptFault}
 use Rattle.broker_script.specs.declared.fault.BrokerScriptFault.TheVariants as script
@@ -25,12 +28,12 @@ use Rattle.world_script.specs.Source.{OfRead, script_at}
 use Rattle.world_script.specs.ProgramEnd.{ErrandsKnown, RunsErrand, Tells, name_by, name_of, plain}
 use Rattle.world_script.specs.declared.failure.Failure.{Failure}
 use Rattle.world_script.specs.declared.fault.Fault.{Fault}
-use Rattle.world_script.specs.declared.fault.Fault.TheVariants.{BadLine, Broken, CannotListen, CannotRead, CannotWrite, NoBroker, NoDaemon, NoMemory, NoThread, OfferRefused, Seated, TakeoverFailed, TooLong}
+use Rattle.world_script.specs.declared.fault.Fault.TheVariants.{BadLine, Broken, CannotListen, CannotMount, CannotRead, CannotWrite, NoBroker, NoDaemon, NoDevice, NoLog, NoMemory, NoThread, OfferRefused, Seated, TakeoverFailed, TooLong}
 
 -- how a daemon begins, by the start that its words ask for
 abbrev pub start_of : Start → DaemonStart
-start_of Mount = start.Mount
-start_of Takeover = start.Takeover
+start_of way.Mount = start.Mount
+start_of way.Takeover = start.Takeover
 
 -- the socket, file or stream whose error caused an errand's fault, if an error did
 abbrev pub name_at : Errand → Fault → Option (List ℕ)
@@ -40,6 +43,12 @@ name_at (Daemon words) CannotListen = Some words.takeover.now
 name_at (Daemon words) NoBroker = Some words.broker.now
 name_at (Daemon words) NoDaemon = Some words.takeover.now
 name_at (Daemon words) fault = name_by words.manifest.now fault
+name_at (Mount words) CannotListen = Some words.socket.now
+name_at (Mount words) NoLog = Some words.held.now
+name_at (Mount words) NoDevice = Some (codes "/dev/fuse")
+name_at (Mount words) CannotMount = Some words.mountpoint.now
+name_at (Mount words) Broken = Some (codes "/dev/fuse")
+name_at (Mount words) fault = name_by words.mountpoint.now fault
 
 -- the failure names the socket, file or stream whose error caused it, as the errand's words give it
 abbrev pub Names : Errand → Failure → Type 0
@@ -72,6 +81,17 @@ fault_of_daemon daemon.NoThread = NoThread
 fault_of_daemon daemon.Broken = Broken
 fault_of_daemon (daemon.CannotWrite error) = CannotWrite
 
+-- the fault that is told where a mount ended so
+abbrev pub fault_of_mount : MountFault → Fault
+fault_of_mount (mount.CannotListen error) = CannotListen
+fault_of_mount mount.NoMemory = NoMemory
+fault_of_mount mount.NoThread = NoThread
+fault_of_mount (mount.NoLog error) = NoLog
+fault_of_mount (mount.NoDevice error) = NoDevice
+fault_of_mount (mount.CannotMount error) = CannotMount
+fault_of_mount (mount.Broken error) = Broken
+fault_of_mount (mount.CannotWrite error) = CannotWrite
+
 -- why a script or a manifest was not read to its end, given what is known of its text
 abbrev pub IsUnread : Option (List ℕ) → Fault → Type 0
 IsUnread known CannotRead = ⊤
@@ -98,6 +118,12 @@ pub record EndsDaemon (before after : Option (List ℕ)) (told : Fault) : Type 0
   pub ran : FailsDaemon fault before after
   pub is_told : told ≡ fault_of_daemon fault
 
+-- a broker over a mount ended by a fault, which is told
+pub record EndsMount (before after : Option (List ℕ)) (told : Fault) : Type 0 where
+  pub fault : MountFault
+  pub ran : RunsMount (Err fault) before after
+  pub is_told : told ≡ fault_of_mount fault
+
 -- The fault that a broker tells, given what is known of the text at its script's path: that of a text that was not
 -- read, that of a script that was refused, or the one that ended the broker.
 abbrev pub BrokerTells : Option (List ℕ) → Option (List ℕ) → Option (List ℕ) → Fault → Type 0
@@ -119,6 +145,7 @@ IsTold input file (Broker words) before after fault =
     BrokerTells (script_at input file words.script.now) before after fault
 IsTold input file (Daemon words) before after fault =
     DaemonTells (script_at input file words.manifest.now) before after fault
+IsTold input file (Mount words) before after fault = EndsMount before after fault
 
 -- ---- how an errand ends
 
@@ -135,12 +162,14 @@ abbrev pub RunsWell :
     Option (List ℕ) → (List ℕ → Option (List ℕ)) → Errand → Option (List ℕ) → Option (List ℕ) → Type 0
 RunsWell input file (Broker words) before after = PlaysRead (script_at input file words.script.now) before after
 RunsWell input file (Daemon words) before after = RunsDaemon words.until_closed (Ok tt) before after
+RunsWell input file (Mount words) before after = RunsMount (Ok tt) before after
 
 -- what an errand that failed printed before, if each line could be printed: a broker nothing, a daemon the lines of its
--- generations
+-- generations, a mount the lines of mounts that began and died
 abbrev pub PrintsFirst : Errand → Option (List ℕ) → Option (List ℕ) → Type 0
 PrintsFirst (Broker words) before after = Appends before after []
 PrintsFirst (Daemon words) before after = PrintsServing before after
+PrintsFirst (Mount words) before after = PrintsDead before after ⊎ PrintsThen mounted_line before after
 
 -- an errand failed, and its failure tells the fault and names the cause
 pub record Fails (input : Option (List ℕ)) (file : List ℕ → Option (List ℕ)) (errand : Errand) (failure : Failure)

@@ -1,17 +1,19 @@
--- The errand that the program's words name, a broker's or a daemon's, noted in owned strings. (This project's own.)
+-- The errand that the program's words name, a broker's, a daemon's or a mount's, noted in owned strings. (This project's own.)
 use Rattle.std.specs.Prelude.{◌≡◌, Some, Ok, Err, string_bytes}
 use Rattle.std.specs.Io.KnownBytes.{Keeps}
 use Rattle.command_line.specs.declared.errand.BrokerWords.{BrokerWords}
 use Rattle.command_line.specs.declared.errand.DaemonWords.{DaemonWords}
 use Rattle.command_line.specs.declared.errand.Errand.{Errand}
 use Rattle.command_line.specs.declared.errand.Errand.TheVariants as errand
+use Rattle.command_line.specs.declared.errand.MountWords.{MountWords}
 use Rattle.world_script.specs.ProgramEnd.{ErrandEnds, plain}
 use Rattle.world_script.specs.declared.fault.Fault.TheVariants.{NoMemory}
 use Rattle.edend.specs.declared.note.Note.{Note}
 use Rattle.edend.specs.declared.note.Noted.{Noted}
-use Rattle.edend.specs.declared.note.Noted.TheVariants.{Broker, Daemon}
+use Rattle.edend.specs.declared.note.Noted.TheVariants.{Broker, Daemon, Mount}
 use Rattle.edend.specs.declared.note.NotedBroker.{NotedBroker}
 use Rattle.edend.specs.declared.note.NotedDaemon.{NotedDaemon}
+use Rattle.edend.specs.declared.note.NotedMount.{NotedMount}
 
 -- the noted words are these words of a broker
 abbrev pub IsBroker : NotedBroker → BrokerWords → Type 0
@@ -30,10 +32,18 @@ IsDaemon noted words =
     × (noted.patience ≡ words.patience)
     × (noted.until_closed ≡ words.until_closed)
 
+-- the noted words are these words of a mount
+abbrev pub IsMount : NotedMount → MountWords → Type 0
+IsMount noted words =
+    (string_bytes noted.mountpoint ≡ words.mountpoint.now)
+    × (string_bytes noted.socket ≡ words.socket.now)
+    × (string_bytes noted.held ≡ words.held.now)
+
 -- the noted errand is this one
 abbrev pub IsNoted : Noted → Errand → Type 0
 IsNoted (Broker noted) (errand.Broker words) = IsBroker noted words
 IsNoted (Daemon noted) (errand.Daemon words) = IsDaemon noted words
+IsNoted (Mount noted) (errand.Mount words) = IsMount noted words
 IsNoted _ _ = ⊥
 
 -- A run of an errand notes the errand, or memory for that is refused and nothing changes.

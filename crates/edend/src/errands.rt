@@ -1,36 +1,39 @@
 //! The program in a process, and the errands that it runs over sockets.
 ghost use Rattle.std.specs.Prelude.{◌≡◌, ◌⊎◌, ◌*◌, ℕ, List, Option, Some, Err};
 ghost use Rattle.std.specs.Duration.{as_nanos};
+ghost use Rattle.broker_process.specs.Mounting.{RunsMount};
 ghost use Rattle.broker_process.specs.Playing.{RunsBroker};
-ghost use Rattle.command_line.specs.declared.errand.Errand.TheVariants.{Broker as BrokerErrand, Daemon as DaemonErrand};
+ghost use Rattle.command_line.specs.declared.errand.Errand.TheVariants.{Broker as BrokerErrand, Daemon as DaemonErrand, Mount as MountErrand};
 ghost use Rattle.world_script.specs.Process.{RunsIn};
 ghost use Rattle.world_script.specs.ProgramEnd.{name_of};
 ghost use Rattle.daemon_process.specs.Ending.{FailsDaemon};
 ghost use Rattle.script_lines.specs.declared.broker_line.BrokerLine.{BrokerLine};
 ghost use Rattle.world_script.specs.declared.fault.Fault.TheVariants.{CannotWrite};
-ghost use Rattle.edend.specs.Errands.{Names, PrintsFirst, RunsOver, RunsTo, fault_of_broker, fault_of_daemon, fault_of_script, over_sockets, start_of};
+ghost use Rattle.edend.specs.Errands.{Names, PrintsFirst, RunsOver, RunsTo, fault_of_broker, fault_of_daemon, fault_of_mount, fault_of_script, over_sockets, start_of};
 ghost use Rattle.edend.specs.Note.{IsNoted};
 
 use crate::note::{Note, Noted};
-use broker_process::{BrokerFault, run_broker};
+use broker_process::{BrokerFault, DEVICE, MountFault, Place, run_broker, run_mount};
 use broker_script::{BrokerScriptFault, read_broker_script};
 use daemon_process::{DaemonFault, Orders, Start, run_daemon};
 use std::alloc::Global;
+use std::fs::File;
 use std::io::{self, Read, Write};
 use std::net::Net;
+use std::process::Processes;
 use std::rt::{Clock, Files};
 use std::sync::Wait;
 use std::thread::Threads;
 use std::time::Duration;
 use world_script::{
-    BrokerWords, Cause, DaemonWords, Errand, Failure, Fault, Process, RunIn, STANDARD_OUTPUT,
-    Sources, end_errand, gather_lines, read_manifest, read_path, run_process,
+    BrokerWords, Cause, DaemonWords, Errand, Failure, Fault, MountWords, Process, RunIn,
+    STANDARD_OUTPUT, Sources, end_errand, gather_lines, read_manifest, read_path, run_process,
 };
 
 /// Runs the program in a process: plays a script of a whole mount, or runs an errand over sockets. A daemon that is to run
 /// until standard input ends reads that by `input`.
 pub fn run_edend<
-    R: Threads + Wait + Clock + Files + Net + Copy + Send + Sync + 'static,
+    R: Threads + Wait + Clock + Files<File = File> + Net + Processes + Copy + Send + Sync + 'static,
     P: Process,
     I: Read + Drop + Send + 'static,
 >(host: &R, alloc: Global, process: &P, input: I) -> RunIn<P::Output, P::Errors>
@@ -51,7 +54,7 @@ pub fn run_edend<
 
 /// Runs the errand that was noted, and ends the process with it.
 fn run_noted<
-    R: Threads + Wait + Clock + Files + Net + Copy + Send + Sync + 'static,
+    R: Threads + Wait + Clock + Files<File = File> + Net + Processes + Copy + Send + Sync + 'static,
     P: Process,
     I: Read + Drop + Send + 'static,
 >(host: &R, alloc: Global, process: &P, noted: &Noted, input: I) -> RunIn<P::Output, P::Errors>
@@ -80,7 +83,7 @@ struct ErrandRun<'a, W> {
 /// Runs an errand over sockets, and returns how it ended.
 fn run<
     'a,
-    R: Threads + Wait + Clock + Files + Net + Copy + Send + Sync + 'static,
+    R: Threads + Wait + Clock + Files<File = File> + Net + Processes + Copy + Send + Sync + 'static,
     S: Sources,
     I: Read + Drop + Send + 'static,
     W: Write + Drop,
@@ -91,6 +94,7 @@ fn run<
     match errand {
         Errand::Broker(words) => broker(host, alloc, sources, words, out),
         Errand::Daemon(words) => daemon(host, alloc, sources, words, input, out),
+        Errand::Mount(words) => mount(host, alloc, words, out),
     }
 }
 
@@ -178,7 +182,7 @@ fn failure_of_broker<'a>(fault: BrokerFault, words: &BrokerWords<'a>) -> Failure
 /// Reads a manifest, runs a daemon over its checkout, and returns how the errand ended.
 fn daemon<
     'a,
-    R: Threads + Wait + Clock + Files + Net + Copy + Send + Sync + 'static,
+    R: Threads + Wait + Clock + Files<File = File> + Net + Processes + Copy + Send + Sync + 'static,
     S: Sources,
     I: Read + Drop + Send + 'static,
     W: Write + Drop,
@@ -264,5 +268,59 @@ fn failure_of_daemon<'a>(fault: DaemonFault, words: &DaemonWords<'a>) -> Failure
         DaemonFault::NoThread => Failure::plain(Fault::NoThread),
         DaemonFault::Broken => Failure::plain(Fault::Broken),
         DaemonFault::CannotWrite(error) => caused(Fault::CannotWrite, STANDARD_OUTPUT, error),
+    }
+}
+
+/// Mounts a checkout, and returns how the errand ended.
+fn mount<
+    'a,
+    R: Threads + Wait + Clock + Files<File = File> + Net + Processes + Sync,
+    W: Write + Drop,
+>(host: &R, alloc: Global, words: &MountWords<'a>, out: W) -> ErrandRun<'a, W>
+    ensures { (input : Option (List ℕ)) (file : List ℕ → Option (List ℕ)) → RunsTo input file
+        (MountErrand words.now) result.ended (W.contents out) (W.contents result.out) }
+{
+    let run = run_mount(host, alloc, &place_of(words), out);
+    match run.ended {
+        Ok(()) => ErrandRun {
+            out: run.out,
+            ended: Ok(()),
+        },
+        Err(fault) => ErrandRun {
+            out: run.out,
+            ended: Err(failure_of_mount(fault, words)),
+        },
+    }
+}
+
+/// Returns where a mount is made, as `words` say.
+fn place_of<'a>(words: &MountWords<'a>) -> Place<'a>
+    ensures mountpoint { result.mountpoint.now ≡ words.now.mountpoint.now }
+    ensures socket { result.socket.now ≡ words.now.socket.now }
+    ensures log { result.log.now ≡ words.now.held.now }
+{
+    Place {
+        mountpoint: words.mountpoint,
+        socket: words.socket,
+        log: words.held,
+    }
+}
+
+/// Returns the failure of a mount that ended by `fault`, run with these words.
+fn failure_of_mount<'a>(fault: MountFault, words: &MountWords<'a>) -> Failure<'a>
+    ensures names { Names (MountErrand words.now) result }
+    ensures told { result.fault ≡ fault_of_mount fault }
+    ensures first { (old new : Option (List ℕ)) → RunsMount (Err fault) old new
+        → (result.fault ≡ CannotWrite) ⊎ PrintsFirst (MountErrand words.now) old new }
+{
+    match fault {
+        MountFault::CannotListen(error) => caused(Fault::CannotListen, words.socket, error),
+        MountFault::NoMemory => Failure::plain(Fault::NoMemory),
+        MountFault::NoThread => Failure::plain(Fault::NoThread),
+        MountFault::NoLog(error) => caused(Fault::NoLog, words.held, error),
+        MountFault::NoDevice(error) => caused(Fault::NoDevice, DEVICE, error),
+        MountFault::CannotMount(error) => caused(Fault::CannotMount, words.mountpoint, error),
+        MountFault::Broken(error) => caused(Fault::Broken, DEVICE, error),
+        MountFault::CannotWrite(error) => caused(Fault::CannotWrite, STANDARD_OUTPUT, error),
     }
 }

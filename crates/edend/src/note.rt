@@ -1,10 +1,12 @@
 //! The errand that words ask for, noted until it is run.
 ghost use Rattle.std.specs.Prelude.{◌≡◌, IfSome, string_bytes};
-ghost use Rattle.edend.specs.Note.{IsBroker, IsDaemon, IsNoted, Notes};
+ghost use Rattle.edend.specs.Note.{IsBroker, IsDaemon, IsMount, IsNoted, Notes};
 
 use std::alloc::Global;
 use std::io::Write;
-use world_script::{BrokerWords, DaemonWords, Errand, Errands, Failure, Fault, Sources, Start};
+use world_script::{
+    BrokerWords, DaemonWords, Errand, Errands, Failure, Fault, MountWords, Sources, Start,
+};
 
 /// The words of a broker, with owned strings in place of borrowed ones.
 #[derive(Drop)]
@@ -26,11 +28,20 @@ pub struct NotedDaemon {
     pub until_closed: bool,
 }
 
+/// The words of a mount, with owned strings in place of borrowed ones.
+#[derive(Drop)]
+pub struct NotedMount {
+    pub mountpoint: String,
+    pub socket: String,
+    pub held: String,
+}
+
 /// An errand, with owned strings in place of borrowed ones.
 #[derive(Drop)]
 pub enum Noted {
     Broker(NotedBroker),
     Daemon(NotedDaemon),
+    Mount(NotedMount),
 }
 
 /// Notes errands in place of running them, and keeps the last one. A trait's method can't start threads that share the
@@ -105,6 +116,33 @@ impl NotedDaemon {
     }
 }
 
+impl NotedMount {
+    /// Copies the words of a mount.
+    fn of(alloc: Global, words: &MountWords<'_>) -> Option<NotedMount>
+        ensures same { IfSome result (λ noted. IsMount noted words.now) }
+    {
+        let mountpoint = copied(alloc, words.mountpoint)?;
+        let socket = copied(alloc, words.socket)?;
+        let held = copied(alloc, words.held)?;
+        Some(NotedMount {
+            mountpoint,
+            socket,
+            held,
+        })
+    }
+
+    /// Returns the words.
+    pub fn words(&self) -> MountWords<'_>
+        ensures same { IsMount self.now result }
+    {
+        MountWords {
+            mountpoint: self.mountpoint.as_str(),
+            socket: self.socket.as_str(),
+            held: self.held.as_str(),
+        }
+    }
+}
+
 impl Noted {
     /// Copies `errand`, and returns none if memory is refused.
     fn of(alloc: Global, errand: &Errand<'_>) -> Option<Noted>
@@ -113,6 +151,7 @@ impl Noted {
         match errand {
             Errand::Broker(words) => Some(Noted::Broker(NotedBroker::of(alloc, words)?)),
             Errand::Daemon(words) => Some(Noted::Daemon(NotedDaemon::of(alloc, words)?)),
+            Errand::Mount(words) => Some(Noted::Mount(NotedMount::of(alloc, words)?)),
         }
     }
 
@@ -123,6 +162,7 @@ impl Noted {
         match self {
             Noted::Broker(noted) => Errand::Broker(noted.words()),
             Noted::Daemon(noted) => Errand::Daemon(noted.words()),
+            Noted::Mount(noted) => Errand::Mount(noted.words()),
         }
     }
 }

@@ -22,7 +22,7 @@ use std::io::{self, Write};
 use takeover_core::Message;
 use world::{Event, Happened, Outcome, Refusal, World};
 
-/// Prints what came of `event`, or the world if `event` is `Show`.
+/// Prints the outcome of `event`, or the world if `event` is `Show`.
 pub fn print_event<W: Write>(
     out: &mut W,
     world: &World,

@@ -12,7 +12,7 @@ use Rattle.command_line.specs.CommandLine.{command_of, is_errand, limit_named, s
 use Rattle.command_line.specs.declared.asked.Asked.{Asked}
 use Rattle.command_line.specs.declared.asked.Asked.TheVariants.{World, Serve}
 use Rattle.command_line.specs.declared.errand.Errand.{Errand}
-use Rattle.command_line.specs.declared.errand.Errand.TheVariants.{Broker, Daemon}
+use Rattle.command_line.specs.declared.errand.Errand.TheVariants.{Broker, Daemon, Mount}
 use Rattle.world_script.specs.ProgramEnd.{Answers, Ends, EndsAfter, EndsAsked, EndsBy, ErrandsKnown, Finishes, Had, RunsErrand, RunsNamed, Tells, asks_errand, command_had, is_right, limit_had, path_had, plain, untold, untold_by, unwritten, wrong_had}
 use Rattle.world_script.specs.FaultText.{fault_line}
 use Rattle.world_script.specs.Source.{script_at}
@@ -180,6 +180,7 @@ ends_by-answered words input file errands before after k ending has answers idle
 errand_is : (command : Option (Text × List Row)) (errand : Errand) → IsErrand command errand → is_errand command ≡ true
 errand_is command (Broker broker) (rows, is, parts) = ap is_errand is
 errand_is command (Daemon daemon) (rows, is, parts) = ap is_errand is
+errand_is command (Mount mount) (rows, is, parts) = ap is_errand is
 
 asks_is : (words : List Text) (asks : Bool) → wrong_of words ≡ [] → is_errand (command_of words) ≡ asks → asks_errand (Ok words) ≡ asks
 asks_is words asks none is = ap₂ (λ (wrong : Kinds) (b : Bool). is_right wrong && b) none is

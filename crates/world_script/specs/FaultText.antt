@@ -3,7 +3,7 @@ use Rattle.std.specs.Prelude.{ℕ, List, [], ◌∷◌, ◌++◌, codes}
 use Rattle.std.specs.Fmt.{decimal}
 use Rattle.manifest.specs.Words.{kind_text}
 use Rattle.world_script.specs.declared.fault.Fault.{Fault}
-use Rattle.world_script.specs.declared.fault.Fault.TheVariants.{CannotRead, TooLong, NoEvents, BadManifest, BadLine, NoMemory, CannotWrite, CannotListen, NoBroker, Seated, NoDaemon, OfferRefused, TakeoverFailed, NoThread, Broken}
+use Rattle.world_script.specs.declared.fault.Fault.TheVariants.{CannotRead, TooLong, NoEvents, BadManifest, BadLine, NoMemory, CannotWrite, CannotListen, NoBroker, Seated, NoDaemon, OfferRefused, TakeoverFailed, NoThread, Broken, NoLog, NoDevice, CannotMount}
 
 -- the text of a fault
 abbrev pub fault_text : Fault → List ℕ
@@ -22,6 +22,9 @@ fault_text OfferRefused = codes "offer refused"
 fault_text TakeoverFailed = codes "takeover failed"
 fault_text NoThread = codes "no thread"
 fault_text Broken = codes "broken"
+fault_text NoLog = codes "no log"
+fault_text NoDevice = codes "no device"
+fault_text CannotMount = codes "cannot mount"
 
 -- the line of a fault: `fault: TEXT`
 abbrev pub fault_line : Fault → List ℕ

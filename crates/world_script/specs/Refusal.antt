@@ -18,7 +18,7 @@ abbrev pub fault_by_kind : ManifestFault → ManifestFaultKind → Fault
 fault_by_kind fault kind.NoMemory = NoMemory
 fault_by_kind fault _ = BadManifest fault
 
--- the program's fault for a fault of a manifest; want of memory is no fault of the manifest itself
+-- the program's fault for a fault of a manifest; out of memory is no fault of the manifest itself
 abbrev pub fault_of_manifest : ManifestFault → Fault
 fault_of_manifest fault = fault_by_kind fault fault.kind
 

@@ -10,8 +10,8 @@ use std::io::Write;
 
 /// Runs errands. The program runs them by sockets and threads, a test as it likes.
 pub trait Errands {
-    /// How an errand may end: by the runner before and after it, by the errand and its result, and by what `out` held
-    /// before and holds after, where that is known.
+    /// Relates the runner before an errand, the runner after it, the errand, its result, and what `out` held before and
+    /// after, where that is known.
     ghost ends: { Self → Self → ErrandValue → Result (Unit {0}) FailureValue
         → Option (List ℕ) → Option (List ℕ) → Type 0 } = { λ _ _ _ _ _ _. ⊤ };
 

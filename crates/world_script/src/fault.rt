@@ -45,6 +45,12 @@ pub enum Fault {
     NoThread,
     /// A peer broke the protocol, or its connection broke.
     Broken,
+    /// The file for what the kernel holds can't be made.
+    NoLog,
+    /// The kernel's device can't be opened.
+    NoDevice,
+    /// The command that mounts failed.
+    CannotMount,
 }
 
 /// Writes the line of `fault`.
@@ -79,6 +85,9 @@ impl fmt::Display for Fault {
             Fault::TakeoverFailed => f.write_str("takeover failed"),
             Fault::NoThread => f.write_str("no thread"),
             Fault::Broken => f.write_str("broken"),
+            Fault::NoLog => f.write_str("no log"),
+            Fault::NoDevice => f.write_str("no device"),
+            Fault::CannotMount => f.write_str("cannot mount"),
         }
     }
 }

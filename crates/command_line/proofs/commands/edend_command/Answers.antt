@@ -8,4 +8,5 @@ returns c =
     let top = with_version _ _ _ _ _ _ c.version.ensures c.about.ensures (made _ _ c.new.ensures.app c.new.ensures.local) in
     let world = with_command _ _ _ _ _ top c.in_ok-world.ensures c.in_ok-subcommand.ensures in
     let broker = with_command _ _ _ _ _ world c.in_ok-broker.ensures c.in_ok-subcommand-2.ensures in
-    IfOk-weaker c.subcommand-3.result _ _ (λ command adds. (with_command _ _ _ _ _ broker c.in_ok-daemon.ensures adds).0) c.subcommand-3.ensures
+    let daemon = with_command _ _ _ _ _ broker c.in_ok-daemon.ensures c.in_ok-subcommand-3.ensures in
+    IfOk-weaker c.subcommand-4.result _ _ (λ command adds. (with_command _ _ _ _ _ daemon c.in_ok-mount.ensures adds).0) c.subcommand-4.ensures

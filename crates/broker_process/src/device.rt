@@ -1,0 +1,102 @@
+//! The kernel's end of a mount: `/dev/fuse`, and the commands that mount and unmount.
+use std::alloc::Global;
+use std::fs::{self, File, OpenOptions};
+use std::io::{self, ErrorKind, Read, Write};
+use std::process::{Command, Processes};
+use std::rt::Files;
+
+/// The file by which a kernel and a file system talk.
+pub const DEVICE: &str = "/dev/fuse";
+
+/// The length of the buffer into which requests are read, in bytes. The longest request is a batch of forgets.
+pub(crate) const BUFFER_LEN: usize = 128 * 1024;
+
+/// The name that the mount has in the system's table.
+const SOURCE: &str = "edend";
+
+/// The options of the mount: the device is the command's standard input, and the root is a directory of root's that
+/// every user may look at.
+const OPTIONS: &str = "fd=0,rootmode=40000,user_id=0,group_id=0,allow_other";
+
+/// The error number of a device whose mount is gone.
+const ENODEV: i32 = 19;
+
+/// The error number of a request that was withdrawn, and of a mount that is dead.
+const ENOENT: i32 = 2;
+
+/// The error number of a file in a mount that is dead.
+const ENOTCONN: i32 = 107;
+
+/// What a read of the device gives.
+pub(crate) enum Taken<'b> {
+    /// A message of the kernel.
+    Message(&'b [u8]),
+    /// The call is to be made again: it was interrupted, or the request was withdrawn.
+    Again,
+    /// Someone unmounted.
+    Unmounted,
+    /// The device can't be read.
+    Broken(io::Error),
+}
+
+/// Opens the device for reading and writing.
+pub(crate) fn open_device<R: Files<File = File>>(rt: &R) -> io::Result<File> {
+    OpenOptions::new().read(true).write(true).open(rt, DEVICE)
+}
+
+/// Mounts at `mountpoint` what `device` serves. The command that mounts says on standard error why it can't.
+pub(crate) fn mount<R: Processes>(
+    rt: &R,
+    alloc: Global,
+    device: &File,
+    mountpoint: &str,
+) -> io::Result<()> {
+    let input = device.try_clone()?;
+    let mut command = Command::new(alloc, "mount")?;
+    command.args(["-i", "-t", "fuse", "-o", OPTIONS, SOURCE, mountpoint])?;
+    let status = command.stdin(input).status(rt)?;
+    if status.success() {
+        return Ok(());
+    }
+    Err(io::Error::from(ErrorKind::Other))
+}
+
+/// Unmounts what is dead at `mountpoint`, if something is. A mount that lives is left alone.
+pub(crate) fn clear_dead_mount<R: Processes + Files>(
+    rt: &R,
+    alloc: Global,
+    mountpoint: &str,
+) -> io::Result<()> {
+    match fs::metadata(rt, mountpoint) {
+        Err(error) if error.raw_os_error() == Some(ENOTCONN) => {}
+        _ => return Ok(()),
+    }
+    let mut command = Command::new(alloc, "umount")?;
+    command.args(["-i", "-l", mountpoint])?;
+    let _status = command.status(rt)?;
+    Ok(())
+}
+
+/// Reads the next message of the kernel into `buffer`.
+pub(crate) fn take<'b>(device: &mut File, buffer: &'b mut [u8]) -> Taken<'b> {
+    match device.read(buffer) {
+        Ok(len) => {
+            let (message, _) = buffer.split_at(len);
+            Taken::Message(message)
+        }
+        Err(error) if error.kind() == ErrorKind::Interrupted => Taken::Again,
+        Err(error) => match error.raw_os_error() {
+            Some(ENOENT) => Taken::Again,
+            Some(ENODEV) => Taken::Unmounted,
+            _ => Taken::Broken(error),
+        },
+    }
+}
+
+/// Writes a reply to the kernel. Returns whether the kernel wanted it.
+pub(crate) fn give(device: &mut File, reply: &[u8]) -> bool {
+    match device.write(reply) {
+        Ok(_) => true,
+        Err(error) => error.raw_os_error() != Some(ENOENT),
+    }
+}

@@ -1,0 +1,242 @@
+//! A broker whose kernel is a real one: it mounts, and mounts anew for the next daemon where one dies.
+ghost use Rattle.std.specs.Prelude.{◌≡◌, Err, OnOk};
+ghost use Rattle.std.specs.Io.KnownBytes.{Appends};
+ghost use Rattle.broker_process.specs.Mounting.{PrintsMount, RunsMount, mounted_line};
+
+use crate::device::{clear_dead_mount, mount, open_device};
+use crate::fault::MountFault;
+use crate::hall::Hall;
+use crate::reception::receive_all;
+use crate::service::{MountEnd, serve};
+use eden_base::NoMemory;
+use mount_wire::MountTime;
+use sockets::{Closer, listen_at};
+use std::alloc::Global;
+use std::fs::{self, File};
+use std::io::{self, BufWriter, Write};
+use std::net::Net;
+use std::os::unix::net::UnixListener;
+use std::process::Processes;
+use std::rt::{Clock, Files};
+use std::sync::Wait;
+use std::thread::{self, Scope, Threads};
+use std::time::{Duration, SystemTime, UNIX_EPOCH};
+
+/// How a broker over a real mount ran, with the writer of its lines.
+#[derive(Drop)]
+pub struct MountRun<W> {
+    pub out: W,
+    pub ended: Result<(), MountFault>,
+}
+
+/// Where a mount is made, and for which daemons.
+#[derive(Clone, Copy)]
+pub struct Place<'a> {
+    /// The path of the directory at which it is mounted.
+    pub mountpoint: &'a str,
+    /// The path of the socket at which daemons reach the broker.
+    pub socket: &'a str,
+    /// The path of a file for what the kernel holds at each takeover; empty if no file is asked for.
+    pub log: &'a str,
+}
+
+/// Mounts at a `place` what daemons serve that reach the broker there, and writes to `out` when a mount begins and ends.
+/// Returns after somebody unmounted and every daemon left, and removes the socket.
+pub fn run_mount<
+    R: Threads + Wait + Clock + Files<File = File> + Net + Processes + Sync,
+    W: Write + Drop,
+>(rt: &R, alloc: Global, place: &Place<'_>, out: W) -> MountRun<W>
+    ensures runs { RunsMount result.ended (W.contents out) (W.contents result.out) }
+{
+    let log = match open_log(rt, alloc, place.log) {
+        Ok(log) => log,
+        Err(fault) => return fails(out, fault),
+    };
+    let hall = match Hall::new(alloc, log) {
+        Ok(hall) => hall,
+        Err(NoMemory) => return fails(out, MountFault::NoMemory),
+    };
+    let listener = match listen_at(rt, alloc, place.socket) {
+        Ok(listener) => listener,
+        Err(error) => return fails(out, MountFault::CannotListen(error)),
+    };
+    let closer = match Closer::of(&listener) {
+        Ok(closer) => closer,
+        Err(error) => return fails(out, MountFault::CannotListen(error)),
+    };
+    let ran = open(rt, alloc, &hall, &listener, &closer, place, out);
+    let _removed = fs::remove_file(rt, place.socket);
+    ran
+}
+
+/// Opens the file in which it is noted what the kernel holds, unless `path` is empty.
+fn open_log<R: Files<File = File>>(
+    rt: &R,
+    alloc: Global,
+    path: &str,
+) -> Result<Option<BufWriter<File>>, MountFault> {
+    if path.is_empty() {
+        return Ok(None);
+    }
+    let file = File::create(rt, path).map_err(MountFault::NoLog)?;
+    match BufWriter::new(alloc, file) {
+        Ok(log) => Ok(Some(log)),
+        Err(_refused) => Err(MountFault::NoMemory),
+    }
+}
+
+/// Returns how a broker ran that printed nothing, and ends by `fault`.
+fn fails<W: Write + Drop>(out: W, fault: MountFault) -> MountRun<W>
+    ensures runs { RunsMount result.ended (W.contents out) (W.contents result.out) }
+{
+    MountRun {
+        out,
+        ended: Err(fault),
+    }
+}
+
+/// Takes connections in a thread while mounts are served.
+fn open<R: Threads + Wait + Clock + Files<File = File> + Processes + Sync, W: Write + Drop>(
+    rt: &R,
+    alloc: Global,
+    hall: &Hall,
+    listener: &UnixListener,
+    closer: &Closer,
+    place: &Place<'_>,
+    out: W,
+) -> MountRun<W>
+    ensures runs { RunsMount result.ended (W.contents out) (W.contents result.out) }
+{
+    thread::scope(
+        thread::scope_env(),
+        rt,
+        move |scope| -> MountRun<W>
+            ensures { RunsMount result.ended (W.contents out) (W.contents result.out) }
+        { open_within(scope, rt, alloc, hall, listener, closer, place, out) },
+    )
+}
+
+/// Takes connections in a thread of a scope while mounts are served, and ends them all then.
+fn open_within<
+    's,
+    'e: 's,
+    R: Threads + Wait + Clock + Files<File = File> + Processes + Sync + 's,
+    W: Write + Drop,
+>(
+    scope: &Scope<'s, &'e ()>,
+    rt: &'e R,
+    alloc: Global,
+    hall: &'e Hall,
+    listener: &'e UnixListener,
+    closer: &Closer,
+    place: &Place<'_>,
+    out: W,
+) -> MountRun<W>
+    ensures runs { RunsMount result.ended (W.contents out) (W.contents result.out) }
+{
+    if scope
+        .spawn(move || receive_all(rt, alloc, hall, listener))
+        .is_err()
+    {
+        return fails(out, MountFault::NoThread);
+    }
+    let mut out = out;
+    let ended = serve_mounts(rt, alloc, hall, place.mountpoint, &mut out);
+    hall.close(rt);
+    if ended.is_ok() {
+        hall.wait_for_all(rt);
+    }
+    hall.end(rt);
+    closer.close();
+    MountRun { out, ended }
+}
+
+/// Serves a mount for each daemon that mounts, one after another, until somebody unmounts.
+fn serve_mounts<R: Threads + Wait + Clock + Files<File = File> + Processes + Sync, W: Write>(
+    rt: &R,
+    alloc: Global,
+    hall: &Hall,
+    mountpoint: &str,
+    out: &mut W,
+) -> Result<(), MountFault>
+    ensures runs { RunsMount result (W.contents out.old) (W.contents out.new) }
+{
+    for _ in rt.forever() {
+        let generation = hall.begin_mount(rt);
+        let ended = serve_mount(rt, alloc, hall, mountpoint, generation, out);
+        hall.end_mount(rt);
+        let end = match ended {
+            Ok(end) => end,
+            Err(fault) => return Err(fault),
+        };
+        let printed = print(out, end.line());
+        match (end, printed) {
+            (_, Err(error)) => return Err(MountFault::CannotWrite(error)),
+            (MountEnd::Unmounted, Ok(())) => return Ok(()),
+            (MountEnd::Dead, Ok(())) => {}
+        }
+    }
+    unreachable!()
+}
+
+/// Mounts for the daemon of the seat at `generation`, and serves until the mount ends.
+fn serve_mount<R: Threads + Wait + Clock + Files<File = File> + Processes + Sync, W: Write>(
+    rt: &R,
+    alloc: Global,
+    hall: &Hall,
+    mountpoint: &str,
+    generation: u64,
+    out: &mut W,
+) -> Result<MountEnd, MountFault>
+    ensures prints { PrintsMount generation result (W.contents out.old) (W.contents out.new) }
+{
+    let device = match make_mount(rt, alloc, mountpoint) {
+        Ok(device) => device,
+        Err(fault) => return Err(fault),
+    };
+    if let Err(error) = print_mounted(out, generation) {
+        return Err(MountFault::CannotWrite(error));
+    }
+    serve(rt, alloc, hall, device, mountpoint, &now(rt))
+}
+
+/// Mounts at `mountpoint`, and returns the device by which the kernel and the mount talk.
+fn make_mount<R: Files<File = File> + Processes>(
+    rt: &R,
+    alloc: Global,
+    mountpoint: &str,
+) -> Result<File, MountFault> {
+    clear_dead_mount(rt, alloc, mountpoint).map_err(MountFault::CannotMount)?;
+    let device = open_device(rt).map_err(MountFault::NoDevice)?;
+    mount(rt, alloc, &device, mountpoint).map_err(MountFault::CannotMount)?;
+    Ok(device)
+}
+
+/// Prints at once that a mount began at `generation`.
+fn print_mounted<W: Write>(out: &mut W, generation: u64) -> io::Result<()>
+    ensures printed { OnOk result (Appends (W.contents out.old) (W.contents out.new)
+        (mounted_line generation)) }
+{
+    writeln!(out, "mounted {generation}")?;
+    out.flush()
+}
+
+/// Prints `line` at once.
+fn print<W: Write>(out: &mut W, line: &str) -> io::Result<()>
+    ensures printed { OnOk result (Appends (W.contents out.old) (W.contents out.new) line.now) }
+{
+    out.write_all(line.as_bytes())?;
+    out.flush()
+}
+
+/// Returns the time, or 1970 where the clock tells none.
+fn now<R: Clock>(rt: &R) -> MountTime {
+    let since = match SystemTime::now(rt) {
+        Ok(time) => time.duration_since(UNIX_EPOCH).unwrap_or_default(),
+        Err(_) => Duration::default(),
+    };
+    MountTime {
+        seconds: since.as_secs(),
+        nanoseconds: since.subsec_nanos(),
+    }
+}
