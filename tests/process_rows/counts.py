@@ -122,7 +122,7 @@ class Sight:
 
 
 def before(sight, ends):
-    """Returns the sights that a sight may be before the next line: a mount ends or begins at any time, so often."""
+    """Returns the sights that a sight may be before the next line: mounts end or begin at any time, and `ends` end."""
     sights = [sight]
     if sight.is_mounted and sight.ended < ends:
         sights.append(sight.after_end())
@@ -193,7 +193,7 @@ def step(sight, command, lines, at, files):
 
 
 def check_lines(script, lines, files, ends):
-    """Fails where a broker's script doesn't print lines as these, of a mount that ended so often. What is asked is
+    """Fails where a broker's script doesn't print lines as these, of mounts of which `ends` ended. What is asked is
     answered rightly or lost. Returns how often each number is held in the end."""
     sights = [(Sight(), 0)]
     for command in script:

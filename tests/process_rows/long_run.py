@@ -101,7 +101,7 @@ def check_daemon(daemon, number):
 
 
 def run_long(room, rounds, tell=lambda number: None):
-    """Lets daemons take over one behind another, so often."""
+    """Lets daemons take over one behind another, `rounds` times."""
     it = LongRun(room, rounds)
     for number in range(1, rounds + 1):
         it.take_over(number)

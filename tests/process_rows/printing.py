@@ -37,7 +37,7 @@ class Pipe:
         self.reads, self.writes = os.pipe()
 
     def lines(self, count):
-        """Reads so many lines, and closes the pipe."""
+        """Reads `count` lines, and closes the pipe."""
         os.close(self.writes)
         with os.fdopen(self.reads, "rb", buffering=0) as file:
             lines = [file.readline().decode().rstrip("\n") for _ in range(count)]

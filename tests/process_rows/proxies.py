@@ -48,9 +48,13 @@ class Proxy:
         if got is None:
             return False
         name, body = got
+        self.sees(name, body)
         try:
             to.send(name, b"\x01\x00\x01" if name == "Offer" and self.is_whole else body)
         except (BrokenPipeError, ConnectionResetError):
             return False
         self.passed.append(name)
         return True
+
+    def sees(self, name, body):
+        """Sees a frame before it is passed on."""

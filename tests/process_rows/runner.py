@@ -28,11 +28,11 @@ def is_unproved(program):
         return b"AddressSanitizer" in file.read()
 
 
-def attempt(shows, program, is_proved):
+def attempt(shows, program, is_proved, room_type):
     """Runs a row in a folder of its own. Returns how many seconds it took, and what went wrong, if something did."""
     began = time.monotonic()
-    with tempfile.TemporaryDirectory(dir="/tmp") as path:
-        room = Room(path, program, is_proved)
+    with tempfile.TemporaryDirectory(dir="/tmp", ignore_cleanup_errors=True) as path:
+        room = room_type(path, program, is_proved)
         wrong = None
         try:
             shows(room)
@@ -49,7 +49,7 @@ def lines_of(error):
     return ", ".join(f"{os.path.basename(it.filename)}:{it.lineno}" for it in frames if it.filename.startswith(HERE))
 
 
-def run_rows(program, words, tells_times):
+def run_rows(program, words, tells_times, command="tests/processes", room_type=Room, at_a_time=AT_A_TIME):
     """Runs the rows whose name has one of the words, or each row where there is no word. Returns the status."""
     passed = failed = 0
     rows = [it for it in ROWS if not words or any(word in it.__name__ for word in words)]
@@ -57,11 +57,12 @@ def run_rows(program, words, tells_times):
     if not is_proved:
         left_out = [it for it in rows if it in ROWS_OF_PROVED]
         rows = [it for it in rows if it not in left_out]
-        print(f"tests/processes: left out, for a program without a proof: {[it.__name__ for it in left_out]}")
-    with concurrent.futures.ThreadPoolExecutor(AT_A_TIME) as pool:
-        for it, (took, wrong) in zip(rows, pool.map(lambda it: attempt(it, program, is_proved), rows)):
+        if left_out:
+            print(f"{command}: left out, for a program without a proof: {[it.__name__ for it in left_out]}")
+    with concurrent.futures.ThreadPoolExecutor(at_a_time) as pool:
+        for it, (took, wrong) in zip(rows, pool.map(lambda it: attempt(it, program, is_proved, room_type), rows)):
             passed, failed = passed + (not wrong), failed + bool(wrong)
             time_of_it = f"{took:.1f} s, {it.__name__}: " if tells_times else ""
             print(f"{time_of_it}{it.__doc__.splitlines()[0]} {'FAILED: ' + wrong if wrong else 'ok'}", flush=True)
-    print(f"tests/processes: {passed} passed, {failed} failed")
+    print(f"{command}: {passed} passed, {failed} failed")
     return 1 if failed else 0

@@ -58,7 +58,7 @@ class Trial:
             {"old": self.old, "new": self.new}[who].kill()
 
     def through_proxy(self, frames, killed, is_whole):
-        """Lets a takeover pass so many frames, and then kills a daemon, or none."""
+        """Lets a takeover pass `frames` frames, and then kills a daemon, or none."""
         room = self.room
         path = f"{room.path}/proxy.sock"
         proxy = Proxy(room, path, room.takeover_at, frames, lambda: self.kill(killed), is_whole)

@@ -28,7 +28,7 @@ def taking_over(room, *options):
 
 def ends_within_a_second(room, daemon, lines, others=0):
     """Ends a daemon's standard input, and shows that it ends within a second. It may take longer where it isn't proved,
-    and so many seconds more for others."""
+    and `others` seconds more under load."""
     began = time.monotonic()
     daemon.child.stdin.close()
     daemon.ends(lines)
@@ -193,24 +193,23 @@ def a_takeover_from_a_closed_daemon_goes_to_its_end(room):
 
 @row
 def a_closed_daemon_serves_no_more_behind_a_takeover(room):
-    """A daemon whose standard input ends in a takeover that comes to nothing ends then, and the mount is over."""
-    broker = room.broker("seat 1", "seat 2", "seat 3", "seat 4")
+    """A daemon whose standard input ends in a takeover that comes to nothing ends then, and the mount is over. Where its
+    data was out it first claims the seat, and leaves it at once: the script may see that seat or not."""
+    broker = room.broker("seat 1", "seat 2", "seat 4")
     first = mounted(room)
     first.printed("serving 1")
     it = offered(room)
     goes_on(first)
     it.close()
     first.ends(["serving 1", "closed"])
-    second = mounted(room)
-    second.printed("serving 2")
+    second = mounted_anew(room, "--until-closed", **UNTIL_CLOSED)
     it = offered(room, 1, 2)
     same(it.ask("Pong", u32(1))[0], "Data")
     goes_on(second)
     it.close()
     second.ends(["serving 2", "closed"])
-    broker.printed("seat 3")
     third = mounted_anew(room)
-    broker.ends(["seat 1", "seat 2", "seat 3", "seat 4", "ended"])
+    broker.ends(["seat 1", "seat 2", "seat 4", "ended"])
     third.ends(["serving 4", "ended"])
 
 

@@ -1,0 +1,377 @@
+"""Real mounts, the daemons that serve them, and the programs that work in them."""
+import ctypes
+import os
+import shutil
+import signal
+import struct
+import subprocess
+import tempfile
+import threading
+import time
+
+from process_rows.checks import WAIT, same
+from process_rows.counts import counts_of, image_of
+from process_rows.proxies import Proxy
+from process_rows.rooms import Room, Running, run_to_end, start
+
+DEVICE = "/dev/fuse"
+DROP_CACHES = "/proc/sys/vm/drop_caches"
+# A checkout of 2,000 files in 40 directories, each file of another size, and a directory to work in.
+DIRECTORIES, FILES = 40, 50
+WORK = "work"
+# After so many seconds a row is over: its processes are killed, and what waits for the mount fails.
+LONGEST_ROW, LONGEST_ROW_OF_UNPROVED = 100, 400
+CLONE_NEWNS = 0x20000
+# The states of processes that were stopped, that ended, and that wait for what they forked to call exec.
+AT_REST = {"T", "Z", "X", "Dkernel_clone", "D_do_fork", "Dwait_for_vfork_done"}
+
+
+def size_of(directory, file):
+    """Returns the size of a file of the checkout."""
+    return directory * 1000 + file
+
+
+def manifest():
+    """Returns the manifest of the checkout."""
+    lines = [f"commit {'01' * 20}", f"dir {WORK}"]
+    for directory in range(DIRECTORIES):
+        lines.append(f"dir d{directory}")
+        lines += [f"file 0644 {size_of(directory, file)} d{directory}/f{file}" for file in range(FILES)]
+    return "".join(f"{line}\n" for line in lines).encode()
+
+
+def why_not():
+    """Returns why no mount can be made here; none where one can."""
+    try:
+        os.close(os.open(DEVICE, os.O_RDWR))
+    except OSError as error:
+        return f"{DEVICE} can't be opened: {error.strerror}"
+    if os.geteuid() != 0:
+        return "only root may mount"
+    if not os.access(DROP_CACHES, os.W_OK):
+        return f"{DROP_CACHES} can't be written"
+    if not can_mount():
+        return "the system refuses such a mount"
+    return None
+
+
+def can_mount():
+    """Tries a mount that nobody serves, in a process that has mounts of its own, and so leaves none behind."""
+    child = os.fork()
+    if child == 0:
+        try:
+            os._exit(tried())
+        finally:
+            os._exit(1)
+    return os.waitpid(child, 0)[1] == 0
+
+
+def tried():
+    """Makes a mount on an empty folder, and returns the status of the command that mounts."""
+    leave_others_alone()
+    options = "fd=0,rootmode=40000,user_id=0,group_id=0,allow_other"
+    with tempfile.TemporaryDirectory(dir="/tmp") as point, open(DEVICE, "r+b", buffering=0) as device:
+        words = ["mount", "-i", "-t", "fuse", "-o", options, "edend", point]
+        status = subprocess.run(words, stdin=device, stderr=subprocess.DEVNULL, check=False).returncode
+        subprocess.run(["umount", "-l", point], stderr=subprocess.DEVNULL, check=False)
+        return min(status, 1)
+
+
+def leave_others_alone():
+    """Gives this process mounts of its own. So they are gone with it, however it ends."""
+    if ctypes.CDLL(None, use_errno=True).unshare(CLONE_NEWNS) == 0:
+        run_to_end(["mount", "--make-rprivate", "/"])
+
+
+def dying_with_us(*words):
+    """Returns words that run others as a process that is killed when this one ends, where the system has `setpriv`."""
+    setpriv = shutil.which("setpriv")
+    return (setpriv, "--pdeathsig", "KILL", *words) if setpriv else words
+
+
+def mounts_below(path):
+    """Returns the paths at which something is mounted at a path or below it, the last one first."""
+    with open("/proc/self/mountinfo") as file:
+        points = [line.split(" ")[4] for line in file]
+    return [it for it in reversed(points) if it == path or it.startswith(f"{path}/")]
+
+
+def drop_caches():
+    """Has the kernel forget the entries and files that no program holds, in every mount."""
+    with open(DROP_CACHES, "w") as file:
+        file.write("2\n")
+
+
+def until(is_so, what, wait=WAIT):
+    """Waits until something is so."""
+    deadline = time.monotonic() + wait
+    while not is_so():
+        if time.monotonic() > deadline:
+            raise AssertionError(f"{what} was awaited in vain")
+        time.sleep(0.005)
+
+
+class MountRoom(Room):
+    """A folder with a place to mount at. Its processes end with this one."""
+
+    rooms = []
+
+    def __init__(self, path, program, is_proved):
+        super().__init__(path, program, is_proved)
+        self.mountpoint = f"{path}/mnt"
+        os.mkdir(self.mountpoint)
+        self.write("m", manifest())
+        self.programs = []
+        self.is_late = False
+        self.timer = threading.Timer(LONGEST_ROW if is_proved else LONGEST_ROW_OF_UNPROVED, self.end_late)
+        self.timer.daemon = True
+        self.timer.start()
+        self.rooms.append(self)
+
+    def inner(self):
+        return MountRoom(tempfile.mkdtemp(dir=self.path), self.program, self.is_proved)
+
+    def run(self, *words, **streams):
+        first, *others = dying_with_us(self.program)
+        it = Running(first, self.path, (*others, *words), **streams)
+        it.words = words
+        self.running.append(it)
+        return it
+
+    def mount_broker(self, *options, mountpoint="mnt", socket="broker.sock", **streams):
+        """Starts a broker that mounts for whichever daemon comes."""
+        return self.run("mount", mountpoint, socket, *options, **streams)
+
+    def program_in(self, script, *words, **streams):
+        """Starts a program that works in the mount."""
+        it = Program(self, script, *words, **streams)
+        self.programs.append(it)
+        return it
+
+    def end_late(self):
+        """Kills all that runs here, since the row takes too long. Who waits for the mount is told ENOTCONN."""
+        self.is_late = True
+        self.kill_all()
+
+    def kill_all(self):
+        for it in [*self.running, *self.programs]:
+            it.kill()
+
+    def printed(self):
+        return ["it took too long, and was ended"] * self.is_late + super().printed()
+
+    def clear(self):
+        """Ends all that runs here, and unmounts. The mount dies with its broker."""
+        self.timer.cancel()
+        try:
+            self.kill_all()
+            super().clear()
+        finally:
+            for point in mounts_below(self.path):
+                run_to_end(["umount", "-l", point], stderr=subprocess.DEVNULL)
+        if self in self.rooms:
+            self.rooms.remove(self)
+
+
+class Program:
+    """A program of sh that works in the mount, in a session of its own. It works in rounds until it is to end, and adds
+    a line to `rounds` behind each. What it prints on standard error is why it failed."""
+
+    HEAD = """set -e
+cd "$1"; end=$2; rounds=$3; shift 3
+while [ ! -e "$end" ]; do
+"""
+    FOOT = """
+echo >>"$rounds"
+done"""
+
+    def __init__(self, room, script, *words, directory=""):
+        name = f"{room.path}/p{len(room.programs)}"
+        self.end_at, self.rounds_at = f"{name}.end", f"{name}.rounds"
+        self.script = script
+        self.errors = open(f"{name}.errors", "w+b")
+        words = (f"{room.mountpoint}/{directory}", self.end_at, self.rounds_at, *words)
+        self.child = start(
+            dying_with_us("sh", "-c", self.HEAD + script + self.FOOT, "sh", *words), stdin=subprocess.DEVNULL,
+            stdout=subprocess.DEVNULL, stderr=self.errors, start_new_session=True,
+        )
+
+    def rounds(self):
+        """Returns how many rounds it made."""
+        return os.path.getsize(self.rounds_at) if os.path.exists(self.rounds_at) else 0
+
+    def works_on(self):
+        """Waits until a round is over that began from now on."""
+        made = self.rounds()
+        until(lambda: self.rounds() >= made + 2 or self.child.poll() is not None, f"two rounds more than {made}", 3 * WAIT)
+        same((self.child.poll(), self.said()), (None, ""))
+
+    def said(self):
+        self.errors.seek(0)
+        return self.errors.read().decode("latin-1")
+
+    def rest(self):
+        """Stops it and the programs that it started, and waits until none of them is in a call."""
+        os.killpg(self.child.pid, signal.SIGSTOP)
+        until(lambda: states_of(self.child.pid) <= AT_REST, "a program at rest")
+
+    def go_on(self):
+        os.killpg(self.child.pid, signal.SIGCONT)
+
+    def ends(self):
+        """Has it end behind its round, and shows that nothing failed."""
+        with open(self.end_at, "w"):
+            pass
+        status = self.child.wait(3 * WAIT)
+        same((status, self.said()), (0, ""))
+        if self.rounds() == 0:
+            raise AssertionError(f"no round was made of {self.script}")
+
+    def fails(self):
+        """Waits for its end by an error, and returns what it said."""
+        status = self.child.wait(WAIT)
+        if status == 0:
+            raise AssertionError("nothing failed")
+        return self.said()
+
+    def kill(self):
+        try:
+            os.killpg(self.child.pid, signal.SIGKILL)
+        except ProcessLookupError:
+            pass
+        self.child.wait(WAIT)
+
+
+def states_of(group):
+    """Returns the states that processes of a group have, with what those wait for that no signal wakes."""
+    states = set()
+    for pid in filter(str.isdigit, os.listdir("/proc")):
+        try:
+            with open(f"/proc/{pid}/stat") as file:
+                fields = file.read().rpartition(") ")[2].split(" ")
+            if int(fields[2]) == group:
+                with open(f"/proc/{pid}/wchan") as file:
+                    states.add(fields[0] + (file.read() if fields[0] == "D" else ""))
+        except OSError:
+            pass
+    return states
+
+
+class Tap(Proxy):
+    """A connection between daemons of which the image is kept. Before a frame is passed on something may be done."""
+
+    def __init__(self, room, path, daemon_at, is_whole=False, at=None, does=None):
+        self.at, self.does = at, does
+        self.version, self.generation, self.image = None, None, b""
+        super().__init__(room, path, daemon_at, 1 << 30, None, is_whole)
+        self.may_begin.set()
+
+    def sees(self, name, body):
+        if name == "Choice":
+            (self.version,) = struct.unpack(">H", body[4:])
+        if name in ("Data", "Part"):
+            (self.generation,) = struct.unpack(">Q", body[4:12])
+            self.image += body[12 if name == "Data" else 20 :]
+        if name == self.at:
+            self.at = None
+            self.does()
+
+    def counts(self):
+        """Returns how often the image counts each number, without those that it keeps at no count."""
+        counts = counts_of(self.image, self.version, self.generation)
+        return {number: count for number, count in counts.items() if count}
+
+
+class Mount:
+    """A checkout that is mounted, and the daemon that serves it."""
+
+    def __init__(self, room, *options):
+        self.room = room
+        self.options = options if "--patience" in options else ("--patience", "60000", *options)
+        self.path = room.mountpoint
+        self.broker = room.mount_broker("--held", "held")
+        room.await_socket(room.broker_at)
+        self.number = 0
+        self.generation = 1
+        self.daemon = room.run("daemon", "--mount", "broker.sock", "t0", "m", *self.options)
+        self.daemon.printed("serving 1")
+        self.broker.printed("mounted 1")
+        self.tap = None
+
+    def at(self, name):
+        """Returns the path of a name in the mount."""
+        return f"{self.path}/{name}"
+
+    def next_daemon(self, **taps):
+        """Starts a daemon that takes over by a tap."""
+        self.number += 1
+        path = f"{self.room.path}/t{self.number}"
+        self.tap = Tap(self.room, path, f"{self.room.path}/t{self.number - 1}", **taps)
+        return self.room.run("daemon", "--takeover", "broker.sock", f"t{self.number}", "m", *self.options)
+
+    def take_over(self):
+        """Lets a new daemon take over. Returns how often the kernel held each number then, and how often the image counts
+        it."""
+        new = self.next_daemon()
+        self.generation += 1
+        new.printed(1)
+        same(new.lines, [f"serving {self.generation}"])
+        same(self.daemon.ending(), ("handed over", 0))
+        self.daemon = new
+        return self.held(self.generation), self.tap.counts()
+
+    def held(self, generation):
+        """Returns how often the kernel held each number when the seat went on at a generation."""
+        with open(f"{self.room.path}/held") as file:
+            lines = file.read().splitlines()
+        held = {}
+        for line in lines[lines.index(f"seat {generation}") + 1 :]:
+            word, *numbers = line.split(" ")
+            if word == "seat":
+                break
+            number, count = map(int, numbers)
+            held[number] = count
+        return held
+
+    def rest(self):
+        """Waits until neither the kernel nor a daemon has anything to do. Of a program without a proof that can't be seen:
+        its idle workers take much time."""
+        if self.room.is_proved:
+            until(lambda: self.busy() < 0.02, "a mount at rest", 3 * WAIT)
+        else:
+            time.sleep(2)
+
+    def busy(self):
+        """Returns how many seconds broker and daemon worked in a tenth of a second."""
+        began = self.broker.used() + self.daemon.used()
+        time.sleep(0.1)
+        return self.broker.used() + self.daemon.used() - began
+
+    def counts_what_is_held(self):
+        """Shows at rest that the daemon counts what the kernel holds: it hands its image over, and claims the seat again.
+        Returns what is held."""
+        self.rest()
+        version = 1 + self.generation % 3
+        generation, image = image_of(f"{self.room.path}/t{self.number}", version)
+        same(generation, self.generation)
+        self.generation += 1
+        self.daemon.printed(f"serving {self.generation}")
+        counts = counts_of(image, version, generation)
+        held = self.held(self.generation)
+        same({number: count for number, count in counts.items() if count}, held)
+        return held
+
+    def unmount(self):
+        """Unmounts, and shows that broker and daemon end well."""
+        same(run_to_end(["umount", self.path])[0], 0)
+        same(self.daemon.ending(), ("ended", 0))
+        same(self.broker.ending(), ("ended", 0))
+        same(mounts_below(self.path), [])
+        same(os.path.exists(self.room.broker_at), False)
+
+
+def clear_all():
+    """Ends all that runs in each room, unmounts, and removes the rooms."""
+    for room in list(MountRoom.rooms):
+        room.clear()
+        shutil.rmtree(room.path, ignore_errors=True)
