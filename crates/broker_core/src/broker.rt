@@ -344,7 +344,7 @@ impl Broker {
         Ok(next)
     }
 
-    /// Gives `daemon` the seat at `generation`, which becomes the last generation.
+    /// Gives `daemon` the seat at `generation`, and notes that this generation was given.
     fn give_seat(&mut self, daemon: DaemonId, generation: u64)
         requires { generation ≤ last_generation }
         ensures { self.new ≡ seated self.old daemon generation }
@@ -363,7 +363,7 @@ impl Broker {
         }
     }
 
-    /// Ends the mount. The last generation and the next unique are kept, since each is given once only.
+    /// Ends the mount. Keeps the generation that was given last, and the next unique, since each is given only once.
     fn end(&mut self)
         ensures { self.new ≡ ended self.old }
     {

@@ -76,9 +76,9 @@ is_full desk = desk.is_closed || nat_le most_daemons (length desk.daemons)
 abbrev pub next_daemon : DeskState → DaemonId
 next_daemon desk = record { 0 = length desk.daemons + 1 }
 
--- ---- what a frame comes to
+-- ---- the results of frames
 
--- what the peer is told, or none if its connection is closed; and the desk afterwards
+-- the result of a frame: what the peer is told, or none if its connection is closed; and the desk afterwards
 pub record Turn : Type 0 where
   pub told : Option Frame
   pub desk : DeskState
@@ -95,26 +95,26 @@ tells_with desk frame broker = record { told = Some frame; desk = record desk { 
 abbrev pub closes : DeskState → Turn
 closes desk = record { told = None; desk = desk }
 
--- what a Take comes to, by the fault that refuses it, if any
+-- the result of a Take, by the fault that refuses it, if any
 abbrev pub takes : DeskState → Option TakeFault → Turn
 takes desk (Some take.Ended) = tells desk Ended
 takes desk (Some (take.Stale now)) = tells desk (Stale now)
 takes desk (Some take.Empty) = tells desk Empty
 takes desk None = tells_with desk (frame_taken (next_taken desk.broker.traffic)) (taken desk.broker)
 
--- what the Post of a reply comes to, by the fault that refuses it, if any
+-- the result of the Post of a reply, by the fault that refuses it, if any
 abbrev pub posts_reply : DeskState → Reply → Option PostFault → Turn
 posts_reply desk reply (Some post.Ended) = tells desk Ended
 posts_reply desk reply (Some (post.Stale now)) = tells desk (Stale now)
 posts_reply desk reply (Some post.NotAsked) = tells desk NotAsked
 posts_reply desk reply None = tells_with desk Posted (posted desk.broker reply)
 
--- what the Post of bytes comes to, as they are read; bytes that are no reply are NotAsked
+-- the result of the Post of bytes, as they are read; bytes that are no reply are NotAsked
 abbrev pub posts : DeskState → DaemonId → ℕ → Result Reply WireFault → Turn
 posts desk daemon generation (Ok reply) = posts_reply desk reply (post_fault desk.broker daemon generation reply)
 posts desk daemon generation (Err fault) = tells desk NotAsked
 
--- what a Claim comes to, by the fault that refuses it, if any
+-- the result of a Claim, by the fault that refuses it, if any
 abbrev pub claims : DeskState → DaemonId → ℕ → Option ClaimFault → Turn
 claims desk daemon generation (Some claim.Ended) = tells desk Ended
 claims desk daemon generation (Some (claim.Stale now)) = tells desk (Stale now)
@@ -123,13 +123,13 @@ claims desk daemon generation (Some claim.LastGeneration) = tells desk LastGener
 claims desk daemon generation None =
     tells_with desk (Claimed (generation + 1)) (claimed desk.broker daemon generation)
 
--- what a Mount comes to, by the fault that refuses it, if any
+-- the result of a Mount, by the fault that refuses it, if any
 abbrev pub mounts : DeskState → DaemonId → Option MountFault → Turn
 mounts desk daemon (Some mount.Seated) = tells desk Seated
 mounts desk daemon (Some mount.LastGeneration) = tells desk LastGeneration
 mounts desk daemon None = tells_with desk (Mounted (desk.broker.last + 1)) (mounted desk.broker daemon)
 
--- What a daemon's frame comes to while the mount lasts for that daemon. A frame of any other kind, which no daemon
+-- The result of a daemon's frame while the mount lasts for that daemon. A frame of any other kind, which no daemon
 -- sends, closes the connection.
 abbrev pub serves : DeskState → DaemonId → Frame → Turn
 serves desk daemon (Take generation) = takes desk (take_fault desk.broker daemon generation)
@@ -146,14 +146,14 @@ is_sent_by_daemons (Claim generation) = true
 is_sent_by_daemons Mount = true
 is_sent_by_daemons frame = false
 
--- what a frame of an attached daemon comes to
+-- the result of a frame of an attached daemon
 abbrev pub hears : DeskState → DaemonId → Frame → Turn
 hears desk daemon frame =
     if not (is_sent_by_daemons frame) then closes desk
     else if is_over_for desk daemon then tells desk Ended
     else serves desk daemon frame
 
--- what an Attach of a new daemon comes to: the daemon gets the next number, or Ended if the desk is full
+-- the result of the Attach of a new daemon: the daemon gets the next number, or Ended if the desk is full
 abbrev pub enrolls : DeskState → Turn
 enrolls desk =
     if is_full desk then tells desk Ended
@@ -162,19 +162,19 @@ enrolls desk =
       desk = record desk { daemons = desk.daemons ++ Runs ∷ [] };
     }
 
--- what a stranger's Attach comes to; 0 is a new daemon's, any other number that of a daemon which got it before
+-- the result of a stranger's Attach; 0 is a new daemon's, any other number that of a daemon which got it before
 abbrev pub attaches : DeskState → DaemonId → Turn
 attaches desk daemon =
     if daemon.0 == 0 then enrolls desk
     else if is_over_for desk daemon then tells desk Ended
     else tells desk (Attached daemon)
 
--- what a stranger's frame comes to; any other than an Attach closes the connection
+-- the result of a stranger's frame; any other than an Attach closes the connection
 abbrev pub meets : DeskState → Frame → Turn
 meets desk (Attach daemon) = attaches desk daemon
 meets desk frame = closes desk
 
--- what a frame of a peer comes to
+-- the result of a frame of a peer
 abbrev pub turn : DeskState → Peer → Frame → Turn
 turn desk Stranger frame = meets desk frame
 turn desk (Daemon daemon) frame = hears desk daemon frame

@@ -1,5 +1,5 @@
 -- A request that a daemon takes as soon as it is issued. Memory for the take is reserved before the issue, so the take
--- is never refused for want of memory. If there is no memory, the request is not issued. (This project's own.)
+-- is never refused as out of memory. If there is no memory, the request is not issued. (This project's own.)
 use Rattle.std.specs.Prelude.{◌≡◌, ◌≢◌, ℕ, ◌++◌, List, Option, Some, None}
 use Rattle.broker_core.specs.Broker.{BrokerState, IsIssueRefusal, issue_fault, issued, unique_of, take_fault, taken}
 use Rattle.broker_core.specs.Traffic.{next_taken}
@@ -53,7 +53,7 @@ pub record IsUnissued (broker : BrokerState) (request : Request) (refusal : Refu
   pub same : Unchanged
   pub same_broker : left ≡ broker
 
--- a request is issued, and then the take is made or refused, but not for want of memory
+-- a request is issued, and then the take is made or refused, but not as out of memory
 pub record IsIssued (broker : BrokerState) (request : Request) (unique : Option ℕ) (told : Happened)
     (Takes : Type 0) : Type 0 where
   pub accepted : issue_fault broker request ≡ None

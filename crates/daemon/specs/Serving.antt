@@ -57,7 +57,7 @@ pub record TakesFirst (old : ServerState) (broker : BrokerState) (told : Happene
   pub makes : new ≡ with_taken old ask
   pub leaves : left ≡ taken broker
 
--- a take is refused for the first fault; without a fault it is made, or refused for want of memory
+-- a take is refused for the first fault; without a fault it is made, or refused as out of memory
 abbrev pub TakesBy : Option TakeFault → ServerState → BrokerState → Happened → ServerState → BrokerState → Type 0
 TakesBy (Some fault) old broker told new left = Stays old broker (refusal_of_take fault) told new left
 TakesBy None old broker told new left = TakesFirst old broker told new left ⊎ Stays old broker NoMemory told new left

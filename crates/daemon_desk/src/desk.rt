@@ -321,7 +321,7 @@ impl DaemonDesk {
     }
 }
 
-/// Returns the hearing of a daemon's reaction.
+/// Returns the `Hearing` of a frame to which the daemon has this reaction.
 fn hearing_of(reaction: Reaction) -> Hearing
     ensures told { IsTold reaction result }
 {

@@ -125,8 +125,8 @@ fn attach<R: Clock + Wait>(
     }
 }
 
-/// Makes a channel at `generation` for each worker's connection, patient until `stop` is asked. The broker answered
-/// each frame that was sent on those connections before.
+/// Makes a channel at `generation` for each worker's connection, patient until `stop` is asked. No frame that was sent
+/// on these connections may still lack its answer.
 pub(crate) fn channels<'a, R: Clock>(
     rt: &'a R,
     alloc: Global,

@@ -15,9 +15,9 @@ const CHUNK: usize = 512;
 /// How many milliseconds pass before a read is made again.
 const PAUSE: u64 = 20;
 
-/// Makes a thread that reads `input`, which is standard input, to its end, and then closes `shared`. Nobody waits for the
-/// thread: where the daemon ends before, standard input may stay open. It has to be made before the first socket: the
-/// system may give that the place of a standard input that is not there.
+/// Makes a thread that reads `input`, which is standard input, to its end, and then closes `shared`. Nobody waits for
+/// the thread: if the daemon ends before, standard input may stay open. Call this before the first socket is made. If
+/// the program was started without standard input, the system may give its descriptor to a socket.
 pub(crate) fn close_with_input<
     R: Threads + Wait + Clock + Copy + Send + 'static,
     I: Read + Drop + Send + 'static,

@@ -21,7 +21,7 @@ struct State {
     current: Option<UnixStream>,
     /// Whether the connection that is served now has a takeover under way.
     is_engaged: bool,
-    /// Whether the connection that is served now was sent away, since another one waits.
+    /// Whether the connection that is served now was sent away: it was shut down, since another one waits.
     is_sent_away: bool,
     is_over: bool,
 }
@@ -34,7 +34,7 @@ pub(crate) struct Lobby {
 }
 
 impl State {
-    /// Sends the connection that is served now away, where another one waits and no takeover is under way.
+    /// Shuts down the connection that is served now, if another one waits and no takeover is under way.
     fn send_away(&mut self) {
         if self.is_engaged || self.waiting.is_none() {
             return;

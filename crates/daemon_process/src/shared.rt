@@ -286,8 +286,8 @@ impl Shared {
         Ok(())
     }
 
-    /// Returns how a daemon ends that did not get to serve and would end by `exit`: by the end of standard input, if that
-    /// is heeded and has come.
+    /// Returns how a daemon ends that did not get to serve: by the end of standard input, if that has come and
+    /// `until_closed` says to heed it, else by `exit`.
     pub(crate) fn ending_before<R: Wait>(&self, rt: &R, exit: Exit, until_closed: bool) -> Ending
         ensures closes { result ≡ Closed → until_closed ≡ true }
     {
@@ -316,7 +316,7 @@ impl Shared {
     }
 }
 
-/// Returns how a daemon ends that did not get to serve. If standard input ended before, it ends for that.
+/// Returns how a daemon ends that did not get to serve: by the end of standard input if `is_closed`, else by `exit`.
 fn ending_before(is_closed: bool, exit: Exit) -> Ending
     ensures ending { result ≡ ending_before is_closed exit }
 {

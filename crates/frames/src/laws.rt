@@ -14,7 +14,8 @@ pub fn more_changes_nothing()
     ensures law { MoreChangesNothing }
 {}
 
-/// States that a stream is read as what the texts of frames say is at its front, and that they say one thing only.
+/// States that what is read at the front of a stream is what the texts of frames say is there, and that these texts
+/// never say two things.
 pub fn says_what_is_read()
     ensures law { SaysWhatIsRead }
 {}

@@ -15,7 +15,7 @@ use crate::{Frame, FrameFault};
 use byte_codec::{Bytes, u32_in, u64_in};
 use takeover_core::Message;
 
-/// Returns how many bytes are lacking, as `missing` does.
+/// Returns how many bytes the frame at the front of `bytes` lacks, as `missing` does.
 #[tactic(auto, unfolding(crate::specs::Lacking::lacking))]
 fn lacked(bytes: &[u8]) -> Result<usize, FrameFault>
     ensures lacks { result ≡ lacking bytes.now }

@@ -5,7 +5,7 @@ mod reading;
 mod socket_channel;
 mod writing;
 
-pub use frames::{Frame, FrameFault};
+pub use frames::{Frame, FrameFault, FrameReader};
 pub use reading::{MAX_READS, read_frame};
 pub use socket_channel::SocketChannel;
 pub use writing::{MAX_WRITES, write_frame};

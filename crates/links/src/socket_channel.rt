@@ -179,7 +179,7 @@ impl<R: Read, W: Write> SocketChannel<R, W> {
         Taken::Stopped
     }
 
-    /// Returns what the answer to a Take comes to.
+    /// Takes in the broker's answer to a Take, and returns the result of the `take`.
     fn hear(&mut self, answer: Frame) -> Taken
         requires rooms { IsSome self.old.rooms }
         ensures hears { Hears (state_of R.remaining W.contents self.old) answer result
@@ -230,7 +230,7 @@ impl<R: Read, W: Write> SocketChannel<R, W> {
     }
 }
 
-/// Returns what the answer to a Post says of the reply.
+/// Returns the result of a `post`, by the broker's answer.
 fn posted_of(answer: &Frame) -> Posted
     ensures { result ≡ posted_of answer.now }
 {

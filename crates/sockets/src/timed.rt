@@ -24,9 +24,9 @@ pub struct Timed<'a, R> {
     /// How long a silence between frames may last while there is no deadline, if that is limited.
     silence: Option<Duration>,
     passage: Passage,
-    /// The deadline for the rest of the frame that began to come, once a read asked for it.
+    /// The deadline for the rest of a frame that has begun to come. The first read of that rest sets it.
     rest: Option<Deadline>,
-    /// Whether the socket may have another timeout than the silence's.
+    /// Whether the socket may have a timeout other than `silence`.
     is_timed: bool,
 }
 

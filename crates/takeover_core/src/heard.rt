@@ -8,21 +8,21 @@ pub enum Heard {
     Ignored,
     /// The message is taken, and has no answer.
     Heard,
-    /// This message is to be said.
+    /// The caller says this message.
     Say(Message),
-    /// The data is to be made: `Node::data_made`, `Node::parts_made` or `Node::data_failed` follows.
+    /// The caller makes the data, and then calls `Node::data_made`, `Node::parts_made` or `Node::data_failed`.
     MakeData {
         session: u32,
         generation: u64,
         version: u16,
     },
-    /// The message's data is to be read and restored: `Node::raised` follows.
+    /// The caller reads and restores the message's data, and then calls `Node::raised`.
     GotData {
         session: u32,
         generation: u64,
         version: u16,
     },
-    /// The message's part is to be read: `Node::fed` follows.
+    /// The caller reads the message's part, and then calls `Node::fed`.
     GotPart {
         session: u32,
         generation: u64,

@@ -90,7 +90,7 @@ impl Node {
         self.phase = Phase::Serving { generation };
     }
 
-    /// Hears a message of another daemon, and returns what is to be done.
+    /// Hears a message of another daemon, and returns what the caller has to do.
     pub fn hear(&mut self, message: &Message) -> Heard
         ensures heard { result ≡ heard self.old (Hear message.now) }
         ensures after { self.new ≡ after self.old (Hear message.now) }
@@ -282,8 +282,8 @@ impl Node {
         }
     }
 
-    /// Ends the daemon's part in a takeover, as when the other daemon cannot be reached any more. Returns what is to be
-    /// done.
+    /// Ends the daemon's part in a takeover, for example when the other daemon cannot be reached any more. Returns what
+    /// the caller has to do.
     pub fn give_up(&mut self) -> Heard
         ensures heard { result ≡ heard self.old GiveUp }
         ensures after { self.new ≡ after self.old GiveUp }

@@ -15,7 +15,7 @@ abbrev pub Goes : State → List Event → List Happened → State → List Even
 Goes old events told now rest =
     (outcome : List Happened) (new : State) → Carries now rest outcome new → Carries old events (told ++ outcome) new
 
--- two things happened at least, and the second was not refused for want of memory
+-- two things happened at least, and the second was not refused as out of memory
 abbrev pub HasTwo : List Happened → Type 0
 HasTwo (asked ∷ taken ∷ later) = taken ≢ Refused NoMemory
 HasTwo outcome = ⊥

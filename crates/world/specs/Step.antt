@@ -231,13 +231,13 @@ parts_of seat (Do request) = events_of_do seat request
 parts_of seat Show = []
 parts_of seat event = event ∷ []
 
--- The take of a `do`, which happens second, is not refused for want of memory. Its memory was reserved before the
+-- The take of a `do`, which happens second, is not refused as out of memory. Its memory was reserved before the
 -- issue, and where that memory was refused the issue is refused.
 abbrev pub HasRoom : List Happened → Type 0
 HasRoom (asked ∷ taken ∷ later) = taken ≢ happened.Refused NoMemory
 HasRoom outcome = Unit {0}
 
--- One event happens, with its outcome. So only two events of a `do` may be refused for want of memory: the issue, in
+-- One event happens, with its outcome. So only two events of a `do` may be refused as out of memory: the issue, in
 -- which case nothing changes and nothing else happens, and the delivery.
 abbrev pub Step : State → Event → List Happened → State → Type 0
 Step old event outcome new = Carries old (parts_of old.broker.seat event) outcome new × HasRoom outcome

@@ -151,7 +151,7 @@ numbers_of world = record {
   MayWant = λ file. Unit {0};
 }
 
--- what a request comes to, if its numbers name the files that they were given out for
+-- the effect of a request, or its error, if its numbers name the files that they were given out for
 abbrev pub effect_in : World → Request → Result Effect Errno
 effect_in world request = comes_to world.tree (file_named world.names) request
 

@@ -17,8 +17,8 @@ pub(crate) fn let_turn(daemons: &mut Vec<Daemon>, index: usize, turn: Turn) -> R
     hearer.turn(turn)
 }
 
-/// Appends what `reaction` says to `messages`. Returns what is told of that: the position of the first message that is
-/// said.
+/// Appends the messages that `reaction` says to `messages`. Returns what happened, with the position of the first of
+/// them.
 pub(crate) fn say(messages: &mut Vec<Message>, reaction: Reaction) -> Happened
     requires room { vec_len messages.old + length (what_is_said reaction) ≤ vec_capacity messages.old }
     ensures told { result ≡ told_reaction (vec_len messages.old) reaction }

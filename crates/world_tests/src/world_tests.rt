@@ -201,8 +201,8 @@ static NOT_THERE: [(Deed, Told); 21] = [
     (Deed::Deliver, Told::One(Fact::Delivered(1, SRC))),
 ];
 
-/// No list of events comes to NotAsked: a daemon posts only what it answered, and answers only what it took. No take or
-/// post comes to Ended or Stale: a daemon that lost the seat takes nothing, and has nothing to post.
+/// No event is refused as NotAsked: a daemon posts only what it answered, and answers only what it took. No take or
+/// post is refused as Ended or Stale: a daemon that lost the seat takes nothing, and has nothing to post.
 #[test]
 fn refuses_to_hand_on_what_is_not_there(rt: HostRuntime) {
     assert!(rt; all_go_so(rt.alloc(), &NOT_THERE, &[Found::Alone(2, 3)]));
@@ -347,7 +347,7 @@ fn answers_eio_for_what_is_not_loaded_alone(rt: HostRuntime) {
 
 const MISSING: Said = Said::Error(Errno::ENOENT);
 
-/// What is told of a `do` whose ask waits while an older ask is answered.
+/// The outcome of a `do` whose ask waits while an older ask is answered.
 const OLDER: Told = Told::All(&[
     Fact::Asked(Some(2)),
     Fact::Took(1),
@@ -356,10 +356,10 @@ const OLDER: Told = Told::All(&[
     Fact::Delivered(1, SRC),
 ]);
 
-/// What is told of a `do` whose forget waits while an ask is taken and worked.
+/// The outcome of a `do` whose forget waits while an ask is taken and worked.
 const FORGETS: Told = Told::All(&[Fact::Asked(None), Fact::Took(2), Fact::Made(2, MISSING)]);
 
-/// What is told of a `do` whose lookup is taken after a forget. The `do` works the forget, has no reply to post, and
+/// The outcome of a `do` whose lookup is taken after a forget. The `do` works the forget, has no reply to post, and
 /// ends there.
 const STOPPED: Told = Told::All(&[
     Fact::Asked(Some(3)),

@@ -18,7 +18,7 @@ const COMMIT: [u8; 20] = [
     0x01, 0x23, 0x45, 0x67,
 ];
 
-/// The lists of versions that a daemon may have. The first `n` of `VERSIONS` are the list of place `n - 1`.
+/// The versions that a daemon may have. List 0 has the first of them, list 1 the first two, and list 2 all.
 const VERSIONS: [u16; 3] = [1, 2, 3];
 
 /// The greatest count of versions 1 and 2, and counts about it; the greatest count of all.
@@ -30,7 +30,7 @@ static COUNTS: [u64; 5] = [
     9_223_372_036_854_775_807,
 ];
 
-/// Returns the list of versions at the place `index`.
+/// Returns the list of versions with this index.
 fn list_of(index: usize) -> Versions {
     match index {
         0 => Versions::of(&[1]),
@@ -296,7 +296,7 @@ fn makes_of(alloc: Global, manifest: &Manifest, own: usize, version: u16, count:
     makes
 }
 
-/// An image's version and count, and what a daemon of any list makes of it.
+/// An image's version and count, and the reaction of a daemon of any list to it.
 static IMAGES: [(u16, u64, Makes); 8] = [
     (1, 7, Makes::Holds),
     (1, 4_294_967_295, Makes::Holds),
@@ -308,7 +308,7 @@ static IMAGES: [(u16, u64, Makes); 8] = [
     (4, 7, Makes::Fails),
 ];
 
-/// Returns whether a daemon of each list makes of `image` what it says.
+/// Returns whether a daemon of each list has the reaction to `image` that the image's row says.
 fn is_read_by_each(alloc: Global, manifest: &Manifest, image: (u16, u64, Makes)) -> bool {
     let (version, count, expected) = image;
     for own in 0..3usize {
@@ -319,7 +319,7 @@ fn is_read_by_each(alloc: Global, manifest: &Manifest, image: (u16, u64, Makes))
     true
 }
 
-/// Calls `is_read_by_each` with each of `images`.
+/// Calls `is_read_by_each` with each row of `images`.
 fn are_all_read(alloc: Global, images: &[(u16, u64, Makes)]) -> bool {
     let Ok(manifest) = manifest_from(alloc, CHECKOUT) else {
         return false;

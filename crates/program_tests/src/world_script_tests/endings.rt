@@ -3,8 +3,8 @@ use self::rows::{ROWS, Rooms, Row, Words};
 use std::alloc::Global;
 use std::io::{self, ErrorKind, Write};
 use world_script::{
-    BrokerWords, Cause, DaemonWords, Errand, Errands, Failure, Fault, Process, Sources, Start,
-    run_process,
+    BrokerWords, Cause, DaemonWords, Errand, Errands, Failure, Fault, MountWords, Process, Sources,
+    Start, run_process,
 };
 
 mod rows;
@@ -80,6 +80,7 @@ impl Errands for Printed {
             Errand::Broker(words) if words.socket == "taken" => return Err(not_free(words)),
             Errand::Broker(words) => print_broker(words, out),
             Errand::Daemon(words) => print_daemon(words, out),
+            Errand::Mount(words) => print_mount(words, out),
         };
         match printed {
             Ok(()) => Ok(()),
@@ -110,6 +111,15 @@ fn not_printed(error: io::Error) -> Failure<'static> {
 
 fn print_broker<W: Write>(words: &BrokerWords<'_>, out: &mut W) -> io::Result<()> {
     writeln!(out, "broker {} {}", words.socket, words.script)?;
+    out.flush()
+}
+
+fn print_mount<W: Write>(words: &MountWords<'_>, out: &mut W) -> io::Result<()> {
+    writeln!(
+        out,
+        "mount {} {} {}",
+        words.mountpoint, words.socket, words.held
+    )?;
     out.flush()
 }
 

@@ -299,7 +299,7 @@ fn reads_the_data_in_parts(rt: HostRuntime) {
     assert!(rt; so);
 }
 
-/// Returns whether a daemon that was raised claims from generation 1, and may take requests only once its claim is
+/// Returns whether a daemon that was restored claims from generation 1, and may take requests only once its claim is
 /// granted.
 fn claims(node: &mut Node) -> bool {
     let Phase::Raising { .. } = node.phase() else {

@@ -12,7 +12,7 @@ pub(crate) fn event_of(alloc: Global, line: &[u8]) -> Option<Event> {
     }
 }
 
-/// Puts the event of a line behind the others, and returns whether there is one.
+/// Appends the event of a line to `events`, and returns whether the line says one.
 fn is_put(alloc: Global, events: &mut Vec<Event>, line: &[u8]) -> bool {
     match event_of(alloc, line) {
         Some(event) => {
@@ -25,7 +25,7 @@ fn is_put(alloc: Global, events: &mut Vec<Event>, line: &[u8]) -> bool {
     }
 }
 
-/// Puts the events of lines behind the others, and returns whether there is one for each.
+/// Appends the events of lines to `events`, and returns whether each line says one.
 pub(crate) fn are_put(alloc: Global, events: &mut Vec<Event>, lines: &[&[u8]]) -> bool {
     for line in lines {
         if !is_put(alloc, events, line) {

@@ -8,7 +8,7 @@ use eden_base::{DaemonId, Number};
 use std::alloc::Global;
 use world::World;
 
-/// The versions that each of the two daemons has.
+/// Lists of versions, of which each of the two daemons has one.
 static LISTS: [&[u16]; 3] = [&[1], &[1, 2], &[1, 2, 3]];
 
 /// Daemon 1 hears the offer of daemon 2, and begins to drain.

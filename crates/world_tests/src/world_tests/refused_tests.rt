@@ -131,7 +131,7 @@ static TAKEN_IN_PARTS: [(Deed, Option<Fact>); 11] = [
     (Deed::Claim(2), Some(Fact::Claimed(2))),
 ];
 
-/// Passes also if one allocation is refused. If memory lacks to hear a message, or to make or restore data, nothing
+/// Passes also if one allocation is refused. If that is memory to hear a message, or to make or restore data, nothing
 /// changes, and the event comes again.
 #[test]
 fn takes_over_after_memory_was_refused(rt: HostRuntime) {

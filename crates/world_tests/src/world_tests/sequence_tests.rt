@@ -17,7 +17,7 @@ use world::{Event, Happened, World};
 const TEXT: &[u8] =
     b"commit 0123456789abcdef0123456789abcdef01234567\ndir d\nfile 0644 12 d/a\nfile 0644 7 b\n";
 
-/// The versions of the daemons, one list after another.
+/// Lists of versions, of which daemons have one after another.
 static LISTS: [&[u16]; 3] = [&[1], &[1, 2], &[1, 2, 3]];
 
 /// How often the seat is handed on.
@@ -110,7 +110,7 @@ fn request(alloc: Global, plain: &Plain, asked: Asked) -> Option<Request> {
     }
 }
 
-/// Returns whether `told` is what `made` is.
+/// Returns whether `told` has the answer of `made`, or its result of a forget.
 fn is_told(told: Option<Happened>, made: Made) -> bool {
     let Some(told) = told else {
         return false;

@@ -325,7 +325,7 @@ fn stops_everywhere(alloc: Global, manifest: &Manifest, row: &Row, tally: &mut T
     true
 }
 
-/// Returns whether the world goes on as it has to after each crash in `row`, and the tally is the one of `row`.
+/// Returns whether the world goes on as it has to after each crash in `row`, and the tally is that of `row`.
 fn goes(alloc: Global, manifest: &Manifest, row: &Row) -> bool {
     let mut tally = Tally {
         ended: 0,

@@ -15,7 +15,7 @@ const AMPLE: Rooms = [4096, 4096, 4096];
 /// The size of a buffer for which there is no memory.
 const NONE: usize = usize::MAX;
 
-pub static ROWS: [Row; 35] = [
+pub static ROWS: [Row; 38] = [
     (Some(&[]), AMPLE, 0, b"daemon 1\n", b"", true),
     (Some(&["world", "-"]), AMPLE, 0, b"daemon 1\n", b"", true),
     (
@@ -207,6 +207,23 @@ pub static ROWS: [Row; 35] = [
         true,
     ),
     (Some(&["broker", "s"]), AMPLE, 2, b"", b"error: ", true),
+    (
+        Some(&["mount", "co", "s"]),
+        AMPLE,
+        0,
+        b"mount co s \n",
+        b"",
+        true,
+    ),
+    (
+        Some(&["mount", "co", "s", "--held", "h"]),
+        AMPLE,
+        0,
+        b"mount co s h\n",
+        b"",
+        true,
+    ),
+    (Some(&["mount", "co"]), AMPLE, 2, b"", b"error: ", true),
     // An errand writes its line at once, and itself says if that fails.
     (
         Some(&["broker", "s", "t"]),

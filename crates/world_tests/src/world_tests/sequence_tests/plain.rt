@@ -1,4 +1,4 @@
-//! A plain list of the files of a mount, and what each request comes to in it.
+//! A plain list of the files of a mount, and the result of each request in it.
 use eden_base::{Attr, Errno, Kind, Number, Perm};
 use fuse_wire::Answer;
 use inode_map::Forgot;
@@ -24,7 +24,7 @@ pub(crate) enum Asked {
     Forget(usize, u64),
 }
 
-/// What a request comes to.
+/// The result of a request.
 #[derive(Clone, Copy)]
 pub(crate) enum Made {
     Answered(Answer),
@@ -375,7 +375,7 @@ impl Plain {
         Answer::Done
     }
 
-    /// Lowers the count of the file with the index `index` by `k`, and returns what became of its number.
+    /// Lowers the count of the file with the index `index` by `k`, and returns the result for its number.
     fn forget(&mut self, index: usize, k: u64) -> Forgot {
         if let Some(file) = self.files.as_mut_slice().get_mut(index) {
             file.count = file.count.saturating_sub(k);
@@ -396,7 +396,7 @@ impl Plain {
         }
     }
 
-    /// Does what `asked` asks for, and returns what that comes to.
+    /// Does what `asked` asks for, and returns the result.
     pub(crate) fn done(&mut self, asked: Asked) -> Result<Made, AllocError> {
         let answer = match asked {
             Asked::LookUp(spot) => self.look_up(spot),

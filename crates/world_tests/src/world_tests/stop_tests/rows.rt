@@ -1,6 +1,6 @@
-//! Takeovers as lines of a script, and how often each result comes of a crash after each line.
+//! Takeovers as lines of a script, and how often each result follows when a daemon crashes after a line.
 
-/// How often each result comes of the runs of a row, as counted from the table of phases.
+/// How many runs of a row have each result, as counted from the table of phases.
 #[derive(Clone, Copy, PartialEq, Eq)]
 pub(crate) struct Tally {
     /// How many crashes end the mount. `kept` is after how many a daemon still has the seat.
