@@ -1,13 +1,12 @@
 -- The asks of a real kernel at the broker's desk. The kernel numbers its requests itself (linux/fuse.h: unique), and the
 -- desk numbers asks anew, so each ask under way has a pair of uniques. (The pairs are this project's own.)
-use Rattle.std.specs.Prelude.{◌≡◌, ℕ, ◌≤◌, ◌⊎◌, Bool, ◌==◌, List, [], ◌∷◌, ◌++◌, length, remove, slice_get, Option, Some, None}
+use Rattle.std.specs.Prelude.{◌≡◌, ℕ, ◌≤◌, ◌⊎◌, Bool, ◌==◌, List, [], ◌∷◌, ◌++◌, length, remove, slice_get, Some, None}
 use Rattle.std.specs.List.{position_from}
 use Rattle.fuse_wire.specs.declared.reply.Answer.{Answer}
 use Rattle.fuse_wire.specs.declared.reply.Reply.{Reply}
 use Rattle.fuse_wire.specs.declared.request.Ask.{Ask}
 use Rattle.broker_core.specs.Broker.{delivered, issue_fault, issued, IsDeliverRefusal, IsIssueRefusal}
 use Rattle.broker_core.specs.Traffic.{front}
-use Rattle.broker_core.specs.declared.broker.IssueFault.{IssueFault}
 use Rattle.broker_core.specs.declared.broker.IssueFault.TheVariants as issue
 use Rattle.broker_core.specs.declared.fault.DeliverFault.TheVariants as fault
 use Rattle.broker_desk.specs.Desk.{DeskState}

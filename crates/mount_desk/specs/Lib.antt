@@ -1,2 +1,3 @@
 pub mod Forgetting
+pub mod Hearing
 pub mod Kernel

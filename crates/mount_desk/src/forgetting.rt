@@ -24,7 +24,8 @@ pub enum Forgot {
 pub fn forget(desk: &mut Desk, item: Item) -> Forgot
     ensures forgets { Forgets desk.old item result desk.new }
 {
-    match desk.issue(&Request::Forget(item)) {
+    let issued = desk.issue(&Request::Forget(item));
+    match issued {
         Ok(_) => Forgot::Waits,
         Err(IssueFault::Full) => Forgot::Full,
         Err(IssueFault::NoMemory) => Forgot::NoMemory,

@@ -2,9 +2,11 @@
 #![tactic(auto)]
 
 mod forgetting;
+mod hearing;
 mod kernel;
 mod pair;
 
 pub use forgetting::{Forgot, forget, take_back};
+pub use hearing::Progress;
 pub use kernel::{Delivered, Heard, Kernel, MAX_ASKS};
 pub use pair::Pair;

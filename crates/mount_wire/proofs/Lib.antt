@@ -1,2 +1,2 @@
-pub mod Cuts
+pub mod Items
 pub mod Texts

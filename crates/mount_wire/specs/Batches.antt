@@ -1,6 +1,5 @@
--- A kernel's BATCH_FORGET (linux/fuse.h: fuse_batch_forget_in, fuse_forget_one), and how it is cut into batches of at
--- most 256 items, the most that a daemon takes.
-use Rattle.std.specs.Prelude.{ℕ, ◌+◌, ◌*◌, ◌==◌, nat_lt, List, [], length, take, drop, Option, Some, None, Result, Ok, Err, if◌then◌else◌}
+-- A kernel's BATCH_FORGET (linux/fuse.h: fuse_batch_forget_in, fuse_forget_one), which has any number of items.
+use Rattle.std.specs.Prelude.{ℕ, ◌+◌, ◌*◌, ◌==◌, nat_lt, List, length, drop, Result, Ok, Err, if◌then◌else◌}
 use Rattle.byte_codec.specs.Reading.{◌>>=◌}
 use Rattle.fuse_wire.specs.declared.item.Item.{Item}
 use Rattle.fuse_wire.specs.Field.{u32_at}
@@ -19,13 +18,3 @@ items_in body =
 -- the items of the BATCH_FORGET that the bytes are, or their first fault; 42 is the opcode of BATCH_FORGET
 unfoldable pub forgotten_of : List ℕ → Result (List Item) MountFault
 forgotten_of bytes = unique_of 42 bytes >>= λ unique. items_in (behind_header bytes)
-
--- the first batch of these items, none if there is no item
-abbrev pub first_batch : List Item → Option (List Item)
-first_batch [] = None
-first_batch items = Some (take 256 items)
-
--- the items that were given in a batch, or in none
-abbrev pub given : Option (List Item) → List Item
-given (Some items) = items
-given None = []

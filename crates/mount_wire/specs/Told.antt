@@ -2,11 +2,9 @@
 -- the program that mounts puts them in (linux/fuse.h: fuse_attr).
 use Rattle.std.specs.Prelude.{ℕ, ◌+◌, List, ◌++◌, take, drop, Option, Some, None}
 use Rattle.std.specs.Int.{div_ceil}
-use Rattle.eden_base.specs.declared.attr.Attr.{Attr}
 use Rattle.eden_base.specs.declared.errno.Errno.{Errno}
 use Rattle.fuse_wire.specs.declared.reply.Answer.{Answer}
 use Rattle.fuse_wire.specs.declared.reply.Answer.TheVariants.{Entry, Opened, Attrs, Error}
-use Rattle.fuse_wire.specs.declared.reply.Reply.{Reply}
 use Rattle.fuse_wire.specs.Field.{u32_bytes, u64_bytes}
 use Rattle.fuse_wire.specs.ReplyText.{reply_text}
 use Rattle.mount_wire.specs.declared.told_answer.MountTime.{MountTime}

@@ -1,19 +1,18 @@
-//! A kernel's batch of forgets, cut into batches that a daemon takes.
-ghost use Rattle.std.specs.Prelude.{◌≡◌, ◌≢◌, ◌<◌, ◌≤◌, ◌+◌, ◌*◌, ◌++◌, [], drop, length, IfOk, IfSome, OnErr, OnOk};
-ghost use Rattle.fuse_wire.specs.RequestBody.{item_at, items_at};
-ghost use Rattle.mount_wire.specs.Batches.{first_batch, forgotten_of, given, items_in};
+//! A kernel's batch of forgets.
+ghost use Rattle.std.specs.Prelude.{◌≡◌, ◌≤◌, ◌+◌, drop, length, slice_get};
+ghost use Rattle.fuse_wire.specs.RequestBody.{item_at};
+ghost use Rattle.mount_wire.specs.Batches.{forgotten_of, items_in};
 
 use crate::MountFault;
 use crate::field::{u32_at, u64_at};
 use crate::header::{RequestHeader, read_unique};
 use crate::opcode::BATCH_FORGET;
-use eden_base::{NoMemory, Number};
-use fuse_wire::{Batch, Item, Items};
-use std::alloc::Global;
+use eden_base::Number;
+use fuse_wire::Item;
 use std::marker::Model;
 
-/// The items of a kernel's BATCH_FORGET that were not given yet, which contracts see as a list. They stay in the bytes
-/// of the message: a kernel sends thousands, and a list of them would take memory.
+/// The items of a kernel's BATCH_FORGET that are left, which contracts see as a list. They stay in the bytes of the
+/// message: a kernel sends thousands, and a list of them would take memory.
 #[derive(Drop)]
 pub struct BatchReader<'a> {
     count: usize,
@@ -66,45 +65,33 @@ impl<'a> BatchReader<'a> {
         Ok(BatchReader { count, bytes })
     }
 
-    /// Gives the first 256 items that are left as a batch, or all if there are fewer, in memory that `alloc` gives.
-    /// Gives none if none is left. If memory is refused, no batch is given, and the call may be made again.
-    pub fn next(&mut self, alloc: Global) -> Result<Option<Batch>, NoMemory>
-        ensures batch { IfOk result (λ batch. batch ≡ first_batch self.old) }
-        ensures left { OnOk result (self.new ≡ drop 256 self.old) }
-        // no item is lost, none is given twice, and their order is kept
-        ensures whole { IfOk result (λ batch. self.old ≡ given batch ++ self.new) }
-        ensures at_most { IfOk result (λ batch. IfSome batch (λ items. length items ≤ 256)) }
-        ensures not_empty { IfOk result (λ batch. IfSome batch (λ items. 0 < length items)) }
-        ensures refused { OnErr result (self.new ≡ self.old) }
+    /// Returns the first item that is left, if any is.
+    #[tactic(auto, using(crate::proofs::Items::no_items, crate::proofs::Items::some_items))]
+    pub fn first(&self) -> Option<Item>
+        ensures first { result ≡ slice_get self.now 0 }
     {
         if self.count == 0 {
-            return Ok(None);
+            return None;
         }
-        let len = self.count.min(Items::MAX_LEN);
-        let items = first_items(self.bytes, len);
-        let batch = Batch::of(alloc, items.as_slice())?;
-        let (_, rest) = self.bytes.split_at(BatchReader::ITEM_LEN * len);
-        self.bytes = rest;
-        self.count -= len;
-        Ok(Some(batch))
+        Some(item_at(self.bytes, 0))
     }
-}
 
-/// Reads the first `count` items of `bytes`, which may have more after them.
-fn first_items(bytes: &[u8], count: usize) -> Items
-    requires whole { 16 * count ≤ length bytes.now }
-    requires at_most { count ≤ 256 }
-    ensures items { result ≡ items_at count bytes.now }
-{
-    let mut items = Items::new();
-    for index in 0..count {
-        items.push(item_at(bytes, BatchReader::ITEM_LEN * index));
+    /// Leaves the first item that is left behind, if any is.
+    #[tactic(auto, using(crate::proofs::Items::no_items, crate::proofs::Items::some_items))]
+    pub fn skip_first(&mut self)
+        ensures left { self.new ≡ drop 1 self.old }
+    {
+        if self.count == 0 {
+            return;
+        }
+        let (_, rest) = self.bytes.split_at(BatchReader::ITEM_LEN);
+        self.bytes = rest;
+        self.count -= 1;
     }
-    items
 }
 
 /// Reads the item of `bytes` that begins at `offset`.
-#[tactic(auto, using(crate::proofs::Cuts::fields_apart))]
+#[tactic(auto, using(crate::proofs::Items::fields_apart))]
 fn item_at(bytes: &[u8], offset: usize) -> Item
     requires { offset + 16 ≤ length bytes.now }
     ensures { result ≡ item_at (drop offset bytes.now) }

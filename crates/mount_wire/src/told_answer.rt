@@ -101,7 +101,7 @@ fn whole(text: &[u8]) -> ReplyBytes
 }
 
 /// Copies a reply's `text`, in which the attributes that are `shown` get their blocks and times.
-#[tactic(auto, using(crate::proofs::Cuts::times_apart, crate::proofs::Texts::texts))]
+#[tactic(auto, using(crate::proofs::Items::times_apart, crate::proofs::Texts::texts))]
 fn with_times(text: &[u8], shown: &Shown, since: &MountTime) -> ReplyBytes
     requires short { length text.now ≤ 160 }
     requires within { shown.now.offset + 44 ≤ length text.now }

@@ -1,4 +1,5 @@
 //! Worked examples: a real kernel's asks and forgets at the desk, and the replies with its own uniques.
+mod hearing_tests;
 mod moves;
 
 use crate::mount_desk_tests::moves::{Move, all_go_so, fills_up};

@@ -3,8 +3,8 @@
 mod batch_tests;
 mod message_tests;
 mod owner_tests;
-mod told_vectors;
-mod vectors;
+pub(crate) mod told_vectors;
+pub(crate) mod vectors;
 
 use crate::mount_wire_tests::vectors::*;
 use mount_wire::{

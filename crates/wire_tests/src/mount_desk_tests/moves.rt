@@ -33,15 +33,15 @@ pub enum Move {
 
 /// A desk with one daemon, which has the seat, and a kernel.
 #[derive(Drop)]
-struct Mounted {
-    desk: Desk,
-    kernel: Kernel,
-    peer: Peer,
+pub struct Mounted {
+    pub desk: Desk,
+    pub kernel: Kernel,
+    pub peer: Peer,
 }
 
 impl Mounted {
     /// Makes a desk at which a daemon has mounted.
-    fn new(alloc: Global) -> Option<Mounted> {
+    pub fn new(alloc: Global) -> Option<Mounted> {
         let mut desk = Desk::new(alloc).ok()?;
         let kernel = Kernel::new(alloc).ok()?;
         let mut peer = Peer::Stranger;
@@ -54,13 +54,13 @@ impl Mounted {
     }
 
     /// Has the daemon take the next ask.
-    fn take(&mut self, alloc: Global) -> bool {
+    pub fn take(&mut self, alloc: Global) -> bool {
         let told = answered(alloc, &mut self.desk, &mut self.peer, Says::Take(1));
         matches!(told, Told::Ask(_))
     }
 
     /// Asks for the name `a` in directory `dir`, by the kernel's `unique`.
-    fn ask(&mut self, alloc: Global, unique: u64, dir: u64) -> Option<Heard> {
+    pub fn ask(&mut self, alloc: Global, unique: u64, dir: u64) -> Option<Heard> {
         let what = Request::Lookup {
             dir: Number(dir),
             name: Name::parse(alloc, b"a").ok()?,
@@ -83,7 +83,7 @@ impl Mounted {
     }
 
     /// Posts the daemon's answer to the desk's ask of `unique`.
-    fn serve(&mut self, alloc: Global, unique: u64, number: u64) -> bool {
+    pub fn serve(&mut self, alloc: Global, unique: u64, number: u64) -> bool {
         let says = if number == 0 {
             Says::Post(1, unique)
         } else {
@@ -121,7 +121,7 @@ impl Mounted {
     }
 
     /// Returns the unique of the next reply to the kernel.
-    fn next_unique(&mut self) -> Option<u64> {
+    pub fn next_unique(&mut self) -> Option<u64> {
         match self.kernel.deliver(&mut self.desk) {
             Delivered::Reply(reply) => Some(reply.unique),
             _ => None,

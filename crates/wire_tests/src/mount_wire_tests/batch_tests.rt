@@ -1,21 +1,13 @@
-//! A kernel's batches, cut. The first 48 bytes of a long one are a vector; its items are put behind them, item `n` with
-//! number `n` and `n + 1` lookups.
+//! The items of a kernel's batches. The first 48 bytes of a long one are a vector; its items are put behind them, item `n`
+//! with number `n` and `n + 1` lookups.
 use crate::mount_wire_tests::vectors::{
     BATCH_CUT, BATCH_OF_0, BATCH_OF_1, BATCH_OF_1_FOR_2, FRONT_OF_256, FRONT_OF_257, FRONT_OF_3595,
     HEADER_CUT, INIT_OF_57, STATFS,
 };
-use eden_base::{NoMemory, Number};
-use fuse_wire::{Batch, Item};
+use eden_base::Number;
+use fuse_wire::Item;
 use mount_wire::{BatchReader, MountFault};
 use std::alloc::{AllocError, Global};
-
-/// Calls `BatchReader::next`, and once more if memory was refused.
-fn next(reader: &mut BatchReader, alloc: Global) -> Result<Option<Batch>, NoMemory> {
-    match reader.next(alloc) {
-        Err(NoMemory) => reader.next(alloc),
-        given => given,
-    }
-}
 
 /// Makes a message of `front` and `count` items.
 fn message(alloc: Global, front: &[u8], count: u64) -> Result<Vec<u8>, AllocError> {
@@ -27,98 +19,69 @@ fn message(alloc: Global, front: &[u8], count: u64) -> Result<Vec<u8>, AllocErro
     Ok(bytes)
 }
 
-/// Returns whether `items` are those from item `first` on.
-fn go_on(items: &[Item], first: u64) -> bool {
-    let mut number = first;
-    for item in items {
-        if item.node.0 != number || item.k != number.wrapping_add(1) {
-            return false;
-        }
-        number = number.wrapping_add(1);
-    }
-    true
-}
-
-/// Returns whether the next batch has `len` items, from item `first` on.
-fn is_next(reader: &mut BatchReader, alloc: Global, len: usize, first: u64) -> bool {
-    match next(reader, alloc) {
-        Ok(Some(batch)) => batch.len() == len && go_on(batch.as_slice(), first),
-        Ok(None) | Err(NoMemory) => false,
-    }
-}
-
-/// Returns whether the items of `bytes` are given in batches of these lengths, and then none is.
-fn is_cut(alloc: Global, bytes: &[u8], lens: &[usize]) -> bool {
-    let Ok(mut reader) = BatchReader::of(bytes) else {
+/// Returns whether the items of `bytes` are item 0 to item `count`, without the last, and no more.
+fn are_all_given(bytes: &[u8], count: u64) -> bool {
+    let Ok(mut items) = BatchReader::of(bytes) else {
         return false;
     };
-    let mut first: u64 = 0;
-    for len in lens {
-        if !is_next(&mut reader, alloc, *len, first) {
+    for number in 0..count {
+        let item = Item {
+            node: Number(number),
+            k: number.wrapping_add(1),
+        };
+        if items.first() != Some(item) {
             return false;
         }
-        first = first.wrapping_add(*len as u64);
+        items.skip_first();
     }
-    matches!(reader.next(alloc), Ok(None))
+    items.first().is_none()
 }
 
-/// Returns whether the message of `front` and `count` items is cut into batches of these lengths.
-fn is_long_cut(alloc: Global, front: &[u8], count: u64, lens: &[usize]) -> bool {
+/// Returns whether the message of `front` and `count` items gives each item. Memory that is refused is asked for again.
+fn gives_all(alloc: Global, front: &[u8], count: u64) -> bool {
     match message(alloc, front, count) {
-        Ok(bytes) => is_cut(alloc, bytes.as_slice(), lens),
+        Ok(bytes) => are_all_given(bytes.as_slice(), count),
         Err(_) => match message(alloc, front, count) {
-            Ok(bytes) => is_cut(alloc, bytes.as_slice(), lens),
+            Ok(bytes) => are_all_given(bytes.as_slice(), count),
             Err(_) => false,
         },
     }
 }
 
-static LONG: [(&[u8], u64, &[usize]); 3] = [
-    (&FRONT_OF_256, 256, &[256]),
-    (&FRONT_OF_257, 257, &[256, 1]),
-    (
-        &FRONT_OF_3595,
-        3595,
-        &[
-            256, 256, 256, 256, 256, 256, 256, 256, 256, 256, 256, 256, 256, 256, 11,
-        ],
-    ),
-];
-
-/// Returns whether each long message is cut into batches of the lengths beside it.
-fn are_long_cut(alloc: Global, messages: &[(&[u8], u64, &[usize])]) -> bool {
-    for (front, count, lens) in messages {
-        if !is_long_cut(alloc, front, *count, lens) {
-            return false;
-        }
-    }
-    true
-}
-
 #[test]
-fn cuts_long_batches(rt: HostRuntime) {
-    assert!(rt; are_long_cut(rt.alloc(), &LONG));
+fn gives_the_items_of_long_batches(rt: HostRuntime) {
+    assert!(rt; gives_all(rt.alloc(), &FRONT_OF_256, 256));
+    assert!(rt; gives_all(rt.alloc(), &FRONT_OF_257, 257));
+    assert!(rt; gives_all(rt.alloc(), &FRONT_OF_3595, 3595));
 }
 
-/// Returns whether the item of `BATCH_OF_1` is given.
-fn is_item_given(alloc: Global) -> bool {
-    let Ok(mut reader) = BatchReader::of(&BATCH_OF_1) else {
+/// Returns whether the item of `BATCH_OF_1` is given, and no more.
+fn is_item_given() -> bool {
+    let Ok(mut items) = BatchReader::of(&BATCH_OF_1) else {
         return false;
     };
+    let first = items.first();
+    items.skip_first();
     let item = Item {
         node: Number(0x0102030405060708),
         k: 0x1112131415161718,
     };
-    match next(&mut reader, alloc) {
-        Ok(Some(batch)) => batch.as_slice() == [item].as_slice(),
-        Ok(None) | Err(NoMemory) => false,
-    }
+    first == Some(item) && items.first().is_none()
+}
+
+/// Returns whether a batch without items gives none, also once more than nothing was left behind.
+fn is_none_given() -> bool {
+    let Ok(mut items) = BatchReader::of(&BATCH_OF_0) else {
+        return false;
+    };
+    items.skip_first();
+    items.first().is_none()
 }
 
 #[test]
-fn gives_one_item(rt: HostRuntime) {
-    assert!(rt; is_item_given(rt.alloc()));
-    assert!(rt; is_cut(rt.alloc(), &BATCH_OF_0, &[]));
+fn gives_one_item_or_none(rt: HostRuntime) {
+    assert!(rt; is_item_given());
+    assert!(rt; is_none_given());
 }
 
 static REFUSED: [(&[u8], MountFault); 5] = [

@@ -1,0 +1,71 @@
+-- What becomes of a real kernel's message at the broker's desk. An ask is issued once, or answered here once, or refused;
+-- a forget is issued once, or refused. What can be issued later is left as it was. (This project's own.)
+use Rattle.std.specs.Prelude.{◌≡◌, ⊤, ◌⊎◌, List, [], ◌∷◌}
+use Rattle.eden_base.specs.declared.errno.Errno.TheVariants.{ESTALE}
+use Rattle.fuse_wire.specs.declared.item.Item.{Item}
+use Rattle.fuse_wire.specs.declared.request.Ask.{Ask}
+use Rattle.broker_desk.specs.Desk.{DeskState}
+use Rattle.mount_wire.specs.Message.{IsForDaemons}
+use Rattle.mount_wire.specs.Told.{error_text}
+use Rattle.mount_wire.specs.declared.message.Message.{Message}
+use Rattle.mount_wire.specs.declared.message.Message.TheVariants.{Answered, Asked, Forgot, ForgotMany, Ignored}
+use Rattle.mount_desk.specs.Forgetting.{IsRefusal as IsForgetRefusal, IsTaken as IsForgotten}
+use Rattle.mount_desk.specs.Kernel.{IsKept, IsRefused, IsTaken}
+use Rattle.mount_desk.specs.declared.forgetting.Forgot.TheVariants as forgot
+use Rattle.mount_desk.specs.declared.hearing.Progress.{Progress}
+use Rattle.mount_desk.specs.declared.hearing.Progress.TheVariants.{Done, Answers, Leaves, NotMounted}
+use Rattle.mount_desk.specs.declared.kernel.Heard.TheVariants as heard
+use Rattle.mount_desk.specs.declared.pair.Pair.{Pair}
+
+-- ---- asks
+
+-- an ask is issued; or it goes to a number that the kernel doesn't hold, and is answered ESTALE here; or it is left
+-- whole; or the mount is over
+abbrev pub HearsAsk : DeskState → List Pair → Ask → Progress → DeskState → List Pair → Type 0
+HearsAsk old pairs ask Done new after = IsTaken old pairs ask new after
+HearsAsk old pairs ask (Answers text) new after =
+    (text ≡ error_text ask.unique ESTALE) × IsRefused old pairs ask heard.NotHeld new after
+HearsAsk old pairs ask (Leaves message) new after =
+    (message ≡ Asked ask) × (IsRefused old pairs ask heard.Full new after ⊎ IsRefused old pairs ask heard.NoMemory new after)
+HearsAsk old pairs ask NotMounted new after = IsRefused old pairs ask heard.NotMounted new after
+
+-- ---- forgets
+
+-- a forget is issued, or is bad and changes nothing
+abbrev pub IsHeard : DeskState → Item → DeskState → Type 0
+IsHeard old item new = IsForgotten old item new ⊎ (IsForgetRefusal old item forgot.Bad × (new ≡ old))
+
+-- a forget can't be issued now: as many wait as may, or memory was refused; or the mount is over
+abbrev pub IsPutOff : DeskState → Item → Message → Progress → Type 0
+IsPutOff desk item left (Leaves message) =
+    (message ≡ left) × (IsForgetRefusal desk item forgot.Full ⊎ IsForgetRefusal desk item forgot.NoMemory)
+IsPutOff desk item left NotMounted = IsForgetRefusal desk item forgot.NotMounted
+IsPutOff desk item left progress = ⊥
+
+-- one forget
+abbrev pub HearsItem : DeskState → Item → Progress → DeskState → Type 0
+HearsItem old item progress new =
+    ((progress ≡ Done) × IsHeard old item new) ⊎ (IsPutOff old item (Forgot item) progress × (new ≡ old))
+
+-- many forgets, in their order: behind each that is heard the next ones are; the first that is put off is left, with all
+-- behind it
+abbrev pub HearsItems : List Item → DeskState → Progress → DeskState → Type 0
+HearsItems [] old progress new = (progress ≡ Done) × (new ≡ old)
+HearsItems (item ∷ items) old progress new =
+    ((mid : DeskState) × IsHeard old item mid × HearsItems items mid progress new)
+    ⊎ (IsPutOff old item (ForgotMany (item ∷ items)) progress × (new ≡ old))
+
+-- ---- whole messages
+
+-- a message; one that no daemon hears of changes nothing, and its answer is what it came with
+abbrev pub HearsMessage : DeskState → List Pair → Message → Progress → DeskState → List Pair → Type 0
+HearsMessage old pairs (Answered text) progress new after = (progress ≡ Answers text) × IsKept old pairs new after
+HearsMessage old pairs (Asked ask) progress new after = HearsAsk old pairs ask progress new after
+HearsMessage old pairs (Forgot item) progress new after = HearsItem old item progress new × (after ≡ pairs)
+HearsMessage old pairs (ForgotMany items) progress new after = HearsItems items old progress new × (after ≡ pairs)
+HearsMessage old pairs Ignored progress new after = (progress ≡ Done) × IsKept old pairs new after
+
+-- what is left may be heard again
+abbrev pub LeavesForDaemons : Progress → Type 0
+LeavesForDaemons (Leaves message) = IsForDaemons message
+LeavesForDaemons progress = ⊤
