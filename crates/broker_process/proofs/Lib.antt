@@ -1,2 +1,3 @@
 mod MountingLemmas
 mod PlayingLemmas
+mod ServingSteps

@@ -1,4 +1,6 @@
+pub mod Device
 pub mod Hall
 pub mod Mounting
 pub mod Playing
+pub mod Serving
 pub mod Visitors

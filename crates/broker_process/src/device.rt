@@ -1,4 +1,7 @@
 //! The kernel's end of a mount: `/dev/fuse`, and the commands that mount and unmount.
+ghost use Rattle.std.specs.Prelude.{◌≡◌};
+ghost use Rattle.broker_process.specs.Device.{Gives, Takes, taken_by};
+
 use std::alloc::Global;
 use std::fs::{self, File, OpenOptions};
 use std::io::{self, ErrorKind, Read, Write};
@@ -21,8 +24,11 @@ const OPTIONS: &str = "fd=0,rootmode=40000,user_id=0,group_id=0,allow_other";
 /// The error number of a device whose mount is gone.
 const ENODEV: i32 = 19;
 
-/// The error number of a request that was withdrawn, and of a mount that is dead.
+/// The error number of a request that was withdrawn before it was read.
 const ENOENT: i32 = 2;
+
+/// The error number of a call that was interrupted.
+const EINTR: i32 = 4;
 
 /// The error number of a file in a mount that is dead.
 const ENOTCONN: i32 = 107;
@@ -77,26 +83,33 @@ pub(crate) fn clear_dead_mount<R: Processes + Files>(
     Ok(())
 }
 
-/// Reads the next message of the kernel into `buffer`.
-pub(crate) fn take<'b>(device: &mut File, buffer: &'b mut [u8]) -> Taken<'b> {
+/// Reads the next message of the kernel from `device` into `buffer`.
+pub(crate) fn take<'b, D: Read>(device: &mut D, buffer: &'b mut [u8]) -> Taken<'b>
+    ensures takes { Takes (D.remaining device.old) (D.remaining device.new) result }
+{
     match device.read(buffer) {
         Ok(len) => {
             let (message, _) = buffer.split_at(len);
             Taken::Message(message)
         }
-        Err(error) if error.kind() == ErrorKind::Interrupted => Taken::Again,
-        Err(error) => match error.raw_os_error() {
-            Some(ENOENT) => Taken::Again,
-            Some(ENODEV) => Taken::Unmounted,
-            _ => Taken::Broken(error),
-        },
+        Err(error) => taken_by(error),
     }
 }
 
-/// Writes a reply to the kernel. Returns whether the kernel wanted it.
-pub(crate) fn give(device: &mut File, reply: &[u8]) -> bool {
-    match device.write(reply) {
-        Ok(_) => true,
-        Err(error) => error.raw_os_error() != Some(ENOENT),
+/// Returns what a read of the device says that failed with `error`.
+fn taken_by<'b>(error: io::Error) -> Taken<'b>
+    ensures taken { result ≡ taken_by error }
+{
+    match error.raw_os_error() {
+        Some(EINTR | ENOENT) => Taken::Again,
+        Some(ENODEV) => Taken::Unmounted,
+        _ => Taken::Broken(error),
     }
+}
+
+/// Writes a reply to the kernel by one call. Returns whether the kernel took it.
+pub(crate) fn give<D: Write>(device: &mut D, reply: &[u8]) -> bool
+    ensures gives { Gives reply.now result (D.contents device.old) (D.contents device.new) }
+{
+    device.write(reply).is_ok()
 }

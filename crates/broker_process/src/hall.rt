@@ -374,7 +374,10 @@ impl Hall {
 
     /// Tells every daemon from now on that the mount is over.
     pub(crate) fn close<R: Wait>(&self, rt: &R) {
-        self.state.lock(rt).desk.close();
+        let mut state = self.state.lock(rt);
+        state.desk.close();
+        state.is_mounted = false;
+        drop(state);
         self.asks.notify_all();
         self.events.notify_all();
     }

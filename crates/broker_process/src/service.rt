@@ -1,17 +1,18 @@
 //! One mount of a real kernel, from its first request to its end.
-ghost use Rattle.std.specs.Prelude.{◌≡◌, true};
-ghost use Rattle.fuse_wire.specs.Request.{is_ask, IsSendable};
+ghost use Rattle.std.specs.Prelude.{◌≡◌};
+ghost use Rattle.mount_wire.specs.Message.{IsForDaemons};
 ghost use Rattle.broker_process.specs.Mounting.{end_line};
+ghost use Rattle.broker_process.specs.Serving.{Handles, IsHeardToTheEnd, ServesMount};
 
 use crate::device::{BUFFER_LEN, Taken, give, take};
 use crate::fault::MountFault;
 use crate::hall::{Hall, Next};
-use eden_base::Errno;
-use fuse_wire::{Answer, Ask, Item};
-use mount_desk::{Forgot, Heard};
-use mount_wire::{BatchReader, Message, MountTime, read_message, tell_answer, tell_error};
+use fuse_wire::Answer;
+use mount_desk::{Forgot, Progress};
+use mount_wire::{Message, MountTime, read_message, tell_answer};
 use std::alloc::Global;
 use std::fs::{self, File};
+use std::io::{Read, Write};
 use std::rt::{Clock, Files};
 use std::sync::Wait;
 use std::thread::{self, Scope, Threads};
@@ -66,22 +67,27 @@ fn serve_within<'s, 'e: 's, R: Threads + Wait + Clock + Files<File = File> + Syn
     since: &MountTime,
 ) -> Result<MountEnd, MountFault> {
     let writer = device.try_clone().map_err(MountFault::Broken)?;
-    let Ok(reading) = scope.spawn(move || read_to_the_end(rt, alloc, hall, device)) else {
+    let answers = device.try_clone().map_err(MountFault::Broken)?;
+    let Ok(reading) = scope.spawn(move || read_to_the_end(rt, alloc, hall, device, answers)) else {
         return Err(MountFault::NoThread);
     };
     deliver_all(rt, hall, writer, mountpoint, since);
     reading.join(rt)
 }
 
-/// Reads what the kernel asks until the mount ends. Where no daemon died, the daemons hear that the mount is over, so that
-/// who writes replies sees the end too.
+/// Reads what the kernel asks by `device` until the mount ends, and writes this program's own answers by `answers`. Where
+/// no daemon died, the daemons hear that the mount is over, so that who writes replies sees the end too.
 fn read_to_the_end<R: Wait + Clock>(
     rt: &R,
     alloc: Global,
     hall: &Hall,
     device: File,
+    answers: File,
 ) -> Result<MountEnd, MountFault> {
-    let ended = read_all(rt, alloc, hall, device);
+    let (mut device, mut answers) = (device, answers);
+    let ended = read_all(rt, alloc, hall, &mut device, &mut answers);
+    drop(device);
+    drop(answers);
     if !matches!(ended, Ok(MountEnd::Dead)) {
         hall.close(rt);
     }
@@ -102,6 +108,7 @@ fn deliver_all<R: Wait + Clock + Files<File = File>>(
         match hall.next(rt) {
             Next::Nothing | Next::NoMemory => {}
             Next::Over => break,
+            Next::Unasked(answer) => take_back(rt, hall, &answer),
             Next::Reply(reply) => {
                 let bytes = tell_answer(reply.unique, &reply.answer, since);
                 if !give(&mut device, bytes.as_slice()) {
@@ -114,29 +121,40 @@ fn deliver_all<R: Wait + Clock + Files<File = File>>(
     let _looked = fs::metadata(rt, mountpoint);
 }
 
-/// Forgets at once the number of an answer that the kernel did not want.
+/// Forgets at once the number of an answer that the kernel did not take.
 fn take_back<R: Wait + Clock>(rt: &R, hall: &Hall, answer: &Answer) {
     for _ in rt.forever() {
-        if is_done(hall.take_back(rt, answer)) {
-            return;
+        match hall.take_back(rt, answer) {
+            Forgot::Waits | Forgot::Bad | Forgot::NotMounted => return,
+            Forgot::Full | Forgot::NoMemory => pause(rt),
         }
-        thread::sleep(rt, Duration::from_millis(PAUSE));
     }
+    unreachable!()
 }
 
-/// Reads what the kernel asks until the mount ends, and closes the device.
-fn read_all<R: Wait + Clock>(
+/// Waits a moment, since no more can be under way.
+fn pause<R: Wait + Clock>(rt: &R) {
+    thread::sleep(rt, Duration::from_millis(PAUSE));
+}
+
+/// Reads what the kernel asks by `device` until the mount ends, and writes this program's own answers by `answers`.
+fn read_all<R: Wait + Clock, I: Read, O: Write>(
     rt: &R,
     alloc: Global,
     hall: &Hall,
-    device: File,
-) -> Result<MountEnd, MountFault> {
-    let mut device = device;
-    let mut buffer = vec![in alloc; 0u8; BUFFER_LEN]?;
+    device: &mut I,
+    answers: &mut O,
+) -> Result<MountEnd, MountFault>
+    ensures served { ServesMount result (I.remaining device.old) (O.contents answers.old)
+        (I.remaining device.new) (O.contents answers.new) }
+{
+    let Ok(mut buffer) = vec![in alloc; 0u8; BUFFER_LEN] else {
+        return Err(MountFault::NoMemory);
+    };
     for _ in rt.forever() {
-        match take(&mut device, buffer.as_mut_slice()) {
+        match take(device, buffer.as_mut_slice()) {
             Taken::Message(message) => {
-                if !hear(rt, alloc, hall, &mut device, message) {
+                if !handle(rt, alloc, hall, answers, message) {
                     return Ok(MountEnd::Dead);
                 }
             }
@@ -148,80 +166,40 @@ fn read_all<R: Wait + Clock>(
     unreachable!()
 }
 
-/// Does what a message of the kernel says. Returns whether the mount goes on.
-fn hear<R: Wait + Clock>(
+/// Does what the message `bytes` of the kernel says, and writes the answer if it is this program's own. Returns whether
+/// the mount goes on.
+fn handle<R: Wait + Clock, O: Write>(
     rt: &R,
     alloc: Global,
     hall: &Hall,
-    device: &mut File,
+    answers: &mut O,
     bytes: &[u8],
-) -> bool {
-    match read_message(alloc, bytes) {
-        Message::Answered(reply) => {
-            let _wanted = give(device, reply.as_slice());
+) -> bool
+    ensures handles { Handles bytes.now result (O.contents answers.old) (O.contents answers.new) }
+{
+    match hear(rt, hall, read_message(alloc, bytes)) {
+        Progress::Done => true,
+        Progress::Answers(reply) => {
+            let _wanted = give(answers, reply.as_slice());
             true
         }
-        Message::Asked(ask) => ask_daemons(rt, hall, device, &ask),
-        Message::Forgot(item) => forget(rt, hall, item),
-        Message::ForgotMany(items) => forget_all(rt, alloc, hall, items),
-        Message::Ignored => true,
+        Progress::NotMounted => false,
+        Progress::Leaves(_) => unreachable!(),
     }
 }
 
-/// Issues an ask as soon as it can be under way. Returns whether the mount goes on.
-fn ask_daemons<R: Wait + Clock>(rt: &R, hall: &Hall, device: &mut File, ask: &Ask) -> bool
-    requires asks { is_ask ask.now.what ≡ true }
-    requires sendable { IsSendable ask.now.what }
+/// Hears a message of the kernel until nothing is left of it.
+fn hear<'a, R: Wait + Clock>(rt: &R, hall: &Hall, message: Message<'a>) -> Progress<'a>
+    requires for_daemons { IsForDaemons message }
+    ensures heard { IsHeardToTheEnd message.entry result }
 {
+    let mut left = message;
     for _ in rt.forever() {
-        match hall.ask(rt, ask) {
-            Heard::Waits => return true,
-            Heard::NotHeld => {
-                let _wanted = give(device, tell_error(ask.unique, Errno::ESTALE).as_slice());
-                return true;
-            }
-            Heard::NotMounted => return false,
-            Heard::Full | Heard::NoMemory => thread::sleep(rt, Duration::from_millis(PAUSE)),
+        match hall.hear_kernel(rt, left) {
+            Progress::Leaves(message) => left = message,
+            progress => return progress,
         }
+        pause(rt);
     }
     unreachable!()
-}
-
-/// Issues a forget as soon as it can wait. Returns whether the mount goes on.
-fn forget<R: Wait + Clock>(rt: &R, hall: &Hall, item: Item) -> bool {
-    for _ in rt.forever() {
-        let forgot = hall.forget(rt, item);
-        if is_done(forgot) {
-            return forgot != Forgot::NotMounted;
-        }
-        thread::sleep(rt, Duration::from_millis(PAUSE));
-    }
-    unreachable!()
-}
-
-/// Returns whether a forget need not be made again.
-fn is_done(forgot: Forgot) -> bool {
-    !matches!(forgot, Forgot::Full | Forgot::NoMemory)
-}
-
-/// Issues many forgets. Returns whether the mount goes on.
-fn forget_all<R: Wait + Clock>(rt: &R, alloc: Global, hall: &Hall, items: BatchReader<'_>) -> bool {
-    let mut items = items;
-    for _ in rt.forever() {
-        match items.next(alloc) {
-            Ok(Some(batch)) => {
-                if !forget_each(rt, hall, batch.as_slice()) {
-                    return false;
-                }
-            }
-            Ok(None) => return true,
-            Err(_refused) => thread::sleep(rt, Duration::from_millis(PAUSE)),
-        }
-    }
-    unreachable!()
-}
-
-/// Issues a forget for each of `items`. Returns whether the mount goes on.
-fn forget_each<R: Wait + Clock>(rt: &R, hall: &Hall, items: &[Item]) -> bool {
-    items.iter().all(|item| forget(rt, hall, *item))
 }

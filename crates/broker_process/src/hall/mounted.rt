@@ -1,10 +1,12 @@
 //! What a real kernel's mount asks of the hall.
-ghost use Rattle.std.specs.Prelude.{◌≡◌, true};
-ghost use Rattle.fuse_wire.specs.Request.{is_ask, IsSendable};
+ghost use Rattle.mount_desk.specs.Hearing.{LeavesForDaemons};
+ghost use Rattle.mount_wire.specs.Message.{IsForDaemons};
+ghost use Rattle.broker_process.specs.Serving.{IsHeard};
 
 use super::{Hall, LONGEST_SLEEP, PAUSE, State, Waiting};
-use fuse_wire::{Answer, Ask, Item, Reply};
-use mount_desk::{Delivered, Forgot, Heard, forget, take_back};
+use fuse_wire::{Answer, Reply};
+use mount_desk::{Delivered, Forgot, Progress, take_back};
+use mount_wire::Message;
 use std::rt::Clock;
 use std::sync::Wait;
 use std::time::{Duration, Instant};
@@ -14,6 +16,8 @@ use std::time::{Duration, Instant};
 pub(crate) enum Next {
     /// A reply, with the unique of the kernel's ask.
     Reply(Reply),
+    /// Nothing, but the answer to an ask that the kernel didn't make has to be taken back.
+    Unasked(Answer),
     /// Nothing yet.
     Nothing,
     /// Nothing yet, since memory was refused.
@@ -28,7 +32,7 @@ impl Next {
         match self {
             Next::Nothing => Some(LONGEST_SLEEP),
             Next::NoMemory => Some(PAUSE),
-            Next::Reply(_) | Next::Over => None,
+            Next::Reply(_) | Next::Unasked(_) | Next::Over => None,
         }
     }
 }
@@ -44,15 +48,11 @@ impl State {
         Some(seat.generation)
     }
 
-    /// Returns what the kernel is told next. A reply to no ask of the kernel is thrown away, and its number is forgotten
-    /// at once.
+    /// Returns what the kernel is told next.
     fn next(&mut self) -> Next {
         match self.kernel.deliver(&mut self.desk) {
             Delivered::Reply(reply) => Next::Reply(reply),
-            Delivered::Unasked(answer) => {
-                let _forgot = take_back(&mut self.desk, &answer);
-                Next::NoMemory
-            }
+            Delivered::Unasked(answer) => Next::Unasked(answer),
             Delivered::Nothing if self.desk.broker().seat().is_none() => Next::Over,
             Delivered::Nothing => Next::Nothing,
             Delivered::NoMemory => Next::NoMemory,
@@ -82,29 +82,26 @@ impl Hall {
         state.kernel.clear();
     }
 
-    /// Issues an ask of the kernel.
-    pub(crate) fn ask<R: Wait + Clock>(&self, rt: &R, ask: &Ask) -> Heard
-        requires asks { is_ask ask.now.what ≡ true }
-        requires sendable { IsSendable ask.now.what }
+    /// Hears a `message` of the kernel at the desk, as far as it can be heard now.
+    pub(crate) fn hear_kernel<'a, R: Wait + Clock>(&self, rt: &R, message: Message<'a>) -> Progress<'a>
+        requires for_daemons { IsForDaemons message }
+        ensures heard { IsHeard message.entry result }
+        ensures for_daemons { LeavesForDaemons result }
     {
         let now = Instant::now(rt).ok();
+        let is_ask = matches!(message, Message::Asked(_));
         let mut state = self.state.lock(rt);
         let State { desk, kernel, .. } = &mut *state;
-        let heard = kernel.ask(desk, ask);
-        state.asked = now;
+        let progress = kernel.hear(desk, message);
+        if is_ask {
+            state.asked = now;
+        }
         drop(state);
         self.asks.notify_one();
-        heard
+        progress
     }
 
-    /// Issues a forget of the kernel.
-    pub(crate) fn forget<R: Wait>(&self, rt: &R, item: Item) -> Forgot {
-        let forgot = forget(&mut self.state.lock(rt).desk, item);
-        self.asks.notify_one();
-        forgot
-    }
-
-    /// Forgets at once the number that `answer` gave out, since the kernel did not want the reply.
+    /// Forgets at once the number that `answer` gave out, since the kernel did not take the reply.
     pub(crate) fn take_back<R: Wait>(&self, rt: &R, answer: &Answer) -> Forgot {
         let forgot = take_back(&mut self.state.lock(rt).desk, answer);
         self.asks.notify_one();

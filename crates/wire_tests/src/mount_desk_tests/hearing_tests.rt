@@ -24,10 +24,11 @@ enum Came {
 /// Counts what is left of a message, up to 5,000 forgets.
 fn left(message: Message<'_>) -> Came {
     match message {
-        Message::Asked(_) => Came::LeavesAsk,
-        Message::Forgot(_) => Came::Leaves(1),
+        Message::Asked(_ask) => Came::LeavesAsk,
+        Message::Forgot(_item) => Came::Leaves(1),
         Message::ForgotMany(items) => Came::Leaves(count(items)),
-        Message::Answered(_) | Message::Ignored => Came::Other,
+        Message::Answered(_reply) => Came::Other,
+        Message::Ignored => Came::Other,
     }
 }
 
@@ -68,7 +69,8 @@ fn batch(alloc: Global) -> Option<Vec<u8>> {
 /// Makes a desk at which the kernel holds number 3 this often.
 fn holding(alloc: Global, count: u64) -> Option<Mounted> {
     let mut mounted = Mounted::new(alloc)?;
-    for unique in 1..count + 1 {
+    for before in 0..count {
+        let unique = before.wrapping_add(1);
         let is_held = mounted.ask(alloc, unique, 1) == Some(Heard::Waits)
             && mounted.take(alloc)
             && mounted.serve(alloc, unique, 3)

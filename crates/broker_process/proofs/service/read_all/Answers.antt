@@ -1,0 +1,33 @@
+use Rattle.std.proofs.Common.{List, ℕ, Option, Result, Ok, Err, inl, refl}
+use Rattle.broker_process.specs.declared.device.Taken.TheVariants as taken
+use Rattle.broker_process.specs.declared.fault.MountFault.{MountFault}
+use Rattle.broker_process.specs.declared.fault.MountFault.TheVariants.{Broken}
+use Rattle.broker_process.specs.declared.service.MountEnd.{MountEnd}
+use Rattle.broker_process.specs.declared.service.MountEnd.TheVariants.{Unmounted, Dead}
+use Rattle.broker_process.proofs.ServingSteps.{read_before, read_last}
+use Rattle.broker_process.proofs.service.read_all.Goals as goal
+
+pub returns-then-not-handle : goal.returns-then-not-handle
+returns-then-not-handle g c = record {
+  served = inl (c.loop.invariant (Ok Dead) _ _ (read_last (taken.Message c.in-Message.message) (Ok Dead) _ _ _ _ c.in-Message.ensures.takes c.if-not-handle.ensures.handles));
+}
+
+pub loop-preserved-else-not-handle : goal.loop-preserved-else-not-handle
+loop-preserved-else-not-handle g c =
+    λ (ended : Result MountEnd MountFault). λ (left_then : Option (List ℕ)). λ (told_then : Option (List ℕ)). λ rest.
+        c.loop.invariant ended left_then told_then (read_before (taken.Message c.in-Message.message) ended _ _ _ _ left_then told_then c.in-Message.ensures.takes c.if-not-handle.ensures.handles rest)
+
+pub loop-preserved : goal.loop-preserved
+loop-preserved g c =
+    λ (ended : Result MountEnd MountFault). λ (left_then : Option (List ℕ)). λ (told_then : Option (List ℕ)). λ rest.
+        c.loop.invariant ended left_then told_then (read_before taken.Again ended _ _ _ _ left_then told_then c.in-Again.ensures.takes refl rest)
+
+pub returns-in-Unmounted : goal.returns-in-Unmounted
+returns-in-Unmounted g c = record {
+  served = inl (c.loop.invariant (Ok Unmounted) _ _ (read_last taken.Unmounted (Ok Unmounted) _ _ _ _ c.in-Unmounted.ensures.takes refl));
+}
+
+pub returns-in-Broken : goal.returns-in-Broken
+returns-in-Broken g c = record {
+  served = inl (c.loop.invariant (Err (Broken c.in-Broken.error)) _ _ (read_last (taken.Broken c.in-Broken.error) (Err (Broken c.in-Broken.error)) _ _ _ _ c.in-Broken.ensures.takes (refl, refl)));
+}

@@ -1,0 +1,32 @@
+-- What a read and a write of a kernel's device do (fs/fuse/dev.c of Linux: a read gives one message, and a write takes
+-- one reply).
+use Rattle.std.specs.Prelude.{◌≡◌, ℕ, ℤ, Bool, false, ◌||◌, pos, List, Option, Result, is_ok, if◌then◌else◌}
+use Rattle.std.specs.Io.KnownBytes.{Consumes, Keeps, WriteAppends}
+use Rattle.std.specs.IoError.{raw_os_error}
+use Rattle.std.specs.Option.{option_map_or}
+use Rattle.std.specs.Ordering.{int_eq}
+use Rattle.std.specs.declared.io.Error.{Error as IoError}
+use Rattle.broker_process.specs.declared.device.Taken.{Taken}
+use Rattle.broker_process.specs.declared.device.Taken.TheVariants.{Message, Again, Unmounted, Broken}
+
+-- whether the system told an error by this number
+abbrev pub has_number : IoError → ℤ → Bool
+has_number error number = option_map_or (λ (code : ℤ). int_eq code number) (raw_os_error error) false
+
+-- what a read says that failed: EINTR (4) and ENOENT (2) that it is to be made again, since it was interrupted or its
+-- request withdrawn; ENODEV (19) that the mount is gone; any other error that the device can't be read
+abbrev pub taken_by : IoError → Taken
+taken_by error =
+    if has_number error (pos 4) || has_number error (pos 2) then Again
+    else if has_number error (pos 19) then Unmounted
+    else Broken error
+
+-- a read gave a message, which leaves what is left to read; or it failed, and nothing leaves
+abbrev pub Takes : Option (List ℕ) → Option (List ℕ) → Taken → Type 0
+Takes old new (Message bytes) = Consumes old new bytes.now
+Takes old new taken = (error : IoError) × (taken ≡ taken_by error) × Keeps old new
+
+-- a reply was written by one call, which succeeded or failed
+abbrev pub Gives : List ℕ → Bool → Option (List ℕ) → Option (List ℕ) → Type 0
+Gives text took old new =
+    (written : Result ℕ IoError) × (took ≡ is_ok written) × WriteAppends old new written text

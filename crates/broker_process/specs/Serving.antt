@@ -1,0 +1,87 @@
+-- What becomes of the messages that are read from a kernel's device, one after another. (This project's own.)
+use Rattle.std.specs.Prelude.{◌≡◌, ⊤, ◌⊎◌, ℕ, zero, suc, Bool, true, false, List, Option, Result, Ok, Err}
+use Rattle.broker_desk.specs.Desk.{DeskState}
+use Rattle.mount_desk.specs.Hearing.{HearsMessage}
+use Rattle.mount_desk.specs.declared.hearing.Progress.{Progress}
+use Rattle.mount_desk.specs.declared.hearing.Progress.TheVariants.{Done, Answers, Leaves, NotMounted}
+use Rattle.mount_desk.specs.declared.pair.Pair.{Pair}
+use Rattle.mount_wire.specs.Message.{Reads}
+use Rattle.mount_wire.specs.declared.message.Message.{Message}
+use Rattle.broker_process.specs.Device.{Gives, Takes}
+use Rattle.broker_process.specs.declared.device.Taken.{Taken}
+use Rattle.broker_process.specs.declared.device.Taken.TheVariants as taken
+use Rattle.broker_process.specs.declared.fault.MountFault.{MountFault}
+use Rattle.broker_process.specs.declared.fault.MountFault.TheVariants.{Broken, NoMemory}
+use Rattle.broker_process.specs.declared.service.MountEnd.{MountEnd}
+use Rattle.broker_process.specs.declared.service.MountEnd.TheVariants.{Unmounted, Dead}
+
+-- ---- one message
+
+-- Daemons change the desk between turns, so each turn speaks of the desk and of the asks under way as it found them.
+
+-- a message was heard as far as it could be, over some state of the desk
+abbrev pub IsHeard : Message → Progress → Type 0
+IsHeard message progress =
+    (old : DeskState) × (pairs : List Pair) × (new : DeskState) × (after : List Pair)
+    × HearsMessage old pairs message progress new after
+
+-- nothing is left of the message
+abbrev pub IsEnd : Progress → Type 0
+IsEnd (Leaves message) = ⊥
+IsEnd progress = ⊤
+
+-- a message was heard in one turn and as many more as the number says: each turn heard what the one before it left
+abbrev pub IsHeardIn : ℕ → Message → Progress → Type 0
+IsHeardIn zero message end = IsHeard message end × IsEnd end
+IsHeardIn (suc turns) message end = (left : Message) × IsHeard message (Leaves left) × IsHeardIn turns left end
+
+-- a message was heard until nothing was left of it
+abbrev pub IsHeardToTheEnd : Message → Progress → Type 0
+IsHeardToTheEnd message end = (turns : ℕ) × IsHeardIn turns message end
+
+-- what the program writes of its own at a message's end, and whether the mount goes on
+abbrev pub Tells : Progress → Bool → Option (List ℕ) → Option (List ℕ) → Type 0
+Tells Done goes_on old new = (goes_on ≡ true) × (new ≡ old)
+Tells (Answers text) goes_on old new = (goes_on ≡ true) × (took : Bool) × Gives text took old new
+Tells NotMounted goes_on old new = (goes_on ≡ false) × (new ≡ old)
+Tells (Leaves message) goes_on old new = ⊥
+
+-- the bytes of one message were read as a message, which was heard to its end; an answer of the program's own was written
+-- by one call
+pub record Handles (bytes : List ℕ) (goes_on : Bool) (old new : Option (List ℕ)) : Type 0 where
+  pub message : Message
+  pub reads : Reads bytes message
+  pub end : Progress
+  pub heard : IsHeardToTheEnd message end
+  pub tells : Tells end goes_on old new
+
+-- ---- all messages of a mount
+
+-- what a read gave was handled, and the mount goes on
+abbrev pub GoesOn : Taken → Option (List ℕ) → Option (List ℕ) → Type 0
+GoesOn (taken.Message bytes) old new = Handles bytes.now true old new
+GoesOn taken.Again old new = new ≡ old
+GoesOn taken old new = ⊥
+
+-- what a read gave ended the mount: no daemon had the seat when it was handled, somebody unmounted, or the device broke
+abbrev pub EndsBy : Taken → Result MountEnd MountFault → Option (List ℕ) → Option (List ℕ) → Type 0
+EndsBy (taken.Message bytes) (Ok Dead) old new = Handles bytes.now false old new
+EndsBy taken.Unmounted (Ok Unmounted) old new = new ≡ old
+EndsBy (taken.Broken error) (Err (Broken told)) old new = (told ≡ error) × (new ≡ old)
+EndsBy taken ended old new = ⊥
+
+-- a mount ended by a read, behind as many others as the number says: what each of them gave was handled before the next
+-- one. `left` is what was still to be read, and `told` what the program wrote of its own, where those are known.
+abbrev pub ServesIn : ℕ → Result MountEnd MountFault → Option (List ℕ) → Option (List ℕ) → Option (List ℕ) → Option (List ℕ) → Type 0
+ServesIn zero ended left told left_then told_then =
+    (taken : Taken) × Takes left left_then taken × EndsBy taken ended told told_then
+ServesIn (suc reads) ended left told left_then told_then =
+    (taken : Taken) × (left_mid : Option (List ℕ)) × (told_mid : Option (List ℕ))
+    × Takes left left_mid taken × GoesOn taken told told_mid
+    × ServesIn reads ended left_mid told_mid left_then told_then
+
+-- a mount was served to its end; or memory for the first read was refused, and nothing was read or written
+abbrev pub ServesMount : Result MountEnd MountFault → Option (List ℕ) → Option (List ℕ) → Option (List ℕ) → Option (List ℕ) → Type 0
+ServesMount ended left told left_then told_then =
+    ((reads : ℕ) × ServesIn reads ended left told left_then told_then)
+    ⊎ ((ended ≡ Err NoMemory) × (left_then ≡ left) × (told_then ≡ told))
