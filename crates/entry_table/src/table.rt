@@ -314,9 +314,7 @@ impl Table {
             unreachable!()
         };
         let slot = &mut self.slots[index];
-        let Some(entry) = &slot.1 else {
-            unreachable!()
-        };
+        let Some(entry) = &slot.1 else { unreachable!() };
         if let Place::Linked { parent, name } = &entry.place {
             self.index.remove(parent.0, name, number.0);
         }

@@ -44,7 +44,7 @@ invariant_of-self c =
     let t = c.self.inside in
     let left = Rattle.std.specs.Vec.with_item t.slots c.in-Some.index (c.match-entry.slot.0, c.take.new.self) in
     elim c.match-entry.branch [
-      in-Linked w ↦
+      | in-Linked w ↦
           subst (λ (index : Index). IsTable (record t { slots = left; index = index })) (sym (ap (λ s. s.1.1.0) w.self-inside-is)) (record {
             slots = left-slots (out c.before);
             indexed = left-lost (out c.before) w.in-Linked.parent w.in-Linked.name w.in-Linked.is w.remove.new.self w.remove.ensures;
@@ -52,7 +52,7 @@ invariant_of-self c =
             free = c.self.invariant.free;
             room = c.self.invariant.room;
           })
-    | in_default-place w ↦
+      | in_default-place w ↦
           subst (λ (index : Index). IsTable (record t { slots = left; index = index })) (sym (ap (λ s. s.1.1.0) w.self-inside-is)) (record {
             slots = left-slots (out c.before);
             indexed = left-marked (out c.before) w.in_default-place.field-0 w.in_default-place.is;
