@@ -3,3 +3,4 @@ pub mod MemberLemmas
 pub mod NumberTests
 mod OrderLemmas
 pub mod PermLemmas
+mod Separators

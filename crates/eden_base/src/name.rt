@@ -158,11 +158,12 @@ impl Name {
     }
 }
 
-/// Returns whether a slash or a NUL is among the bytes.
+/// Returns whether a slash or a NUL is among the bytes. Each is looked for by itself, since std tests many bytes at once
+/// for one value.
 fn has_separator(bytes: &[u8]) -> bool
     ensures { result ≡ list_any is_separator bytes.now }
 {
-    bytes.iter().any(|byte| *byte == b'/' || *byte == 0)
+    bytes.contains(&b'/') || bytes.contains(&0)
 }
 
 /// Returns whether the bytes are `.` or `..`.
