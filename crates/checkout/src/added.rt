@@ -164,8 +164,8 @@ impl Added {
         Some(file)
     }
 
-    /// Lets `to_name` in `to_dir` give `file`, in place of the file that this name gave, if any. Removes the link under
-    /// `name` in `dir`, if one was added there. If memory is refused, nothing changes.
+    /// Lets `to_name` in `to_dir` give `file`. If an added link stands there, it gives `replaced`, and is replaced. Removes
+    /// the link under `name` in `dir`, if one was added there. If memory is refused, nothing changes.
     pub fn rename(
         &mut self,
         alloc: Global,
@@ -174,10 +174,12 @@ impl Added {
         to_dir: FileId,
         to_name: &Name,
         file: FileId,
+        replaced: Option<FileId>,
     ) -> Result<(), NoMemory>
         requires there { IfSome (get self.old (dir.0, name.now)) (λ other. other ≡ file) }
         requires once { (d : FileId) (n : List ℕ) → get self.old (d.0, n) ≡ Some file → (d ≡ dir) × (n ≡ name.now) }
         requires other { get self.old (to_dir.0, to_name.now) ≢ Some file }
+        requires replaced { IfSome (get self.old (to_dir.0, to_name.now)) (λ other. replaced ≡ Some other) }
         requires apart { (dir ≡ to_dir) → name.now ≢ to_name.now }
         ensures ok { OnOk result (self.new
             ≡ insert (remove self.old (dir.0, name.now)) (to_dir.0, to_name.now) file) }
@@ -188,7 +190,7 @@ impl Added {
         let own = to_name.copy(alloc)?;
         self.places.reserve(1)?;
         raise(&mut self.counts, to_dir)?;
-        let replaced = find(&self.places, &self.names, key, to_dir, to_name);
+        let stood = standing(&self.places, replaced, to_dir, to_name);
         let Ok(()) = self.names.add(alloc, key, to_dir, to_name, file) else {
             lower(&mut self.counts, to_dir);
             return Err(NoMemory);
@@ -201,7 +203,7 @@ impl Added {
             unreachable!()
         };
         leave(&mut self.names, &mut self.counts, left, file);
-        let Some(other) = replaced else {
+        let Some(other) = stood else {
             return Ok(());
         };
         self.names.remove(key, to_dir, to_name, other);
@@ -244,6 +246,24 @@ fn find(
         }
     }
     let file = names.other(dir, name)?;
+    if stands(places, file.0, dir, name) {
+        return Some(file);
+    }
+    None
+}
+
+/// Returns `file`, if there is one and its link stands under `name` in `dir`.
+fn standing(
+    places: &HashMap<u64, AddedPlace>,
+    file: Option<FileId>,
+    dir: FileId,
+    name: &Name,
+) -> Option<FileId>
+    ensures { (links : FinMap link_cmp FileId) → ArePlacesOf links (place_of_file places.now)
+        → IfSome (get links (dir.0, name.now)) (λ other. file ≡ Some other)
+        → result ≡ get links (dir.0, name.now) }
+{
+    let file = file?;
     if stands(places, file.0, dir, name) {
         return Some(file);
     }

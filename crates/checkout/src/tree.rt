@@ -351,7 +351,7 @@ impl Tree {
         ensures is_tree { IsTree self.new }
     {
         self.added
-            .rename(self.alloc, dir, name, to_dir, to_name, file)?;
+            .rename(self.alloc, dir, name, to_dir, to_name, file, replaced)?;
         let (gone, lost) = (&mut self.gone, &mut self.lost);
         overlay::lose(&self.manifest, gone, lost, Some(file));
         overlay::lose(&self.manifest, gone, lost, replaced);

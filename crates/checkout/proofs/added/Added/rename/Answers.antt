@@ -34,7 +34,7 @@ invariant_of-self-in_default c = (c.in_ok-reserve.ensures.unique, (shown-AreLink
 pub returns-in_default-clause-err : goal.returns-in_default-clause-err
 returns-in_default-clause-err c = (shown-AreLinks c.reserve.new.self.entries c.in_ok-reserve.ensures.unique _ _ _ (kept-in_default c)).0 ∙ c.self.view_is
 
-came : (c : goal.In_default-replaced) → AreLinks (insert (remove (links_of c.self.inside.places.entries) (c.args.dir.0, c.args.name.now)) (c.args.to_dir.0, c.args.to_name.now) c.args.file) (place_of_file c.insert.new.self) c.leave.new.names (counted c.leave.new.counts)
+came : (c : goal.In_default-stood) → AreLinks (insert (remove (links_of c.self.inside.places.entries) (c.args.dir.0, c.args.name.now)) (c.args.to_dir.0, c.args.to_name.now) c.args.file) (place_of_file c.insert.new.self) c.leave.new.names (counted c.leave.new.counts)
 came c =
     let i = c.self.inside in
     let links = links_of i.places.entries in
@@ -48,7 +48,8 @@ came c =
     let is_key = c.key_of-key.ensures.key ∙ ap (key_of c.args.to_dir.0) c.bytes.ensures.bytes in
     let was = c.in-Ok-insert.ensures.old ∙ c.in_ok-reserve.ensures.entries.2 c.args.file.0 in
     let are_now = alike-AreLinks links (place_of_file i.places) i.names (counted i.counts) c.self.invariant.1 (place_of_file c.reserve.new.self) i.names (counted i.counts) c.in_ok-reserve.ensures.entries.2 c.self.invariant.1.are_named (λ d. refl) in
-    let free = sym (c.find-replaced.ensures links are_now.are_places are_now.are_named) ∙ c.in_default-replaced.is in
+    let is_replaced = subst (λ m. IfSome (get m to) (λ u. c.args.replaced ≡ Some u)) (sym c.self.view_is) c.requires.replaced in
+    let free = sym (c.standing-stood.ensures links are_now.are_places is_replaced) ∙ c.in_default-stood.is in
     came-AreLinks links (place_of_file i.places) i.names (counted i.counts) c.self.invariant.1 from to c.args.file c.add.new.self c.leave.new.names (counted c.raise.new.counts) (counted c.leave.new.counts)
     (λ same. c.requires.apart (λ j. record { 0 = (sym same j).0 }) (λ j. (sym same j).1))
     (λ f h. subst (λ o. IfSome o (λ x. x ≡ c.args.file)) h there)
@@ -59,11 +60,11 @@ came c =
     (subst (λ o. Leaves o c.args.file c.add.new.self c.leave.new.names (counted c.raise.new.counts) (counted c.leave.new.counts)) was c.leave.ensures)
     (place_of_file c.insert.new.self) free updated
 
-pub invariant_of-self-in_default-replaced : goal.invariant_of-self-in_default-replaced
-invariant_of-self-in_default-replaced c = (c.in-Ok-insert.ensures.unique, (shown-AreLinks c.insert.new.self.entries c.in-Ok-insert.ensures.unique _ _ _ (came c)).1)
+pub invariant_of-self-in_default-stood : goal.invariant_of-self-in_default-stood
+invariant_of-self-in_default-stood c = (c.in-Ok-insert.ensures.unique, (shown-AreLinks c.insert.new.self.entries c.in-Ok-insert.ensures.unique _ _ _ (came c)).1)
 
-pub returns-in_default-replaced-clause-ok : goal.returns-in_default-replaced-clause-ok
-returns-in_default-replaced-clause-ok c =
+pub returns-in_default-stood-clause-ok : goal.returns-in_default-stood-clause-ok
+returns-in_default-stood-clause-ok c =
     (shown-AreLinks c.insert.new.self.entries c.in-Ok-insert.ensures.unique _ _ _ (came c)).0
     ∙ ap (λ m. insert (remove m (c.args.dir.0, c.args.name.now)) (c.args.to_dir.0, c.args.to_name.now) c.args.file) c.self.view_is
 
@@ -81,7 +82,8 @@ moved c =
     let is_key = c.key_of-key.ensures.key ∙ ap (key_of c.args.to_dir.0) c.bytes.ensures.bytes in
     let was = c.in-Ok-insert.ensures.old ∙ c.in_ok-reserve.ensures.entries.2 c.args.file.0 in
     let are_now = alike-AreLinks links (place_of_file i.places) i.names (counted i.counts) c.self.invariant.1 (place_of_file c.reserve.new.self) i.names (counted i.counts) c.in_ok-reserve.ensures.entries.2 c.self.invariant.1.are_named (λ d. refl) in
-    let stood = sym (c.find-replaced.ensures links are_now.are_places are_now.are_named) ∙ c.in-Some.is in
+    let is_replaced = subst (λ m. IfSome (get m to) (λ u. c.args.replaced ≡ Some u)) (sym c.self.view_is) c.requires.replaced in
+    let stood = sym (c.standing-stood.ensures links are_now.are_places is_replaced) ∙ c.in-Some.is in
     replaced-AreLinks links (place_of_file i.places) i.names (counted i.counts) c.self.invariant.1 from to c.args.file c.add.new.self c.leave.new.names (counted c.raise.new.counts) (counted c.leave.new.counts)
     (λ same. c.requires.apart (λ j. record { 0 = (sym same j).0 }) (λ j. (sym same j).1))
     (λ f h. subst (λ o. IfSome o (λ x. x ≡ c.args.file)) h there)
