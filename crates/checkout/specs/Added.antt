@@ -66,6 +66,17 @@ abbrev pub AreNamed : FinMap link_cmp FileId → Names → Type 0
 AreNamed links names =
     (dir : ℕ) (name : List ℕ) (file : FileId) → get links (dir, name) ≡ Some file → IsNamed names dir name file.0
 
+-- the index has the file of each link, and nothing else: what is at a key is the file of a link whose place has this
+-- key, what is under a name is the file of the link there, and no file is in both for one place
+pub record AreNamesOf (links : FinMap link_cmp FileId) (names : Names) : Type 0 where
+  pub each : AreNamed links names
+  pub keyed : (key file : ℕ) → at_key names.keys key ≡ Some file →
+      (dir : ℕ) × (name : List ℕ) × (get links (dir, name) ≡ Some (record { 0 = file })) × (key_of dir name ≡ key)
+  pub others : (dir : ℕ) (name : List ℕ) (file : FileId) → get names.others (dir, name) ≡ Some file →
+      get links (dir, name) ≡ Some file
+  pub once : (dir : ℕ) (name : List ℕ) (file : FileId) → get names.others (dir, name) ≡ Some file →
+      at_key names.keys (key_of dir name) ≡ Some file.0 → ⊥
+
 -- 1 if the link stands in the directory, else 0
 abbrev pub one_in : ℕ → (ℕ × List ℕ) × FileId → ℕ
 one_in dir link = if link.0.0 == dir then 1 else 0
@@ -90,5 +101,5 @@ AreCounts links counts = (dir : ℕ) → counts dir ≡ count_in dir links
 pub record AreLinks (links : FinMap link_cmp FileId) (places : ℕ → Option AddedPlace) (names : Names)
     (counts : ℕ → ℕ) : Type 0 where
   pub are_places : ArePlacesOf links places
-  pub are_named : AreNamed links names
+  pub are_names : AreNamesOf links names
   pub are_counts : AreCounts links counts

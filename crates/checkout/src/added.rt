@@ -9,7 +9,7 @@ ghost use Rattle.key_map.specs.Keys.{key_of};
 ghost use Rattle.manifest.specs.Tree.{link_cmp};
 ghost use Rattle.std.specs.FinMap.{FinMap};
 ghost use Rattle.eden_base.specs.declared.number.FileId.{FileId};
-ghost use Rattle.checkout.specs.Added.{counted, gives, place_of_file, stands, AreNamed, ArePlacesOf, Removes};
+ghost use Rattle.checkout.specs.Added.{counted, gives, place_of_file, stands, AreNamesOf, ArePlacesOf, Removes};
 
 mod names;
 
@@ -165,7 +165,8 @@ impl Added {
     }
 
     /// Lets `to_name` in `to_dir` give `file`. If an added link stands there, it gives `replaced`, and is replaced. Removes
-    /// the link under `name` in `dir`, if one was added there. If memory is refused, nothing changes.
+    /// the link under `name` in `dir`, if one was added there: the only one that gives `file`. If memory is refused,
+    /// nothing changes.
     pub fn rename(
         &mut self,
         alloc: Global,
@@ -238,18 +239,14 @@ fn find(
 ) -> Option<FileId>
     requires key { key ≡ key_of dir.0 name.now }
     ensures { (links : FinMap link_cmp FileId) → ArePlacesOf links (place_of_file places.now)
-        → AreNamed links names.now → result ≡ get links (dir.0, name.now) }
+        → AreNamesOf links names.now → result ≡ get links (dir.0, name.now) }
 {
     if let Some(file) = names.at_key(key) {
         if stands(places, file, dir, name) {
             return Some(FileId(file));
         }
     }
-    let file = names.other(dir, name)?;
-    if stands(places, file.0, dir, name) {
-        return Some(file);
-    }
-    None
+    names.other(dir, name)
 }
 
 /// Returns `file`, if there is one and its link stands under `name` in `dir`.

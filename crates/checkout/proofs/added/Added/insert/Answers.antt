@@ -4,14 +4,14 @@ use Rattle.std.specs.FinMap.{get, insert}
 use Rattle.key_map.specs.Keys.{key_of}
 use Rattle.checkout.specs.Added.{counted, gives, links_of, place_of_file, AreLinks}
 use Rattle.checkout.proofs.AddedLinks.{added-AreLinks, alike-AreLinks, shown-AreLinks}
-use Rattle.checkout.proofs.AddedNames.{adds-at, alike-AreNamed}
+use Rattle.checkout.proofs.AddedNames.{adds-at, alike-AreNamesOf}
 use Rattle.checkout.proofs.AddedPlaces.{no_place}
 use Rattle.checkout.proofs.added.Added.insert.Goals as goal
 
 kept-in_err-raise : (c : goal.Joined-own-2) → AreLinks (links_of c.self.inside.places.entries) (place_of_file c.reserve.new.self) c.self.inside.names (counted c.raise.new.counts)
 kept-in_err-raise c =
     let i = c.self.inside in
-    alike-AreLinks (links_of i.places.entries) (place_of_file i.places) i.names (counted i.counts) c.self.invariant.1 (place_of_file c.reserve.new.self) i.names (counted c.raise.new.counts) c.in_ok-reserve.ensures.entries.2 c.self.invariant.1.are_named (λ d. let now = c.in_err-raise.ensures d in omega arith)
+    alike-AreLinks (links_of i.places.entries) (place_of_file i.places) i.names (counted i.counts) c.self.invariant.1 (place_of_file c.reserve.new.self) i.names (counted c.raise.new.counts) c.in_ok-reserve.ensures.entries.2 c.self.invariant.1.are_names (λ d. let now = c.in_err-raise.ensures d in omega arith)
 
 pub invariant_of-self-in_err-raise : goal.invariant_of-self-in_err-raise
 invariant_of-self-in_err-raise c = (c.in_ok-reserve.ensures.unique, (shown-AreLinks c.reserve.new.self.entries c.in_ok-reserve.ensures.unique _ _ _ (kept-in_err-raise c)).1)
@@ -25,7 +25,7 @@ kept-in_default : (c : goal.Joined-own-3) → AreLinks (links_of c.self.inside.p
 kept-in_default c =
     let i = c.self.inside in
     alike-AreLinks (links_of i.places.entries) (place_of_file i.places) i.names (counted i.counts) c.self.invariant.1 (place_of_file c.reserve.new.self) c.add.new.self (counted c.lower.new.counts) c.in_ok-reserve.ensures.entries.2
-    (alike-AreNamed (links_of i.places.entries) i.names c.add.new.self c.in_default.ensures.keys c.in_default.ensures.others c.self.invariant.1.are_named)
+    (alike-AreNamesOf (links_of i.places.entries) i.names c.add.new.self c.in_default.ensures.keys c.in_default.ensures.others c.self.invariant.1.are_names)
     (λ d. let up = c.in_ok-raise.ensures d in let down = c.lower.ensures d in omega arith)
 
 pub invariant_of-self-in_default : goal.invariant_of-self-in_default

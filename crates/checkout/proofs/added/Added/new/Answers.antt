@@ -9,7 +9,7 @@ use Rattle.checkout.proofs.added.Added.new.Goals as goal
 
 pub invariant_of-result : goal.invariant_of-result
 invariant_of-result c =
-    let are = none-AreLinks (λ q. lookup (nat_eq q) c.new.result.entries) c.new-2.result (counted c.new-3.result) (λ q. ap (lookup (nat_eq q)) c.new.ensures.empty) (λ d. ap (λ es. option_map_or (λ n. n) (lookup (nat_eq d) es) 0) c.new-3.ensures.empty) in
+    let are = none-AreLinks (λ q. lookup (nat_eq q) c.new.result.entries) c.new-2.result (counted c.new-3.result) (λ q. ap (lookup (nat_eq q)) c.new.ensures.empty) c.new-2.ensures.keys c.new-2.ensures.others (λ d. ap (λ es. option_map_or (λ n. n) (lookup (nat_eq d) es) 0) c.new-3.ensures.empty) in
     (c.new.ensures.unique, (shown-AreLinks c.new.result.entries c.new.ensures.unique empty c.new-2.result (counted c.new-3.result) are).1)
 
 pub returns : goal.returns

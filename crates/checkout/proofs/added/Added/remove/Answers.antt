@@ -13,11 +13,11 @@ use Rattle.checkout.proofs.added.Added.remove.Goals as goal
 pub returns-in_err-file-clause-links : goal.returns-in_err-file-clause-links
 returns-in_err-file-clause-links c =
     let i = c.self.inside in
-    let none = sym (c.in_err-file.ensures (links_of i.places.entries) c.self.invariant.1.are_places c.self.invariant.1.are_named) in
+    let none = sym (c.in_err-file.ensures (links_of i.places.entries) c.self.invariant.1.are_places c.self.invariant.1.are_names) in
     sym (removed_nothing link_cmp_total link_cmp-same c.args.self.now (c.args.dir.0, c.args.name.now) (ap (λ m. get m (c.args.dir.0, c.args.name.now)) (sym c.self.view_is) ∙ none))
 
 there : (c : goal.Joined-remove) → get (links_of c.self.inside.places.entries) (c.args.dir.0, c.args.name.now) ≡ Some c.in_ok-file.file
-there c = sym (c.in_ok-file.ensures (links_of c.self.inside.places.entries) c.self.invariant.1.are_places c.self.invariant.1.are_named)
+there c = sym (c.in_ok-file.ensures (links_of c.self.inside.places.entries) c.self.invariant.1.are_places c.self.invariant.1.are_names)
 
 left : (c : goal.Joined-remove) → AreLinks (remove (links_of c.self.inside.places.entries) (c.args.dir.0, c.args.name.now)) (place_of_file c.remove-2.new.self) c.remove.new.self (counted c.lower.new.counts)
 left c =

@@ -5,13 +5,13 @@ use Rattle.eden_base.specs.declared.number.FileId.{FileId}
 use Rattle.key_map.specs.Keys.{key_of}
 use Rattle.checkout.specs.Added.{counted, links_of, place_of_file, AreLinks}
 use Rattle.checkout.proofs.AddedLinks.{alike-AreLinks, came-AreLinks, replaced-AreLinks, shown-AreLinks, Leaves}
-use Rattle.checkout.proofs.AddedNames.{adds-at, alike-AreNamed, removes-at}
+use Rattle.checkout.proofs.AddedNames.{adds-at, alike-AreNamesOf, removes-at}
 use Rattle.checkout.proofs.added.Added.rename.Goals as goal
 
 kept-in_err-raise : (c : goal.Joined-own-2) → AreLinks (links_of c.self.inside.places.entries) (place_of_file c.reserve.new.self) c.self.inside.names (counted c.raise.new.counts)
 kept-in_err-raise c =
     let i = c.self.inside in
-    alike-AreLinks (links_of i.places.entries) (place_of_file i.places) i.names (counted i.counts) c.self.invariant.1 (place_of_file c.reserve.new.self) i.names (counted c.raise.new.counts) c.in_ok-reserve.ensures.entries.2 c.self.invariant.1.are_named (λ d. let now = c.in_err-raise.ensures d in omega arith)
+    alike-AreLinks (links_of i.places.entries) (place_of_file i.places) i.names (counted i.counts) c.self.invariant.1 (place_of_file c.reserve.new.self) i.names (counted c.raise.new.counts) c.in_ok-reserve.ensures.entries.2 c.self.invariant.1.are_names (λ d. let now = c.in_err-raise.ensures d in omega arith)
 
 pub invariant_of-self-in_err-raise : goal.invariant_of-self-in_err-raise
 invariant_of-self-in_err-raise c = (c.in_ok-reserve.ensures.unique, (shown-AreLinks c.reserve.new.self.entries c.in_ok-reserve.ensures.unique _ _ _ (kept-in_err-raise c)).1)
@@ -25,7 +25,7 @@ kept-in_default : (c : goal.Joined-own-3) → AreLinks (links_of c.self.inside.p
 kept-in_default c =
     let i = c.self.inside in
     alike-AreLinks (links_of i.places.entries) (place_of_file i.places) i.names (counted i.counts) c.self.invariant.1 (place_of_file c.reserve.new.self) c.add.new.self (counted c.lower.new.counts) c.in_ok-reserve.ensures.entries.2
-    (alike-AreNamed (links_of i.places.entries) i.names c.add.new.self c.in_default.ensures.keys c.in_default.ensures.others c.self.invariant.1.are_named)
+    (alike-AreNamesOf (links_of i.places.entries) i.names c.add.new.self c.in_default.ensures.keys c.in_default.ensures.others c.self.invariant.1.are_names)
     (λ d. let up = c.in_ok-raise.ensures d in let down = c.lower.ensures d in omega arith)
 
 pub invariant_of-self-in_default : goal.invariant_of-self-in_default
@@ -47,7 +47,7 @@ came c =
     let updated = λ (q : ℕ). c.in-Ok-insert.ensures.updates.0 q ∙ ap (cond (nat_eq c.args.file.0 q) _) (c.in_ok-reserve.ensures.entries.2 q) ∙ ap (λ w. cond (nat_eq c.args.file.0 q) w (place_of_file i.places q)) own in
     let is_key = c.key_of-key.ensures.key ∙ ap (key_of c.args.to_dir.0) c.bytes.ensures.bytes in
     let was = c.in-Ok-insert.ensures.old ∙ c.in_ok-reserve.ensures.entries.2 c.args.file.0 in
-    let are_now = alike-AreLinks links (place_of_file i.places) i.names (counted i.counts) c.self.invariant.1 (place_of_file c.reserve.new.self) i.names (counted i.counts) c.in_ok-reserve.ensures.entries.2 c.self.invariant.1.are_named (λ d. refl) in
+    let are_now = alike-AreLinks links (place_of_file i.places) i.names (counted i.counts) c.self.invariant.1 (place_of_file c.reserve.new.self) i.names (counted i.counts) c.in_ok-reserve.ensures.entries.2 c.self.invariant.1.are_names (λ d. refl) in
     let is_replaced = subst (λ m. IfSome (get m to) (λ u. c.args.replaced ≡ Some u)) (sym c.self.view_is) c.requires.replaced in
     let free = sym (c.standing-stood.ensures links are_now.are_places is_replaced) ∙ c.in_default-stood.is in
     came-AreLinks links (place_of_file i.places) i.names (counted i.counts) c.self.invariant.1 from to c.args.file c.add.new.self c.leave.new.names (counted c.raise.new.counts) (counted c.leave.new.counts)
@@ -81,7 +81,7 @@ moved c =
     let updated = λ (q : ℕ). c.remove-2.ensures.updates.0 q ∙ ap (cond (nat_eq c.in-Some.other.0 q) None) (c.in-Ok-insert.ensures.updates.0 q ∙ ap (cond (nat_eq c.args.file.0 q) _) (c.in_ok-reserve.ensures.entries.2 q) ∙ ap (λ w. cond (nat_eq c.args.file.0 q) w (place_of_file i.places q)) own) in
     let is_key = c.key_of-key.ensures.key ∙ ap (key_of c.args.to_dir.0) c.bytes.ensures.bytes in
     let was = c.in-Ok-insert.ensures.old ∙ c.in_ok-reserve.ensures.entries.2 c.args.file.0 in
-    let are_now = alike-AreLinks links (place_of_file i.places) i.names (counted i.counts) c.self.invariant.1 (place_of_file c.reserve.new.self) i.names (counted i.counts) c.in_ok-reserve.ensures.entries.2 c.self.invariant.1.are_named (λ d. refl) in
+    let are_now = alike-AreLinks links (place_of_file i.places) i.names (counted i.counts) c.self.invariant.1 (place_of_file c.reserve.new.self) i.names (counted i.counts) c.in_ok-reserve.ensures.entries.2 c.self.invariant.1.are_names (λ d. refl) in
     let is_replaced = subst (λ m. IfSome (get m to) (λ u. c.args.replaced ≡ Some u)) (sym c.self.view_is) c.requires.replaced in
     let stood = sym (c.standing-stood.ensures links are_now.are_places is_replaced) ∙ c.in-Some.is in
     replaced-AreLinks links (place_of_file i.places) i.names (counted i.counts) c.self.invariant.1 from to c.args.file c.add.new.self c.leave.new.names (counted c.raise.new.counts) (counted c.leave.new.counts)
