@@ -1,5 +1,10 @@
 pub mod AboveItself
 pub mod AboveLaws
+pub mod AddedCounts
+pub mod AddedLinks
+pub mod AddedListing
+pub mod AddedNames
+pub mod AddedPlaces
 pub mod AmongLinks
 pub mod AroundPaths
 pub mod AroundWays
@@ -21,7 +26,6 @@ pub mod ClimbLaws
 pub mod ColourLaws
 pub mod CreateLaws
 pub mod CutLaws
-pub mod DirLaws
 pub mod FilesFrom
 pub mod FilterLaws
 pub mod FirstBadLaws
@@ -42,7 +46,6 @@ pub mod MadeLemmas
 pub mod MadeRise
 pub mod MadeSearch
 pub mod MarkLaws
-pub mod MovedDirs
 pub mod NoneBadLaws
 pub mod OneList
 pub mod OverlayCreate

@@ -53,6 +53,14 @@ module _ (m : Manifest) (made : FinMap nat_cmp MadeFile) (added : FinMap link_cm
     pub added_not : get added (to_dir.0, to_name) ≡ Some file → ⊥
     added_not k = other_here (child_added m made added gone lost next is.parts to_dir to_name file k)
 
+    -- an added link there gives what is replaced
+    pub added_stood : IfSome (get added (to_dir.0, to_name)) (λ u. replaced ≡ Some u)
+    added_stood =
+        elim (get added (to_dir.0, to_name)) as (λ o. get added (to_dir.0, to_name) ≡ o → IfSome o (λ u. replaced ≡ Some u)) [
+          | None ↦ λ _. tt
+          | Some u ↦ λ k. sym stood ∙ sym (ap (λ (t : Tree). child_of t to_dir to_name) view) ∙ child_added m made added gone lost next is.parts to_dir to_name u k
+        ] refl
+
     module _ (fits : IfSome replaced (λ u. can_replace self file u ≡ true)) (not_above : IsAtOrAbove self file to_dir → ⊥)
         (is_dir : kind_of self to_dir ≡ Some Dir) (is_reached : is_unlinked self to_dir ≡ false) where
       fits_here : (u : FileId) → child_of tree to_dir to_name ≡ Some u → is_full_dir tree u ≡ false

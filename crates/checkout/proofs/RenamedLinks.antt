@@ -8,7 +8,7 @@ use Rattle.checkout.specs.ChangedTree.{attr_of, is_linked}
 use Rattle.checkout.specs.RenamedTree.{renamed}
 use Rattle.checkout.proofs.AttrLaws.{told}
 use Rattle.checkout.proofs.LinkLaws.{child_from_linked, linked_from_child}
-use Rattle.checkout.proofs.MovedDirs.{same_or_other}
+use Rattle.checkout.proofs.AddedPlaces.{same_or_other}
 use Rattle.checkout.proofs.RenameLaws.{child_of-renamed, child_of-renamed_cases, no_place, place_stays}
 
 module _ (tree : Tree) (dir : FileId) (name : List ℕ) (to_dir : FileId) (to_name : List ℕ) (file : FileId) (there : child_of tree dir name ≡ Some file) (is : IsTree tree) where

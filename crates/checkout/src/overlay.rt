@@ -46,7 +46,7 @@ pub fn has_links(manifest: &Manifest, added: &Added, lost: &Tally, dir: FileId) 
     ensures { result ≡ (list_any (λ link. link.0.0 == dir.0) (entries added.now)
         || nat_lt (count_of lost.now dir.0) (kids_in dir.0 manifest.now.lines)) }
 {
-    added.links().has_links(dir) || lost.count(dir.0) < manifest.kids(dir)
+    added.has_links(dir) || lost.count(dir.0) < manifest.kids(dir)
 }
 
 /// Returns the directory in which a link gives the file, or none if no link gives it.

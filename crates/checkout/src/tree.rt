@@ -213,7 +213,7 @@ impl Tree {
     pub fn child(&self, dir: FileId, name: &Name) -> Option<FileId>
         ensures child { result ≡ child_of self.now dir name.now }
     {
-        if let Some(file) = self.added.links().get(dir, name) {
+        if let Some(file) = self.added.get(dir, name) {
             return Some(file);
         }
         let file = self.manifest.child(dir, name.bytes())?;
@@ -262,10 +262,9 @@ impl Tree {
     {
         let made = self.made.list(self.alloc)?;
         let mut links = Vec::new(self.alloc);
-        let added = self.added.links();
-        added.list(self.alloc, &mut links)?;
+        self.added.list(self.alloc, &mut links)?;
         self.gone
-            .list(self.alloc, self.manifest.lines(), added, &mut links)?;
+            .list(self.alloc, self.manifest.lines(), &self.added, &mut links)?;
         overlay::leave_out_same(&self.manifest, &mut links);
         sort(&mut links);
         Ok(Changes {
@@ -352,7 +351,7 @@ impl Tree {
         ensures is_tree { IsTree self.new }
     {
         self.added
-            .rename(self.alloc, dir, name, to_dir, to_name, file)?;
+            .rename(self.alloc, dir, name, to_dir, to_name, file, replaced)?;
         let (gone, lost) = (&mut self.gone, &mut self.lost);
         overlay::lose(&self.manifest, gone, lost, Some(file));
         overlay::lose(&self.manifest, gone, lost, replaced);

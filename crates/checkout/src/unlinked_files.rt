@@ -4,8 +4,9 @@ ghost use Rattle.std.specs.List.{IsDistinct};
 ghost use Rattle.checkout.specs.UnlinkedFiles.{is_gone};
 ghost use Rattle.checkout.specs.Listing.{gone_changes, HaveLines};
 
+use crate::added::Added;
 use eden_base::{FileId, NoMemory};
-use manifest::{Line, LinkChange, Links, Tally};
+use manifest::{Line, LinkChange, Tally};
 use std::alloc::Global;
 use std::marker::Model;
 
@@ -64,7 +65,7 @@ impl UnlinkedFiles {
         &self,
         alloc: Global,
         lines: &[Line],
-        added: &Links,
+        added: &Added,
         links: &mut Vec<LinkChange>,
     ) -> Result<(), NoMemory>
         requires lines { HaveLines lines.now self.now.files }

@@ -6,6 +6,7 @@ pub mod InOrder
 pub mod NamedLaws
 pub mod OneImage
 pub mod PlaceLaws
+pub mod RaiseRefusals
 pub mod RaisedLaws
 pub mod RaisingLaws
 pub mod RightHeader

@@ -1,13 +1,20 @@
 -- The directory that is kept for the file.
-use Rattle.std.proofs.Common.{ℕ, List, false, nat_eq, MatchOption, Some, sym, subst, ◌≡◌, ◌∙◌}
-use Rattle.std.specs.HashMap.{get as dir_at}
+use Rattle.std.proofs.Common.{◌≡◌, false, MatchOption, Some, sym, ap, subst, ◌∙◌}
 use Rattle.std.specs.FinMap.{get}
-use Rattle.checkout.specs.Added.{gives}
-use Rattle.checkout.proofs.DirLaws.{dir_of-is}
+use Rattle.std.specs.Option.{option_copied}
+use Rattle.checkout.specs.Added.{gives, links_of, place_of_file}
+use Rattle.checkout.proofs.AddedPlaces.{gives-places, key}
 use Rattle.checkout.proofs.added.Added.dir_of.Goals as goal
+
+pub returns-in_err-place : goal.returns-in_err-place
+returns-in_err-place c =
+    let places = c.self.inside.places in
+    let links = links_of places.entries in
+    let none = sym c.get.ensures.value ∙ ap option_copied c.in_err-place.was in
+    let all = gives-places links (place_of_file places) c.self.invariant.1.are_places c.args.file in
+    rw (c.from_residual.ensures, ← c.self.view_is) (subst (λ o. MatchOption o (gives links c.args.file ≡ false) (λ p. get links (key p) ≡ Some c.args.file)) none all)
 
 pub returns : goal.returns
 returns c =
-    let i = c.self.inside in
-    let is = dir_of-is i.links (dir_at nat_eq i.dirs) c.args.file c.self.invariant in
-    rw (← c.self.view_is) (subst (λ o. MatchOption o (gives i.links c.args.file ≡ false) (λ dir. (name : List ℕ) × (get i.links (dir.0, name) ≡ Some c.args.file))) (sym (c.copied.ensures ∙ c.get.ensures.value)) is)
+    let there = sym c.get.ensures.value ∙ ap option_copied c.in_ok-place.was in
+    rw (← c.self.view_is) (c.in_ok-place.place.now.name, c.self.invariant.1.are_places.no_others c.args.file.0 c.in_ok-place.place.now there)

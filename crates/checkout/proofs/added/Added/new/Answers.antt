@@ -1,12 +1,16 @@
--- Neither end has a link.
-use Rattle.std.proofs.Common.{ap, nat_eq, sym, subst}
-use Rattle.std.specs.HashMap.{get as dir_at}
+-- No part has a link.
+use Rattle.std.proofs.Common.{nat_eq, ap}
+use Rattle.std.specs.FinMap.{empty}
 use Rattle.std.specs.Map.{lookup}
-use Rattle.checkout.specs.Added.{AreDirsOf}
-use Rattle.checkout.proofs.DirLaws.{none-AreDirsOf}
+use Rattle.std.specs.Option.{option_map_or}
+use Rattle.checkout.specs.Added.{counted, links_of}
+use Rattle.checkout.proofs.AddedLinks.{none-AreLinks, shown-AreLinks}
 use Rattle.checkout.proofs.added.Added.new.Goals as goal
 
 pub invariant_of-result : goal.invariant_of-result
 invariant_of-result c =
-    let none = none-AreDirsOf (dir_at nat_eq c.new-2.result) (λ q. ap (lookup (nat_eq q)) c.new-2.ensures.empty) in
-    subst (λ links. AreDirsOf links (dir_at nat_eq c.new-2.result)) (sym c.new.ensures) none
+    let are = none-AreLinks (λ q. lookup (nat_eq q) c.new.result.entries) c.new-2.result (counted c.new-3.result) (λ q. ap (lookup (nat_eq q)) c.new.ensures.empty) c.new-2.ensures.keys c.new-2.ensures.others (λ d. ap (λ es. option_map_or (λ n. n) (lookup (nat_eq d) es) 0) c.new-3.ensures.empty) in
+    (c.new.ensures.unique, (shown-AreLinks c.new.result.entries c.new.ensures.unique empty c.new-2.result (counted c.new-3.result) are).1)
+
+pub returns : goal.returns
+returns c = ap links_of c.new.ensures.empty

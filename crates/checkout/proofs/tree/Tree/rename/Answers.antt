@@ -1,7 +1,7 @@
 -- The file is moved, or nothing is changed.
 use Rattle.checkout.specs.UnlinkedFiles.{is_gone}
 use Rattle.manifest.specs.Tally.{count_of}
-use Rattle.checkout.proofs.RenameSteps.{added_is, added_not, added_once, rename-step}
+use Rattle.checkout.proofs.RenameSteps.{added_is, added_not, added_once, added_stood, rename-step}
 use Rattle.checkout.proofs.tree.Tree.rename.Goals as goal
 
 pub rename-requires-clause-there : goal.rename-requires-clause-there
@@ -18,6 +18,11 @@ pub rename-requires-clause-other : goal.rename-requires-clause-other
 rename-requires-clause-other c =
     let i = c.self.inside in
     added_not i.manifest i.made i.added (is_gone i.gone) (count_of i.lost) i.next_file c.self.invariant.0 _ c.self.view_is c.args.dir c.args.name.now c.args.to_dir c.args.to_name.now c.args.file c.requires.there c.args.replaced c.requires.replaced c.requires.other
+
+pub rename-requires-clause-replaced : goal.rename-requires-clause-replaced
+rename-requires-clause-replaced c =
+    let i = c.self.inside in
+    added_stood i.manifest i.made i.added (is_gone i.gone) (count_of i.lost) i.next_file c.self.invariant.0 _ c.self.view_is c.args.dir c.args.name.now c.args.to_dir c.args.to_name.now c.args.file c.requires.there c.args.replaced c.requires.replaced c.requires.other
 
 pub invariant_of-self-2 : goal.invariant_of-self-2
 invariant_of-self-2 c =
