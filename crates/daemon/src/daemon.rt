@@ -21,7 +21,7 @@ use broker_core::Broker;
 use eden_base::{ClaimFault, DaemonId, NoMemory};
 use fuse_wire::Request;
 use manifest::Manifest;
-use map_image::ImageReader;
+use map_image::PartReader;
 use std::alloc::Global;
 use std::marker::Model;
 use takeover_core::{DrainFault, Heard, Message, Node, Phase, Versions};
@@ -32,7 +32,7 @@ use takeover_core::{DrainFault, Heard, Message, Node, Phase, Versions};
 pub struct Daemon {
     node: Node,
     server: Option<Server>,
-    reading: Option<ImageReader>,
+    reading: Option<PartReader>,
 }
 
 impl Model for Daemon {
@@ -93,7 +93,7 @@ impl Daemon {
     }
 
     /// Returns the reader of the parts that came before the next one, if the daemon waits for another part.
-    pub(crate) fn reading(&self) -> Option<&ImageReader>
+    pub(crate) fn reading(&self) -> Option<&PartReader>
         ensures reading { option_copied result ≡ self.now.reading }
     {
         self.reading.as_ref()
@@ -208,8 +208,8 @@ impl Daemon {
 
     /// Returns the `Turn` that a message of another daemon leads to. The message is no part that others follow:
     /// `hear_part` takes those. Data to hand over is made of what the daemon serves. Data handed to the daemon is read,
-    /// and restored over `manifest`. The last part is read by a copy of the reader of the parts before. So the same
-    /// part may be heard again where memory is refused.
+    /// and restored over `manifest`. Before the last part the parts that came are read once more, from their bytes. So
+    /// the last part may be heard again where memory is refused.
     pub fn hear(
         &self,
         alloc: Global,
@@ -276,8 +276,8 @@ impl Daemon {
         reaction
     }
 
-    /// Hears a part that other parts follow, and returns the reaction. The first part gets a new reader, which reads
-    /// each later part in place: no reader is copied.
+    /// Hears a part that other parts follow, and returns the reaction. The first part gets a new reader, which
+    /// reads each later part in place, and keeps the bytes of each.
     pub fn hear_part(&mut self, alloc: Global, message: &Message) -> Result<Reaction, NoMemory>
         requires part { IsTrue (brings_part (heard self.old.node (Hear message.now))) }
         ensures hears { IfOk result (λ reaction. (manifest : Manifest) (limit : ℕ) →

@@ -12,7 +12,7 @@ use crate::turn::{Reaction, Turn};
 use eden_base::NoMemory;
 use manifest::Manifest;
 use map_codec::{HandoverFault, take_over, take_over_read};
-use map_image::{ImageFault, ImageReader};
+use map_image::{ImageFault, ImageReader, PartReader};
 use std::alloc::Global;
 use takeover_core::{Message, Node};
 
@@ -27,8 +27,8 @@ pub(crate) fn bytes_of(message: &Message) -> &[u8]
     }
 }
 
-/// Reads `bytes` after all that `reader` read before, and returns whether an image may begin with the whole.
-pub(crate) fn feed(reader: &mut ImageReader, bytes: &[u8]) -> Result<bool, NoMemory>
+/// Reads `bytes` after all that `reader` took before, and returns whether an image may begin with the whole.
+pub(crate) fn feed(reader: &mut PartReader, bytes: &[u8]) -> Result<bool, NoMemory>
     ensures reads { OnOk result (reader.new ≡ reader.old ++ bytes.now) }
     ensures fits { IfOk result (λ fits. fits ≡ is_none (standing_fault (reader.old ++ bytes.now))) }
     ensures unchanged { OnErr result (reader.new ≡ reader.old) }
@@ -41,17 +41,29 @@ pub(crate) fn feed(reader: &mut ImageReader, bytes: &[u8]) -> Result<bool, NoMem
 }
 
 /// Reads `bytes`, the first part, with a new reader. Returns the reader, and whether an image may begin with `bytes`.
-pub(crate) fn read_first(alloc: Global, bytes: &[u8]) -> Result<(ImageReader, bool), NoMemory>
+pub(crate) fn read_first(alloc: Global, bytes: &[u8]) -> Result<(PartReader, bool), NoMemory>
     ensures reads { IfOk result (λ read. read.0 ≡ bytes.now) }
     ensures fits { IfOk result (λ read. read.1 ≡ is_none (standing_fault bytes.now)) }
 {
-    let mut reader = ImageReader::new(alloc)?;
+    let mut reader = PartReader::new(alloc);
     let fits = feed(&mut reader, bytes)?;
     Ok((reader, fits))
 }
 
-/// Reads `bytes`, the last part, with a copy of the reader of the parts before; a part at position 1 gets a new reader.
-/// Returns that reader, and whether an image may begin with all that it read.
+/// Reads the parts before the one at `position`, if there are any, with a reader that keeps what it reads.
+fn read_before(alloc: Global, daemon: &Daemon, position: u32) -> Result<ImageReader, NoMemory>
+    ensures reads { IfOk result (λ reader. reader ≡ read_before position daemon.now) }
+{
+    if position != 1 {
+        if let Some(reader) = daemon.reading() {
+            return reader.read();
+        }
+    }
+    ImageReader::new(alloc)
+}
+
+/// Reads `bytes`, the last part, after the parts before. Returns the reader, and whether an image may begin with all
+/// that it read.
 fn read_last(
     alloc: Global,
     daemon: &Daemon,
@@ -62,14 +74,12 @@ fn read_last(
     ensures fits { IfOk result (λ read.
         read.1 ≡ is_none (standing_fault (read_before position daemon.now ++ bytes.now))) }
 {
-    if position != 1 {
-        if let Some(reader) = daemon.reading() {
-            let mut reader = reader.copy()?;
-            let fits = feed(&mut reader, bytes)?;
-            return Ok((reader, fits));
-        }
+    let mut reader = read_before(alloc, daemon, position)?;
+    match reader.feed(bytes) {
+        Ok(()) => Ok((reader, true)),
+        Err(ImageFault::NoMemory) => Err(NoMemory),
+        Err(_) => Ok((reader, false)),
     }
-    read_first(alloc, bytes)
 }
 
 /// Restores the image in `bytes`, and holds the result. Where the image cannot be restored, the daemon is gone.

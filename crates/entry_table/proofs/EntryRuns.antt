@@ -12,10 +12,11 @@ use Rattle.eden_base.proofs.NumberTests.{eq-true, eq-false}
 use Rattle.eden_base.proofs.MemberLemmas.{some-same, some-none}
 use Rattle.entry_table.specs.Entries.{stands_at, is_in, entry_of, entry_at, AreNumbers, AreEntries}
 use Rattle.entry_table.specs.Links.{key_of, counted, Files}
-use Rattle.entry_table.specs.Slots.{slots_of, kept_from, files_from, notes_from, AreSlots, Stands, IsIndexed, kid_in, kids_of}
+use Rattle.entry_table.specs.Slots.{held_of, slot_of, slots_of, kept_from, files_from, notes_from, AreSlots, Stands, IsIndexed, kid_in, kids_of}
 use Rattle.entry_table.specs.declared.index.Index.{Index}
 use Rattle.entry_table.specs.declared.index.Link.{Link}
 use Rattle.entry_table.specs.declared.kept.Kept.{Kept}
+use Rattle.entry_table.specs.declared.kept.Entry.{Entry}
 use Rattle.entry_table.specs.declared.maps.Maps.{Maps}
 use Rattle.entry_table.proofs.Changing.{append-extends, new_or_old}
 use Rattle.entry_table.proofs.EntryLemmas.{entry_of-first, numbers-bound, numbers-outside}
@@ -125,6 +126,32 @@ slots-notes (y ∷ es) = slots-notes es
 pub slots-length : (es : List Kept) → length (slots_of es) ≡ length es
 slots-length [] = refl
 slots-length (y ∷ es) = ap suc (slots-length es)
+
+-- the slot of an entry, at the index that the entry has
+pub record IsSlotThere (es : List Kept) (i : ℕ) (slot : ℕ × Option Entry) : Type 0 where
+  pub kept : Kept
+  pub inside : i < length es
+  pub there : kept ≡ get_or es i kept
+  pub is : slot ≡ slot_of kept
+
+slot-there : (es : List Kept) (i : ℕ) (slot : ℕ × Option Entry) → i < length (slots_of es) → slot ≡ get_or (slots_of es) i slot → IsSlotThere es i slot
+slot-there [] i slot h e = absurd (omega arith)
+slot-there (y ∷ es) zero slot h e = record { kept = y; inside = omega arith; there = refl; is = e }
+slot-there (y ∷ es) (suc i) slot h e =
+    let it = slot-there es i slot (omega arith) e in
+    let inside = it.inside in
+    record { kept = it.kept; inside = omega arith; there = it.there; is = it.is }
+
+-- each slot of entries is that of one of them
+pub slot-in : (slots : List (ℕ × Option Entry)) → slots ≡ slots_of (kept_from slots) → (i : ℕ) (slot : ℕ × Option Entry) → i < length slots → slot ≡ get_or slots i slot → IsSlotThere (kept_from slots) i slot
+slot-in slots full i slot h e =
+    slot-there (kept_from slots) i slot (subst (λ (all : List (ℕ × Option Entry)). i < length all) full h)
+    (subst (λ (all : List (ℕ × Option Entry)). slot ≡ get_or all i slot) full e)
+
+-- and it holds that entry's place
+pub place-in : (es : List Kept) (i : ℕ) (slot : ℕ × Option Entry) (entry : Entry) (it : IsSlotThere es i slot) → slot.1 ≡ Some entry → it.kept.place ≡ entry.place
+place-in es i slot entry it held =
+    sym (ap (λ (one : Entry). one.place) (some-same slot.1 entry (held_of it.kept) held (ap (λ (one : ℕ × Option Entry). one.1) it.is)))
 
 -- what holds of each holds of the entry of a number
 pub each-entry : (es : List Kept) (P : Kept → Type 0) (n : ℕ) (kept : Kept) → AllByRecursion P es → entry_of es n ≡ Some kept → P kept

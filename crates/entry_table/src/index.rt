@@ -2,10 +2,9 @@
 ghost use Rattle.std.specs.Prelude.{◌≡◌, ℕ, ◌<◌, ◌^◌, true, List, [], Some, None, IfOk, OnOk, nat_lt, length};
 ghost use Rattle.std.specs.Option.{IfSome, IfNone};
 ghost use Rattle.entry_table.specs.Entries.{AreEntries, entry_at};
-ghost use Rattle.entry_table.specs.Slots.{kept_from, IsSlots, IsIndexed, Stands};
+ghost use Rattle.entry_table.specs.Slots.{kept_from, slots_of, IsSlots, IsIndexed, Stands};
 ghost use Rattle.entry_table.specs.Links.{key_of, latest_at, is_latest, is_latest_in, names_in, is_ready, Unlinks};
 
-use crate::kept::Kept;
 use crate::maps::{Maps, key_of};
 use crate::table::{Slot, held_at};
 use eden_base::{Name, NoMemory, Number, Place};
@@ -39,18 +38,22 @@ impl Index {
         }
     }
 
-    /// Makes the index of `entries`.
-    pub fn of_entries(alloc: Global, entries: &[Kept]) -> Result<Index, NoMemory>
-        requires { (next : ℕ) × AreEntries entries.now next }
-        ensures { IfOk result (IsIndexed entries.now) }
+    /// Makes the index of the entries that stand in `slots`. No slot is empty yet.
+    pub fn of_slots(alloc: Global, slots: &[Slot]) -> Result<Index, NoMemory>
+        requires full { slots.now ≡ slots_of (kept_from slots.now) }
+        requires entries { (next : ℕ) × AreEntries (kept_from slots.now) next }
+        ensures { IfOk result (IsIndexed (kept_from slots.now)) }
     {
         let mut maps = Maps::new(alloc);
-        for kept in entries {
-            let Place::Linked { parent, name } = &kept.place else {
+        for (number, held) in slots {
+            let Some(entry) = held else {
+                unreachable!()
+            };
+            let Place::Linked { parent, name } = &entry.place else {
                 continue;
             };
             let key = key_of(parent.0, name);
-            maps.file(alloc, parent.0, name, key, kept.number.0)?;
+            maps.file(alloc, parent.0, name, key, *number)?;
         }
         Ok(Index { maps, latest: None })
     }

@@ -75,16 +75,16 @@ impl Table {
         }
     }
 
-    /// Makes a table of `entries`, with no file remembered and no note.
+    /// Makes a table of `entries`, with no file remembered and no note. The list of `entries` is freed before memory for
+    /// the index is taken.
     pub fn of_entries(alloc: Global, entries: Vec<Kept>, next: u64) -> Result<Table, NoMemory>
         requires entries { AreEntries entries.items next }
         ensures table { IfOk result (λ table. table
             ≡ record { entries = entries.items; remembered = []; notes = []; next = next; spare = 0 }) }
     {
-        let given = entries.as_slice();
-        let index = Index::of_entries(alloc, given)?;
-        let way = Vec::with_capacity(alloc, given.len())?;
         let slots = slots_of(alloc, entries)?;
+        let index = Index::of_slots(alloc, slots.as_slice())?;
+        let way = Vec::with_capacity(alloc, slots.len())?;
         Ok(Table {
             slots,
             index,
@@ -335,7 +335,6 @@ impl Table {
 /// Puts `entries` into slots, in the same order.
 fn slots_of(alloc: Global, entries: Vec<Kept>) -> Result<Vec<Slot>, AllocError>
     ensures slots { IfOk result (λ slots. slots.items ≡ slots_of entries.items) }
-    ensures len { IfOk result (λ slots. vec_len slots ≡ length entries.items) }
 {
     entries.into_iter().map(slot_of).collect(alloc)
 }

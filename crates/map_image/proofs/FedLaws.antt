@@ -17,7 +17,7 @@ use Rattle.map_image.proofs.WholeLaws.{whole}
 
 -- ---- bytes
 
-AreBytes-append : (first second : List ℕ) → AreBytes first → AreBytes second → AreBytes (first ++ second)
+pub AreBytes-append : (first second : List ℕ) → AreBytes first → AreBytes second → AreBytes (first ++ second)
 AreBytes-append [] second one two i = two i
 AreBytes-append (b ∷ first) second one two zero = one 0
 AreBytes-append (b ∷ first) second one two (suc i) = AreBytes-append first second (λ k. one (suc k)) two i
@@ -68,7 +68,7 @@ still_failed taken piece fault is are = record {
   fails = λ more. ap image_of_bytes (append_assoc taken piece more) ∙ is.fails (piece ++ more);
 }
 
-same_resumed : (old new : Reading) → IsSame old new → (bytes : List ℕ) → resumed old bytes ≡ resumed new bytes
+pub same_resumed : (old new : Reading) → IsSame old new → (bytes : List ℕ) → resumed old bytes ≡ resumed new bytes
 same_resumed old new same bytes =
     at_stage old old.stage bytes refl
     ∙ same_lists old.stage old.entries.items new.entries.items old.made.items new.made.items old.links.items new.links.items bytes same.entries same.made same.links
@@ -101,7 +101,7 @@ not_whole (AtLinks header left) b tail = refl
 taken_gives : (r : Reading) (taken tail : List ℕ) → IsReading taken r tail → image_of_bytes taken ≡ resumed r tail
 taken_gives r taken tail is = ap image_of_bytes (sym (append-nil taken)) ∙ is.goes_on [] ∙ ap (resumed r) (append-nil tail)
 
-whole_or_short : (r : Reading) (stage : Stage) (tail : List ℕ) → r.stage ≡ stage → IsCut r tail → standing (resumed r tail) ≡ None
+pub whole_or_short : (r : Reading) (stage : Stage) (tail : List ℕ) → r.stage ≡ stage → IsCut r tail → standing (resumed r tail) ≡ None
 whole_or_short r AtFront tail is cut = ap standing (cut (ap (λ (s : Stage). is_whole s tail) is))
 whole_or_short r (AtEntries form header left) tail is cut = ap standing (cut (ap (λ (s : Stage). is_whole s tail) is))
 whole_or_short r (AtMade header left) tail is cut = ap standing (cut (ap (λ (s : Stage). is_whole s tail) is))
@@ -198,10 +198,6 @@ pub failed_reader : (old new : Reading) (taken tail piece rest grown : List ℕ)
 failed_reader old new taken tail piece rest grown fault told none is reader are other feeds =
     let reading : IsReading taken old tail = subst (IsReader taken old tail) none reader in
     rw is (failed old taken tail piece told reading are (fed_refused old new tail piece rest told other feeds))
-
-pub same_reader : (old new : Reading) (taken tail again rest : List ℕ) (fault : Option ImageFault) → IsReader taken old tail fault → again ≡ taken → IsSame old new → rest ≡ tail → IsReader again new rest fault
-same_reader old new taken tail again rest None is bytes same kept = rw bytes (unchanged old new taken tail rest is same kept)
-same_reader old new taken tail again rest (Some fault) is bytes same kept = rw bytes is
 
 -- ---- the end
 

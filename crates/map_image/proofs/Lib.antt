@@ -10,6 +10,7 @@ pub mod LongestLaws
 pub mod Loop
 pub mod MemberLaws
 pub mod Members
+pub mod PartReaderLaws
 pub mod PartsLaws
 pub mod Perms
 pub mod ReadingLaws

@@ -24,7 +24,7 @@ last_pushed xs x =
 
 -- ---- what was read stands in front of what is still read
 
-abbrev with_front : {X : Type 0} → List X → Result (List X × List ℕ) ImageFault → Result (List X × List ℕ) ImageFault
+abbrev pub with_front : {X : Type 0} → List X → Result (List X × List ℕ) ImageFault → Result (List X × List ℕ) ImageFault
 with_front front read = read >>= λ x. Ok (front ++ x.0, x.1)
 
 regroup : {X : Type 0} (front : List X) (x : X) (read : Result (List X × List ℕ) ImageFault) → with_front front (read >>= λ y. Ok (x ∷ y.0, y.1)) ≡ with_front (front ++ x ∷ []) read

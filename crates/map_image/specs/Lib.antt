@@ -2,6 +2,7 @@ pub mod Feeding
 pub mod Fit
 pub mod ImageReading
 pub mod ImageText
+pub mod PartReading
 pub mod Parts
 pub mod Usage
 pub mod Versions

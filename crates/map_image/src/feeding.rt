@@ -3,10 +3,18 @@ ghost use Rattle.std.specs.Prelude.{◌≡◌, ◌++◌, IfOk, OnOk};
 ghost use Rattle.map_image.specs.Feeding.{Feeds, IsCut, KnowsParents, OnlyAdds, Reads};
 
 use crate::ImageFault;
-use crate::copying::copied_bytes;
 use crate::reading::Reading;
 use eden_base::NoMemory;
 use std::alloc::Global;
+
+/// Makes a copy of `bytes`.
+fn copied_bytes(alloc: Global, bytes: &[u8]) -> Result<Vec<u8>, NoMemory>
+    ensures { IfOk result (λ copy. copy.items ≡ bytes.now) }
+{
+    let mut copy = Vec::new(alloc);
+    copy.extend_from_slice(bytes)?;
+    Ok(copy)
+}
 
 /// Makes one list of `first` and then `second`.
 fn joined(alloc: Global, first: &[u8], second: &[u8]) -> Result<Vec<u8>, NoMemory>

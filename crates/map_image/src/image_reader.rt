@@ -8,7 +8,6 @@ ghost use Rattle.map_image.specs.ImageReading.{Gives, IsLate, Tells, image_of_by
 ghost use Rattle.map_image.specs.declared.fault.ImageFault.{ImageFault};
 ghost use Rattle.map_image.specs.declared.image.Image.{Image};
 
-use crate::copying::copied_bytes;
 use crate::feeding::feed;
 use crate::reading::Reading;
 use crate::taken::Taken;
@@ -76,20 +75,6 @@ impl ImageReader {
                 }
             },
         }
-    }
-
-    /// Makes a copy of the reader, which took the same bytes.
-    pub fn copy(&self) -> Result<ImageReader, NoMemory>
-        ensures copy { IfOk result (λ copy. copy ≡ self.now) }
-    {
-        let reading = self.reading.copy()?;
-        let tail = copied_bytes(self.reading.alloc, self.tail.as_slice())?;
-        Ok(ImageReader {
-            taken: self.taken.copy(),
-            reading,
-            tail,
-            fault: self.fault,
-        })
     }
 
     /// Returns the image that the bytes are, or their first fault. Takes no memory.

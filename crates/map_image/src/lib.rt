@@ -1,7 +1,6 @@
 //! The image of what a daemon knows of its mount, and its text as bytes.
 #![tactic(auto)]
 
-mod copying;
 mod fault;
 mod feeding;
 mod fit;
@@ -14,6 +13,7 @@ mod list_reader;
 mod measure;
 mod member_reader;
 mod member_writer;
+mod part_reader;
 mod parts;
 mod reader;
 mod reading;
@@ -26,5 +26,6 @@ pub use header::{Header, read_header};
 pub use image::{Entries, Image};
 pub use image_reader::{ImageReader, read};
 pub use image_writer::write;
+pub use part_reader::PartReader;
 pub use parts::{PART_LEN, cut};
 pub use version::{CountWidth, Sending, VersionForm, form_of, is_version};

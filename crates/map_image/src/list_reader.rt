@@ -1,7 +1,7 @@
 //! The lists of an image, read from the front of bytes. They grow as members are read.
 ghost use Rattle.std.specs.Prelude.{◌≡◌, [], ◌∷◌, ◌++◌, IfErr, OnOk};
 ghost use Rattle.map_image.specs.Feeding.{Extends, ReadsIn};
-ghost use Rattle.map_image.specs.ImageReading.{entry_at, made_at, link_at};
+ghost use Rattle.map_image.specs.ImageReading.{entry_at, last_of, made_at, link_at};
 ghost use Rattle.map_image.specs.Usage.{HasParents};
 
 use crate::member_reader::{entry_at, link_at, made_at};
@@ -17,7 +17,7 @@ use std::alloc::Global;
 const SHORTEST_MEMBER: usize = 11;
 
 /// Returns how many of `left` members a part may have.
-pub(crate) fn in_a_part(left: u32) -> usize {
+fn in_a_part(left: u32) -> usize {
     (left as usize).min(PART_LEN / SHORTEST_MEMBER)
 }
 
@@ -37,6 +37,17 @@ fn make_room<T>(list: &mut Vec<T>, left: u32) -> Result<(), ImageFault>
         Ok(()) => Ok(()),
         Err(_refused) => Err(ImageFault::NoMemory),
     }
+}
+
+/// Drops the members of `list` but for the last, if there is one.
+pub(crate) fn keep_last<T: Drop>(list: &mut Vec<T>)
+    ensures last { last_of list.new.items ≡ last_of list.old.items }
+{
+    let Some(last) = list.pop() else {
+        return;
+    };
+    list.clear();
+    list.push_reserved(last);
 }
 
 /// Appends `entry` to `entries`, and its directory, if it has one, to `parents`.

@@ -10,7 +10,7 @@ use std::alloc::Global;
 pub const PART_LEN: usize = 4_096;
 
 /// Copies a part of a text.
-fn copied(alloc: Global, part: &[u8]) -> Result<Bytes, NoMemory>
+pub(crate) fn copied(alloc: Global, part: &[u8]) -> Result<Bytes, NoMemory>
     ensures { IfOk result (λ copy. copy ≡ part.now) }
 {
     match part.to_vec(alloc) {

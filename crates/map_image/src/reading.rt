@@ -1,17 +1,17 @@
 //! What was read of an image, and where reading goes on.
 ghost use Rattle.std.specs.Prelude.{◌≡◌, [], IfOk, OnOk};
 ghost use Rattle.map_image.specs.ImageReading.{Tells};
+ghost use Rattle.map_image.specs.PartReading.{KeepsLast};
 ghost use Rattle.map_image.specs.Feeding.{IsCut, IsCutTo, IsMark, IsSame, KnowsParents, OnlyAdds, Reads, front_at, resumed};
 ghost use Rattle.map_image.specs.declared.reading.Reading.{Reading};
 
-use crate::copying::{copied_entries, copied_links, copied_made, copied_numbers};
 use crate::header::{form_at, header_at, magic_at};
-use crate::list_reader::{in_a_part, more_entries, more_links, more_made};
+use crate::list_reader::{keep_last, more_entries, more_links, more_made};
 use crate::usage::{all_of_use, sorted};
 use crate::{Entries, Header, Image, ImageFault, VersionForm};
 use byte_codec::u32_at;
 use checkout::{Changes, LinkList, Made, MadeList};
-use eden_base::{FileId, NoMemory};
+use eden_base::FileId;
 use entry_table::Kept;
 use manifest::LinkChange;
 use std::alloc::Global;
@@ -248,35 +248,14 @@ impl Reading {
         self.links.truncate(mark.links);
     }
 
-    /// Returns how many entries, made files and changed names a copy gets room for beside those that were read: as many
-    /// as a part may have of the list in which reading stands.
-    fn room_for_a_part(&self) -> (usize, usize, usize) {
-        match self.stage {
-            Stage::AtFront => (0, 0, 0),
-            Stage::AtEntries { left, .. } => (in_a_part(left), 0, 0),
-            Stage::AtMade { left, .. } => (0, in_a_part(left), 0),
-            Stage::AtLinks { left, .. } => (0, 0, in_a_part(left)),
-        }
-    }
-
-    /// Makes a copy of what was read, with room for one more part.
-    pub(crate) fn copy(&self) -> Result<Reading, NoMemory>
-        ensures copy { IfOk result (λ copy. IsSame self.now copy) }
+    /// Drops what was read but for the last member of each list.
+    pub(crate) fn keep_last(&mut self)
+        ensures { KeepsLast self.old self.new }
     {
-        let alloc = self.alloc;
-        let (more_entries, more_made, more_links) = self.room_for_a_part();
-        let entries = copied_entries(alloc, self.entries.as_slice(), more_entries)?;
-        let parents = copied_numbers(alloc, self.parents.as_slice())?;
-        let made = copied_made(alloc, self.made.as_slice(), more_made)?;
-        let links = copied_links(alloc, self.links.as_slice(), more_links)?;
-        Ok(Reading {
-            alloc,
-            stage: self.stage,
-            entries,
-            parents,
-            made,
-            links,
-        })
+        keep_last(&mut self.entries);
+        self.parents.clear();
+        keep_last(&mut self.made);
+        keep_last(&mut self.links);
     }
 
     /// Returns the image that was read, if no byte follows, or its fault. Takes no memory.

@@ -29,11 +29,4 @@ impl Taken {
     pub(crate) fn add(&mut self, _piece: &[u8])
         ensures { self.new.bytes ≡ self.old.bytes ++ _piece.now }
     {}
-
-    /// Makes a copy of the list.
-    pub(crate) fn copy(&self) -> Taken
-        ensures { result.bytes ≡ self.now.bytes }
-    {
-        Taken { mark: PhantomData }
-    }
 }

@@ -5,7 +5,7 @@ ghost use Rattle.map_image.specs.Fit.{IsFit};
 use super::images::{all, fault_of, has_text_in};
 use super::vectors::{CHANGED, LOOKED_UP, MOVED, WIDE, changed_with, wide_with};
 use eden_base::NoMemory;
-use map_image::{Image, ImageFault, ImageReader};
+use map_image::{Image, ImageFault, ImageReader, PartReader};
 use std::alloc::{AllocError, Global};
 
 /// Makes a reader that was fed nothing, and tries once more if memory was refused.
@@ -28,11 +28,20 @@ fn feed(reader: &mut ImageReader, piece: &[u8]) -> Result<(), ImageFault> {
     }
 }
 
-/// Copies `reader`, and tries once more if memory was refused.
-fn copy_of(reader: &ImageReader) -> Result<ImageReader, NoMemory> {
-    match reader.copy() {
-        Ok(copy) => Ok(copy),
-        Err(NoMemory) => reader.copy(),
+/// Feeds `part` to `reader`, and once more if memory was refused.
+fn feed_part(reader: &mut PartReader, part: &[u8]) -> Result<(), ImageFault> {
+    match reader.feed(part) {
+        Ok(()) => Ok(()),
+        Err(ImageFault::NoMemory) => reader.feed(part),
+        Err(fault) => Err(fault),
+    }
+}
+
+/// Reads what `parts` took, and tries once more if memory was refused.
+fn reader_over(parts: &PartReader) -> Result<ImageReader, NoMemory> {
+    match parts.read() {
+        Ok(reader) => Ok(reader),
+        Err(NoMemory) => parts.read(),
     }
 }
 
@@ -208,27 +217,26 @@ fn tells_a_fault_again(rt: HostRuntime) {
     assert!(rt; stands(rt.alloc()));
 }
 
-/// Feeds the first `len` of `bytes` to a reader, and copies it. Returns whether reader and copy both read the rest.
-fn are_alike_behind(alloc: Global, bytes: &[u8], len: usize) -> bool {
+/// Feeds the first `len` of `bytes` to a reader of parts. Returns whether the parts are read twice, each time with the
+/// rest after them.
+fn are_read_twice(alloc: Global, bytes: &[u8], len: usize) -> bool {
     let (first, second) = bytes
         .split_at_checked(len)
         .unwrap_or((bytes, b"".as_slice()));
-    let Ok(mut reader) = reader_of(alloc) else {
-        return false;
-    };
-    let fed = feed(&mut reader, first);
-    let Ok(copy) = copy_of(&reader) else {
+    let mut parts = PartReader::new(alloc);
+    let fed = feed_part(&mut parts, first);
+    let (Ok(one), Ok(other)) = (reader_over(&parts), reader_over(&parts)) else {
         return false;
     };
     fed.is_ok()
-        && is_spelled(alloc, ended(copy, second), bytes)
-        && is_spelled(alloc, ended(reader, second), bytes)
+        && is_spelled(alloc, ended(one, second), bytes)
+        && is_spelled(alloc, ended(other, second), bytes)
 }
 
-/// Calls `are_alike_behind` with each length up to that of `bytes`.
-fn are_copies_alike(alloc: Global, bytes: &[u8]) -> bool {
+/// Calls `are_read_twice` with each length up to that of `bytes`.
+fn are_parts_read_twice(alloc: Global, bytes: &[u8]) -> bool {
     for len in 0..bytes.len() + 1 {
-        if !are_alike_behind(alloc, bytes, len) {
+        if !are_read_twice(alloc, bytes, len) {
             return false;
         }
     }
@@ -236,7 +244,26 @@ fn are_copies_alike(alloc: Global, bytes: &[u8]) -> bool {
 }
 
 #[test]
-fn a_copy_reads_on(rt: HostRuntime) {
-    assert!(rt; are_copies_alike(rt.alloc(), &CHANGED));
-    assert!(rt; are_copies_alike(rt.alloc(), &MOVED));
+fn reads_parts_again(rt: HostRuntime) {
+    assert!(rt; are_parts_read_twice(rt.alloc(), &CHANGED));
+    assert!(rt; are_parts_read_twice(rt.alloc(), &MOVED));
+}
+
+/// Feeds `bytes` to a reader of parts, one by one. Returns the fault of the last call.
+fn told_of_parts(alloc: Global, bytes: &[u8]) -> Option<ImageFault> {
+    let mut parts = PartReader::new(alloc);
+    let mut told = None;
+    for byte in bytes {
+        told = feed_part(&mut parts, &[*byte]).err();
+    }
+    told
+}
+
+#[test]
+fn tells_a_fault_of_parts(rt: HostRuntime) {
+    let alloc = rt.alloc();
+    assert!(rt; told_of_parts(alloc, &CHANGED) == None);
+    assert!(rt; told_of_parts(alloc, &changed_with(5, 9)) == Some(ImageFault::BadVersion));
+    assert!(rt; told_of_parts(alloc, &changed_with(86, 2)) == Some(ImageFault::NotRising));
+    assert!(rt; told_of_parts(alloc, &changed_with(141, 0x10)) == Some(ImageFault::BadMark));
 }
