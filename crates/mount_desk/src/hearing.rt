@@ -12,7 +12,7 @@ use mount_wire::{BatchReader, Message, ReplyBytes, tell_error};
 /// How far a message of the kernel came at the desk.
 #[derive(Drop)]
 pub enum Progress<'a> {
-    /// Nothing is left to do.
+    /// All that it says is done.
     Done,
     /// The kernel is to be answered with these bytes, and nothing else is left to do.
     Answers(ReplyBytes),
