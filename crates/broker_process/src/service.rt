@@ -188,7 +188,7 @@ fn handle<R: Wait + Clock, O: Write>(
     }
 }
 
-/// Hears a message of the kernel until nothing is left of it.
+/// Hears a message of the kernel to its end, in as many turns as it takes.
 fn hear<'a, R: Wait + Clock>(rt: &R, hall: &Hall, message: Message<'a>) -> Progress<'a>
     requires for_daemons { IsForDaemons message }
     ensures heard { IsHeardToTheEnd message.entry result }
