@@ -289,8 +289,9 @@ class Mount:
         self.room = room
         self.options = options if "--patience" in options else ("--patience", "60000", *options)
         self.path = room.mountpoint
+        is_left = os.path.exists(room.broker_at)
         self.broker = room.mount_broker("--held", "held")
-        room.await_socket(room.broker_at)
+        room.await_socket(room.broker_at, is_left)
         self.number = 0
         self.generation = 1
         self.daemon = room.run("daemon", "--mount", "broker.sock", "t0", "m", *self.options)

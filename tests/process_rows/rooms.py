@@ -26,6 +26,12 @@ ATTR_1 = "attr 1 dir 0755 0 2"
 STARTING = threading.Lock()
 
 
+def takes_connections(path):
+    """Returns whether somebody listens at a socket."""
+    with socket.socket(socket.AF_UNIX, socket.SOCK_STREAM) as end:
+        return end.connect_ex(path) == 0
+
+
 def start(words, **streams):
     """Starts a process."""
     with STARTING:
@@ -135,13 +141,16 @@ class Room:
     def broker(self, *lines):
         """Starts a broker, and waits until it listens."""
         self.write("script", "".join(f"{line}\n" for line in lines).encode())
+        is_left = os.path.exists(self.broker_at)
         it = self.run("broker", "broker.sock", "script")
-        self.await_socket(self.broker_at)
+        self.await_socket(self.broker_at, is_left)
         return it
 
-    def await_socket(self, path):
+    def await_socket(self, path, is_left=False):
+        """Waits until a socket is there. If one of a process that was killed is left there, waits until a connection is
+        taken."""
         until = time.monotonic() + WAIT
-        while not os.path.exists(path):
+        while not (takes_connections(path) if is_left else os.path.exists(path)):
             if time.monotonic() > until:
                 raise AssertionError(f"nobody listens at {path}")
             time.sleep(0.005)
