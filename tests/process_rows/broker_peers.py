@@ -98,6 +98,7 @@ def a_take_that_finds_nothing_is_held(room):
     first, worker, other = room.peer(), room.peer(), room.peer()
     worker.attach(first.attach())
     same(first.ask("Mount"), ("Mounted", u64(1)))
+    broker.printed("seat 1")
     began = time.monotonic()
     same(worker.ask("Take", u64(1)), ("Empty", b""))
     took = time.monotonic() - began

@@ -152,10 +152,13 @@ def unmounting_while_a_daemon_takes_over(room):
 def nothing_but_what_is_held_is_counted(room):
     """Once programs let go and the kernel dropped its caches, the daemons count few numbers, and none behind an end."""
     mount = Mount(room)
-    for number in range(200):
-        os.stat(mount.at(f"d{number % 40}/f{number % 50}"))
-    before = len(mount.counts_what_is_held())
+    # Other rows drop the caches too, so the files are open until they were counted.
+    files = [os.open(mount.at(f"d{number % 40}/f{number % 50}"), os.O_PATH) for number in range(120)]
+    try:
+        before = len(mount.counts_what_is_held())
+    finally:
+        for file in files:
+            os.close(file)
     same(before > 100, True)
-
     until(lambda: len(mount.counts_what_is_held()) < 10 or drop_caches(), "a kernel that holds little", 3 * WAIT)
     mount.unmount()

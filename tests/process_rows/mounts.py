@@ -335,10 +335,10 @@ class Mount:
         return held
 
     def rest(self):
-        """Waits until neither the kernel nor a daemon has anything to do. Of a program without a proof that can't be seen:
-        its idle workers take much time."""
+        """Waits until neither the kernel nor a daemon has anything to do, for half a second. Of a program without a proof
+        that can't be seen: its idle workers take much time."""
         if self.room.is_proved:
-            until(lambda: self.busy() < 0.02, "a mount at rest", 3 * WAIT)
+            until(lambda: all(self.busy() < 0.02 for _ in range(5)), "a mount at rest", 3 * WAIT)
         else:
             time.sleep(2)
 
