@@ -136,10 +136,16 @@ module _ (links : FinMap link_cmp FileId) (at : ℕ → Option AddedPlace) (name
       | inl w ↦ inl (w.0, w.1)
       | inr w ↦
           let l = are.are_names.keyed k n w in
-          inr (l.0, l.1, l.2, l.3, λ same.
-            let is = there (record { 0 = n }) (sym (ap (get links) same) ∙ l.2) in
-            let number : n ≡ file.0 = ap (λ (x : FileId). x.0) is in
-            not-at-old (l.0, l.1) (l.2 ∙ ap (λ (x : FileId). Some x) is) (ap (at_key names.keys) l.3 ∙ w ∙ ap Some number) (ap (at_key left.keys) l.3 ∙ e ∙ ap Some number))
+          inr (
+            l.0,
+            l.1,
+            l.2,
+            l.3,
+            λ same.
+                let is = there (record { 0 = n }) (sym (ap (get links) same) ∙ l.2) in
+                let number : n ≡ file.0 = ap (λ (x : FileId). x.0) is in
+                not-at-old (l.0, l.1) (l.2 ∙ ap (λ (x : FileId). Some x) is) (ap (at_key names.keys) l.3 ∙ w ∙ ap Some number) (ap (at_key left.keys) l.3 ∙ e ∙ ap Some number),
+          )
     ]
 
     -- what is left under a name
@@ -148,10 +154,13 @@ module _ (links : FinMap link_cmp FileId) (at : ℕ → Option AddedPlace) (name
       | inl w ↦ inl (w.0, w.1)
       | inr w ↦
           let l = are.are_names.others k.0 k.1 f w in
-          inr (l, λ same.
-            let is = there f (sym (ap (get links) same) ∙ l) in
-            let one_more = ap (λ (x : FileId). Some x) is in
-            not-under k (l ∙ one_more) (e ∙ one_more))
+          inr (
+            l,
+            λ same.
+                let is = there f (sym (ap (get links) same) ∙ l) in
+                let one_more = ap (λ (x : FileId). Some x) is in
+                not-under k (l ∙ one_more) (e ∙ one_more),
+          )
     ]
 
     -- nothing is left in both

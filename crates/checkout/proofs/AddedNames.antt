@@ -84,7 +84,6 @@ module _ (old new : Names) (to : ℕ × List ℕ) (file : FileId) (adds : Adds o
         | false ↦ λ t. ap (λ (m : FinMap link_cmp FileId). get m k) (free-others t) ∙ e
       ] refl)
 
-
   -- what is at a key is the file, or was there
   pub new-key : (k n : ℕ) → at_key new.keys k ≡ Some n → ((k ≡ key) × (n ≡ file.0) × (is_some (at_key old.keys key) ≡ false)) ⊎ (at_key old.keys k ≡ Some n)
   new-key k n e =
@@ -203,10 +202,12 @@ module _ (old new : Names) (from : ℕ × List ℕ) (file : FileId) (removes : R
             let w = get-remove_cases link_cmp_total link_cmp-same old.others from k f (sym (ap (λ (m : FinMap link_cmp FileId). get m k) (gone-others t)) ∙ e) in
             (w.0, λ at same. w.1 at)
         | false ↦ λ t.
-            let was = sym (ap (λ (m : FinMap link_cmp FileId). get m k) (left-others t)) ∙ e in
-            (was, λ at same.
-              let yes = file-found (get old.others from) file (sym (ap (get old.others) at) ∙ was ∙ ap (λ (x : FileId). Some x) (same_id f file same)) in
-              let no : ⊥ = cc in no)
+            let was = sym (ap (λ (m : FinMap link_cmp FileId). get m k) (left-others t)) ∙ e in (
+              was,
+              λ at same.
+                  let yes = file-found (get old.others from) file (sym (ap (get old.others) at) ∙ was ∙ ap (λ (x : FileId). Some x) (same_id f file same)) in
+                  let no : ⊥ = cc in no,
+            )
       ] refl
 
 -- a file that was added for a new place stays named there when it is removed from the place at which it was

@@ -46,9 +46,7 @@ impl Index {
     {
         let mut maps = Maps::new(alloc);
         for (number, held) in slots {
-            let Some(entry) = held else {
-                unreachable!()
-            };
+            let Some(entry) = held else { unreachable!() };
             let Place::Linked { parent, name } = &entry.place else {
                 continue;
             };

@@ -204,5 +204,5 @@ unchanged_part_reader old new taken tail piece rest fault told none reader wants
 pub none_stands_of_parts : (r : Reading) (taken tail : List ℕ) → IsPartReading taken r tail → standing_fault taken ≡ None
 none_stands_of_parts r taken tail is =
     let gives : fault_before_whole (image_of_bytes taken) ≡ fault_before_whole (resumed r tail) =
-        ap (λ (bytes : List ℕ). fault_before_whole (image_of_bytes bytes)) (sym (append-nil taken)) ∙ is.goes_on [] ∙ ap (λ (bytes : List ℕ). fault_before_whole (resumed r bytes)) (append-nil tail) in
+    ap (λ (bytes : List ℕ). fault_before_whole (image_of_bytes bytes)) (sym (append-nil taken)) ∙ is.goes_on [] ∙ ap (λ (bytes : List ℕ). fault_before_whole (resumed r bytes)) (append-nil tail) in
     standing_is (image_of_bytes taken) ∙ ap (option_and_then lasting) gives ∙ sym (standing_is (resumed r tail)) ∙ whole_or_short r r.stage tail refl is.cut

@@ -33,14 +33,14 @@ none_left (item ∷ items) none = absurd cc
 pub heard_so : (old new : DeskState) (item : Item) (result : Forgot) → (result ≡ forgot.Waits) ⊎ (result ≡ forgot.Bad) → Forgets old item result new → IsHeard old item new
 heard_so old new item forgot.Waits is forgets = inl forgets
 heard_so old new item forgot.Bad is forgets = inr (forgets.cause, forgets.unchanged)
-heard_so old new item forgot.Full is forgets = elim is [ | inl eq ↦ absurd cc | inr eq ↦ absurd cc ]
-heard_so old new item forgot.NoMemory is forgets = elim is [ | inl eq ↦ absurd cc | inr eq ↦ absurd cc ]
-heard_so old new item forgot.NotMounted is forgets = elim is [ | inl eq ↦ absurd cc | inr eq ↦ absurd cc ]
+heard_so old new item forgot.Full is forgets = elim is [ inl eq ↦ absurd cc | inr eq ↦ absurd cc ]
+heard_so old new item forgot.NoMemory is forgets = elim is [ inl eq ↦ absurd cc | inr eq ↦ absurd cc ]
+heard_so old new item forgot.NotMounted is forgets = elim is [ inl eq ↦ absurd cc | inr eq ↦ absurd cc ]
 
 -- a forget that is full, or was refused memory, was put off, and changed nothing
 pub put_off_so : (old new : DeskState) (item : Item) (left : Message) (result : Forgot) → (result ≡ forgot.Full) ⊎ (result ≡ forgot.NoMemory) → Forgets old item result new → IsPutOff old item left (Leaves left) × (new ≡ old)
 put_off_so old new item left forgot.Full is forgets = ((refl, inl forgets.cause), forgets.unchanged)
 put_off_so old new item left forgot.NoMemory is forgets = ((refl, inr forgets.cause), forgets.unchanged)
-put_off_so old new item left forgot.Waits is forgets = elim is [ | inl eq ↦ absurd cc | inr eq ↦ absurd cc ]
-put_off_so old new item left forgot.Bad is forgets = elim is [ | inl eq ↦ absurd cc | inr eq ↦ absurd cc ]
-put_off_so old new item left forgot.NotMounted is forgets = elim is [ | inl eq ↦ absurd cc | inr eq ↦ absurd cc ]
+put_off_so old new item left forgot.Waits is forgets = elim is [ inl eq ↦ absurd cc | inr eq ↦ absurd cc ]
+put_off_so old new item left forgot.Bad is forgets = elim is [ inl eq ↦ absurd cc | inr eq ↦ absurd cc ]
+put_off_so old new item left forgot.NotMounted is forgets = elim is [ inl eq ↦ absurd cc | inr eq ↦ absurd cc ]

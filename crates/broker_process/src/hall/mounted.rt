@@ -83,7 +83,11 @@ impl Hall {
     }
 
     /// Hears a `message` of the kernel at the desk, as far as it can be heard now.
-    pub(crate) fn hear_kernel<'a, R: Wait + Clock>(&self, rt: &R, message: Message<'a>) -> Progress<'a>
+    pub(crate) fn hear_kernel<'a, R: Wait + Clock>(
+        &self,
+        rt: &R,
+        message: Message<'a>,
+    ) -> Progress<'a>
         requires for_daemons { IsForDaemons message }
         ensures heard { IsHeard message.entry result }
         ensures for_daemons { LeavesForDaemons result }

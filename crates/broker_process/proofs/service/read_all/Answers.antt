@@ -15,12 +15,12 @@ returns-then-not-handle g c = record {
 pub loop-preserved-else-not-handle : goal.loop-preserved-else-not-handle
 loop-preserved-else-not-handle g c =
     λ (ended : Result MountEnd MountFault). λ (left_then : Option (List ℕ)). λ (told_then : Option (List ℕ)). λ rest.
-        c.loop.invariant ended left_then told_then (read_before (taken.Message c.in-Message.message) ended _ _ _ _ left_then told_then c.in-Message.ensures.takes c.if-not-handle.ensures.handles rest)
+    c.loop.invariant ended left_then told_then (read_before (taken.Message c.in-Message.message) ended _ _ _ _ left_then told_then c.in-Message.ensures.takes c.if-not-handle.ensures.handles rest)
 
 pub loop-preserved : goal.loop-preserved
 loop-preserved g c =
     λ (ended : Result MountEnd MountFault). λ (left_then : Option (List ℕ)). λ (told_then : Option (List ℕ)). λ rest.
-        c.loop.invariant ended left_then told_then (read_before taken.Again ended _ _ _ _ left_then told_then c.in-Again.ensures.takes refl rest)
+    c.loop.invariant ended left_then told_then (read_before taken.Again ended _ _ _ _ left_then told_then c.in-Again.ensures.takes refl rest)
 
 pub returns-in-Unmounted : goal.returns-in-Unmounted
 returns-in-Unmounted g c = record {

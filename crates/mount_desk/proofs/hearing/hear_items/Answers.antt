@@ -15,8 +15,8 @@ loop-item-preserved c =
     let first : slice_get items 0 ≡ Some item = sym c.first.ensures.first ∙ c.in-Some.is in
     let heard = heard_so c.loop-item.desk c.forget.new.desk item c.forget.result c.in-Waits.is c.forget.ensures.forgets in
     λ (progress : Progress). λ (new : DeskState). λ rest.
-        c.loop-item.invariant progress new (heard_first items item c.loop-item.desk c.forget.new.desk new progress first heard
-            (subst (λ (more : List Item). HearsItems more c.forget.new.desk progress new) c.skip_first.ensures.left rest))
+    c.loop-item.invariant progress new (heard_first items item c.loop-item.desk c.forget.new.desk new progress first heard
+    (subst (λ (more : List Item). HearsItems more c.forget.new.desk progress new) c.skip_first.ensures.left rest))
 
 pub returns-in-Full-clause-hears : goal.returns-in-Full-clause-hears
 returns-in-Full-clause-hears c =
