@@ -10,7 +10,7 @@ from process_rows.mounted_ends import STAT, mounts_anew
 from process_rows.mounts import Mount, drop_caches, size_of, until
 
 FRAMES = ("Offer", "Choice", "Ready", "Pong", "Data")
-PATIENCE = "300"
+PATIENCE = "700"
 FAILED = ("fault: takeover failed", 1)
 
 
