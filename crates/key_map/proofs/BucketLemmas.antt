@@ -6,7 +6,6 @@ use Rattle.std.proofs.lemmas.Bool.Decides.{nat_tests}
 use Rattle.key_map.specs.Cells.{home, in_bucket, empty_bucket, kept}
 use Rattle.key_map.specs.declared.bucket.Bucket.{Bucket}
 use Rattle.key_map.proofs.CellLemmas.{same-or}
-use Rattle.key_map.proofs.TierLemmas.{none_above}
 
 -- where a key's bucket is another for one key at most, the buckets are
 pub changed_at : (buckets : List Bucket) (shift key k at : ℕ) (old new : Bucket) (is_it : Bool) (number : Option ℕ) → at ≡ home shift (length buckets) key → at < length buckets → old ≡ get_or buckets at old → (is_it ≡ true → k ≡ key) →

@@ -1,8 +1,7 @@
 -- What the buckets of a tier have for each key once they are spread over twice as many.
-use Rattle.std.proofs.Common.{◌≡◌, ℕ, ◌+◌, ◌*◌, ◌/◌, ◌%◌, ◌^◌, ◌<◌, ◌==◌, ◌&&◌, Bool, true, false, List, length, get_or, Option, Some, None, if◌then◌else◌, refl, sym, ap, ◌∙◌, inl, inr, ◌⊎◌, arith}
+use Rattle.std.proofs.Common.{◌≡◌, ℕ, ◌+◌, ◌*◌, ◌/◌, ◌%◌, ◌<◌, ◌==◌, ◌&&◌, Bool, true, false, List, length, get_or, Option, Some, None, if◌then◌else◌, refl, sym, ap, ◌∙◌, inl, inr, ◌⊎◌, arith}
 use Rattle.std.proofs.Math.Nat.{div-add-mod, mul-add-mod_self_left}
 use Rattle.std.proofs.lemmas.Bool.Decides.{nat_tests}
-use Rattle.std.specs.Option.{option_or}
 use Rattle.key_map.specs.Cells.{bits, home, in_cell, in_bucket, empty_cell, empty_bucket, kept, kept_at, bucket_at, spread}
 use Rattle.key_map.specs.declared.bucket.Bucket.{Bucket}
 use Rattle.key_map.specs.declared.cells.Cell.{Cell}

@@ -1,3 +1,4 @@
 pub mod BucketLemmas
 pub mod CellLemmas
+pub mod KeyLemmas
 pub mod TierLemmas

@@ -93,5 +93,6 @@ fn makes_a_key_of_a_number_and_bytes(rt: HostRuntime) {
     let own = key_of(5, b"".as_slice()) == 5;
     let one = key_of(0, b"a".as_slice()) == 97;
     let two = key_of(0, b"ab".as_slice()) == 0xF305_1F49_3B39_0457;
-    assert!(rt; own && one && two);
+    let nine = key_of(5, b"file1.txt".as_slice()) == 0x81E8_1331_EDD7_CE6F;
+    assert!(rt; own && one && two && nine);
 }

@@ -1,5 +1,5 @@
 -- One bucket is changed, at one key.
-use Rattle.std.proofs.Common.{◌≡◌, ◌==◌, None, ℕ, ◌<◌, length, ap, ◌∙◌, arith}
+use Rattle.std.proofs.Common.{◌≡◌, ◌==◌, None, ℕ, length, ap, ◌∙◌, arith}
 use Rattle.std.proofs.lemmas.Grind.{common_steps}
 use Rattle.key_map.specs.Cells.{home}
 use Rattle.key_map.proofs.BucketLemmas.{changed_at, key_is}

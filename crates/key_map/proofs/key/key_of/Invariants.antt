@@ -1,7 +1,10 @@
-use Rattle.std.proofs.Common.{◌≡◌, drop}
+-- What is left makes of the key so far what all bytes make of the number.
+use Rattle.std.proofs.Common.{◌≡◌, length}
 use Rattle.key_map.specs.Keys.{key_of}
 use Rattle.key_map.proofs.key.key_of.Given as goal
 
--- the bytes that are left make of the key so far what all bytes make of the number
-abbrev pub invariant-loop-byte : goal.invariant-loop-byte
-invariant-loop-byte l = key_of l.key (drop l.byte-index l.bytes) ≡ key_of l.number l.bytes
+abbrev pub invariant-loop-word : goal.invariant-loop-word
+invariant-loop-word l = key_of l.key l.rest ≡ key_of l.number l.bytes
+
+abbrev pub decreases-loop-word : goal.decreases-loop-word
+decreases-loop-word l = length l.rest

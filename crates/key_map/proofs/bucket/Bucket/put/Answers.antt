@@ -1,5 +1,5 @@
 -- What is put into a cell is found behind the cells before it, which had nothing for the key.
-use Rattle.std.proofs.Common.{◌≡◌, ℕ, ◌==◌, ◌&&◌, Option}
+use Rattle.std.proofs.Common.{ℕ, ◌==◌, ◌&&◌}
 use Rattle.std.specs.Option.{option_or}
 use Rattle.key_map.specs.Cells.{in_cell}
 use Rattle.key_map.proofs.BucketLemmas.{key_is, none_below, of_key, put_behind, put_first}

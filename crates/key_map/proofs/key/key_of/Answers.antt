@@ -1,0 +1,14 @@
+-- Eight bytes more, and what is left behind the last eight.
+use Rattle.std.proofs.Common.{◌∙◌}
+use Rattle.key_map.proofs.KeyLemmas.{goes_on, ends}
+use Rattle.key_map.proofs.key.key_of.Goals as goal
+
+pub loop-word-preserved : goal.loop-word-preserved
+loop-word-preserved c =
+    let parts = c.in-Some.ensures.cases in
+    goes_on c.loop-word.key c.from_le_bytes.result c.key_with-key.result c.loop-word.rest.now c.in-Some.word.now c.in-Some.behind.now
+    parts.0 parts.1 parts.2 c.from_le_bytes.ensures c.key_with-key.ensures.key
+    ∙ c.loop-word.invariant
+
+pub returns : goal.returns
+returns c = record { key = c.key_with_each.ensures.key ∙ ends c.loop-word.key c.loop-word.rest.now c.in_default.ensures.cases ∙ c.loop-word.invariant }
