@@ -15,7 +15,7 @@ ghost use Rattle.entry_table.specs.Table.{IsIn, kept_of, without_entry, AreOfKep
 
 mod moves;
 
-use crate::dense::{dense_index_from_end, dense_index_of, index_if};
+use crate::dense::{dense_index_from_end, dense_index_of, even_index_of, index_if};
 use crate::index::Index;
 use crate::kept::{Entry, Kept};
 use crate::way::locate;
@@ -448,6 +448,9 @@ fn sparse_index_of(slots: &[Slot], number: Number) -> Option<usize>
     ensures index { IfSome result (IsIndexOf slots.now number.0) }
     ensures none { IfNone result (slot_at slots.now number.0 ≡ None) }
 {
+    if let Some(index) = even_index_of(slots, number) {
+        return Some(index);
+    }
     if let Some(index) = dense_index_from_end(slots, number) {
         return Some(index);
     }
