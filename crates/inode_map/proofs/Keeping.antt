@@ -1,5 +1,5 @@
 -- What is loaded or remembered of numbers, where entries change or leave.
-use Rattle.std.proofs.Common.{◌≡◌, ℕ, zero, suc, Bool, true, false, cond, List, [], ◌∷◌, ◌++◌, take, Option, Some, None, is_some, refl, sym, ap, ◌∙◌, subst, inl, inr, ◌⊎◌}
+use Rattle.std.proofs.Common.{◌≡◌, ℕ, zero, suc, Bool, true, false, cond, List, [], ◌∷◌, ◌++◌, take, Option, Some, None, IsSome, is_some, refl, sym, ap, ◌∙◌, subst, inl, inr, ◌⊎◌}
 use Rattle.std.specs.Prelude.{not}
 use Rattle.std.specs.List.{filter}
 use Rattle.std.specs.Option.{option_map, option_map_or}
@@ -96,6 +96,14 @@ loaded-kept es n (y ∷ xs) x a e = in_ (is_loaded_of n y) e (λ there. loaded-k
   in_ : (b : Bool) → cond b (Some y) (first_where (is_loaded_of n) xs) ≡ Some x → (first_where (is_loaded_of n) xs ≡ Some x → is_kept es (loaded_number x) ≡ true) → is_kept es (loaded_number x) ≡ true
   in_ true h rest = let is : y ≡ x = cc in ap (λ (l : LoadedAttr). is_kept es (loaded_number l)) (sym is) ∙ a.0
   in_ false h rest = rest h
+
+some_in : (o : Option Kept) → is_some o ≡ true → IsSome o
+some_in None e = absurd (let none : ⊥ = cc in none)
+some_in (Some kept) e = refl
+
+-- and so has an entry
+pub loaded-entry : (es : List Kept) (n : ℕ) (xs : List LoadedAttr) (x : LoadedAttr) → AreOfKept loaded_number es xs → first_where (is_loaded_of n) xs ≡ Some x → IsSome (entry_of es (loaded_number x))
+loaded-entry es n xs x all first = some_in (entry_of es (loaded_number x)) (loaded-kept es n xs x all first)
 
 pub used-kept : (es : List Kept) (n : ℕ) (loaded : List LoadedAttr) → AreOfKept loaded_number es loaded → AreOfKept loaded_number es (used loaded n)
 used-kept es n loaded all = in_ (first_where (is_loaded_of n) loaded) refl where

@@ -6,6 +6,7 @@ pub mod Lowering
 pub mod Moving
 pub mod Naming
 pub mod Pruning
+pub mod Replacing
 pub mod Striking
 pub mod TakingBack
 pub mod Walking

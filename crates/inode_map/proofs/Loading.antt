@@ -100,7 +100,7 @@ behind-others : (s : Slot) (n : ℕ) (es : Held) → AllByRecursion (λ (t : Slo
 behind-others s n [] apart are = tt
 behind-others s n (e ∷ es) apart are = (sym are.0 ∙ apart.0, behind-others s n es apart.1 are.1)
 
-same-slot : (s t : Slot) → is_slot s t ≡ true → t ≡ s
+pub same-slot : (s t : Slot) → is_slot s t ≡ true → t ≡ s
 same-slot s t e = ap slot_noted (sym (true-eq s.index t.index e))
 
 pub others-left : (s : Slot) (n : ℕ) (es : Held) → IsDistinct is_slot (keys_of es) → AreMatched s n es → values_of (remove_entry (is_slot s) es) ≡ of_others n (values_of es)

@@ -1,5 +1,5 @@
 //! The attributes of the numbers that were used last, each in a node whose slot the entry of its number notes.
-ghost use Rattle.std.specs.Prelude.{◌≡◌, ◌-◌, ◌≤◌, ◌<◌, [], None, Some, IsSome, take, length, nat_lt, IfOk, MatchOption};
+ghost use Rattle.std.specs.Prelude.{◌≡◌, ◌-◌, ◌≤◌, ◌<◌, [], ◌∷◌, None, Some, IsSome, take, length, nat_lt, IfOk, MatchOption};
 ghost use Rattle.std.specs.List.{filter};
 ghost use Rattle.std.specs.Option.{option_map};
 ghost use Rattle.inode_map.specs.declared.loaded.LoadedAttr.{LoadedAttr};
@@ -79,20 +79,46 @@ pub(crate) fn unload_oldest(table: &mut Table, nodes: &mut Nodes<LoadedAttr>) ->
     true
 }
 
-/// Unloads the oldest attributes if the limit is reached.
-fn make_room(table: &mut Table, nodes: &mut Nodes<LoadedAttr>)
+/// Puts `loaded` into the node of the attributes that were used longest ago, which are unloaded. `loaded` becomes the
+/// most recent.
+fn replace_oldest(table: &mut Table, nodes: &mut Nodes<LoadedAttr>, loaded: LoadedAttr)
+    requires entry { IsSome (entry_of table.old.entries loaded.number.0) }
+    requires unloaded { attr_of (attrs_in nodes.old) loaded.number.0 ≡ None }
+    requires some { 0 < length nodes.old.entries }
     requires entries { AreOfKept loaded_number table.old.entries (attrs_in nodes.old) }
     requires named { AreNamed table.old.notes nodes.old }
-    ensures left { attrs_in nodes.new ≡ take (nodes.old.capacity - 1) (attrs_in nodes.old) }
-    ensures room { length nodes.new.entries < nodes.new.capacity }
+    ensures loaded { attrs_in nodes.new ≡ loaded ∷ without_oldest (attrs_in nodes.old) }
     ensures capacity { nodes.new.capacity ≡ nodes.old.capacity }
     ensures table { table.new ≡ record table.old { notes = table.new.notes } }
     ensures still_named { AreNamed table.new.notes nodes.new }
 {
     nodes.slots_are_apart();
-    if nodes.len() == nodes.capacity() {
-        unload_oldest(table, nodes);
-    }
+    let Some(oldest) = nodes.oldest() else {
+        unreachable!()
+    };
+    let unloaded = nodes.get(oldest).number;
+    nodes.touch(oldest);
+    *nodes.get_mut(oldest) = loaded;
+    table.note(unloaded, None);
+    table.note(loaded.number, Some(oldest.index));
+}
+
+/// Adds `loaded` as the most recent, where the limit isn't reached.
+fn add(table: &mut Table, nodes: &mut Nodes<LoadedAttr>, loaded: LoadedAttr)
+    requires entry { IsSome (entry_of table.old.entries loaded.number.0) }
+    requires unloaded { attr_of (attrs_in nodes.old) loaded.number.0 ≡ None }
+    requires room { length nodes.old.entries < nodes.old.capacity }
+    requires named { AreNamed table.old.notes nodes.old }
+    ensures loaded { attrs_in nodes.new ≡ loaded ∷ attrs_in nodes.old }
+    ensures capacity { nodes.new.capacity ≡ nodes.old.capacity }
+    ensures table { table.new ≡ record table.old { notes = table.new.notes } }
+    ensures still_named { AreNamed table.new.notes nodes.new }
+{
+    nodes.slots_are_apart();
+    let Ok(slot) = nodes.add(loaded) else {
+        unreachable!()
+    };
+    table.note(loaded.number, Some(slot.index));
 }
 
 /// Loads attributes, which become the most recent. If the limit is reached, the oldest are unloaded first.
@@ -111,12 +137,13 @@ pub(crate) fn load_attr(
     ensures table { table.new ≡ record table.old { notes = table.new.notes } }
     ensures still_named { AreNamed table.new.notes nodes.new }
 {
-    make_room(table, nodes);
     nodes.slots_are_apart();
-    let Ok(slot) = nodes.add(LoadedAttr { number, attr }) else {
-        unreachable!()
-    };
-    table.note(number, Some(slot.index));
+    let loaded = LoadedAttr { number, attr };
+    if nodes.len() == nodes.capacity() {
+        replace_oldest(table, nodes, loaded);
+    } else {
+        add(table, nodes, loaded);
+    }
 }
 
 /// Removes the entry of `number` with its loaded attributes, and returns its place.

@@ -1,23 +1,17 @@
 -- The last node leaves, and with it the note of its number.
-use Rattle.std.proofs.Common.{◌≡◌, true, Option, Some, None, IsSome, is_some, refl, sym, ap, ◌∙◌, subst}
-use Rattle.entry_table.specs.Entries.{entry_of}
+use Rattle.std.proofs.Common.{sym, ap, ◌∙◌, subst}
 use Rattle.entry_table.specs.Table.{TableState}
-use Rattle.entry_table.specs.declared.kept.Kept.{Kept}
 use Rattle.inode_map.specs.Loaded.{attrs_in, AreNamed}
-use Rattle.inode_map.proofs.Keeping.{loaded-kept}
+use Rattle.inode_map.proofs.Keeping.{loaded-entry}
 use Rattle.inode_map.proofs.Loading.{first-held, oldest-left}
 use Rattle.inode_map.proofs.Naming.{named-lost}
 use Rattle.inode_map.proofs.loaded.unload_oldest.Goals as goal
-
-some_in : (o : Option Kept) → is_some o ≡ true → IsSome o
-some_in None e = absurd (let none : ⊥ = cc in none)
-some_in (Some kept) e = refl
 
 pub note-requires : goal.note-requires
 note-requires c =
     let l = c.remove-loaded.result in
     let first = first-held c.args.table.now.notes c.args.nodes.now c.in-Some.slot l c.requires.named c.slots_are_apart.ensures.sound.distinct c.remove-loaded.ensures.value in
-    record { held = some_in (entry_of c.args.table.now.entries l.number.0) (loaded-kept c.args.table.now.entries l.number.0 (attrs_in c.args.nodes.now) l c.requires.entries first) }
+    record { held = loaded-entry c.args.table.now.entries l.number.0 (attrs_in c.args.nodes.now) l c.requires.entries first }
 
 pub returns-clause-unloaded : goal.returns-clause-unloaded
 returns-clause-unloaded c =
