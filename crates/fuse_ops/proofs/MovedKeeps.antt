@@ -1,5 +1,5 @@
 -- A file moves to another name: what that asks of the tree and of the numbers, and what is remembered and loaded then.
-use Rattle.std.proofs.Common.{◌≡◌, ℕ, Bool, true, false, ◌&&◌, not, List, Option, Some, None, Result, Ok, Err, is_some, refl, sym, ap, ◌∙◌, subst, inl, inr, ◌⊎◌}
+use Rattle.std.proofs.Common.{◌≡◌, ℕ, Bool, true, false, ◌&&◌, not, List, Option, Some, None, Result, Ok, Err, refl, sym, ap, ◌∙◌, subst, inl, inr, ◌⊎◌}
 use Rattle.std.specs.Prelude.{IfSome, if◌then◌else◌, ◌↔◌}
 use Rattle.std.specs.List.{filter, list_any}
 use Rattle.std.specs.Option.{option_map, option_map_or}
@@ -11,12 +11,12 @@ use Rattle.eden_base.specs.declared.errno.Errno.TheVariants.{EISDIR, ENOTDIR, EN
 use Rattle.eden_base.specs.declared.number.FileId.{FileId}
 use Rattle.eden_base.specs.declared.number.Number.{Number}
 use Rattle.manifest.specs.Tree.{Tree, IsTree, child_of, is_dir, kind_of}
-use Rattle.checkout.specs.ChangedTree.{has_links, is_empty_dir, is_full_dir}
+use Rattle.checkout.specs.ChangedTree.{has_links, is_empty_dir}
 use Rattle.checkout.specs.RenamedTree.{can_replace, renamed, IsAtOrAbove}
 use Rattle.entry_table.proofs.EntryLemmas.{entry_of-first}
 use Rattle.entry_table.proofs.FileLemmas.{IsFileOf-same, linked-child}
 use Rattle.entry_table.proofs.Places.{stands-place}
-use Rattle.entry_table.specs.Entries.{entry_at, entry_of, file_remembered, is_kept, is_kid_of, number_of_kept, stands_at, IsFileOf, IsLinked}
+use Rattle.entry_table.specs.Entries.{entry_at, entry_of, file_remembered, is_kept, number_of_kept, stands_at, IsFileOf, IsLinked}
 use Rattle.entry_table.specs.declared.kept.Kept.{Kept}
 use Rattle.fuse_wire.specs.declared.reply.Answer.{Answer}
 use Rattle.fuse_wire.specs.declared.reply.Answer.TheVariants.{Done, Error}
@@ -34,10 +34,10 @@ use Rattle.fuse_ops.proofs.Fits.{sound-fits, not-one, place-file}
 use Rattle.fuse_ops.proofs.GoingUp.{above-tells}
 use Rattle.fuse_ops.proofs.Loaded.{left_with-loaded, plainly-loaded, stays-loaded}
 use Rattle.fuse_ops.proofs.Making.{sound-plainly}
-use Rattle.fuse_ops.proofs.Movable.{Goes, gone, left, may-move, movable-found, replaced-not_full, not_there}
+use Rattle.fuse_ops.proofs.Movable.{Goes, left, may-move, movable-found, replaced-not_full, not_there}
 use Rattle.fuse_ops.proofs.MovingLaw.{moving-keeps}
 use Rattle.fuse_ops.proofs.Remembering.{left_with-remembers, plainly-remembers, stays-remembers}
-use Rattle.fuse_ops.proofs.Taking.{taken-linked, taken-no_kids}
+use Rattle.fuse_ops.proofs.Taking.{taken-no_kids}
 
 -- ---- nothing is answered at once
 

@@ -29,7 +29,7 @@ use Rattle.fuse_ops.proofs.Making.{free-place}
 use Rattle.fuse_ops.specs.Served.{ServedState, PlainState, plain, IsLocated, IsUnloaded, names_changed, numbers_at, number_fault, place_entered, place_told, served_after, Replay}
 use Rattle.fuse_ops.specs.Work.{errno_of, GivesEntry, GivesFound, LooksUp, Shows, ShowsFile, IsSamePlainly, MakesIn, Makes, TakesName, Takes, MovesName, Moves}
 use Rattle.fuse_ops.proofs.Looking.{looks-ask, looks-nodes}
-use Rattle.fuse_ops.proofs.Movable.{by-move, movable-not_above}
+use Rattle.fuse_ops.proofs.Movable.{by-move}
 use Rattle.fuse_ops.proofs.Shapes.{TellsEntry, TakesPlace, MovesPlace, move-moves, moved-after, moved-bad_items, find-form, show-form, entered, shown, find-tells, make-tells, take-takes, take-frees, unless-found, error-after, entry-after, shown-after, done-after, given-bad_items, taken-bad_items}
 
 -- an answer that the table has for what a request comes to, and what it makes

@@ -72,7 +72,11 @@ impl Served {
         let Some(file) = self.file_of(number) else {
             unreachable!()
         };
-        match self.load_asked(backing, number, file) {
+        let located = Located {
+            file,
+            linkage: Linkage::Linked,
+        };
+        match self.load_asked(backing, number, located) {
             Ok(attr) => Answer::Entry { number, attr },
             Err(BackingFault) => {
                 self.map.forget(number, 1);
@@ -103,7 +107,11 @@ impl Served {
         if self.map.next() >= END_OF_NUMBERS {
             return Answer::Error(Errno::ENOSPC);
         }
-        let Ok(attr) = ask(&self.tree, backing, found.file) else {
+        let located = Located {
+            file: found.file,
+            linkage: Linkage::Linked,
+        };
+        let Ok(attr) = ask(&self.tree, backing, located) else {
             return Answer::Error(Errno::EIO);
         };
         match self.map.give_next(alloc, dir, name) {
@@ -157,12 +165,12 @@ impl Served {
         ensures same_content { (file : FileId) → B.content backing.new file ≡ B.content backing.old file }
     {
         if number == Number::ROOT {
-            return ask(&self.tree, backing, located.file);
+            return ask(&self.tree, backing, located);
         }
         if let Some(attr) = self.loaded(number, located.linkage) {
             return Ok(attr);
         }
-        self.load_asked(backing, number, located.file)
+        self.load_asked(backing, number, located)
     }
 
     /// Returns the loaded attributes of `number`, if any, and makes them the most recent. The link count comes from
@@ -186,63 +194,77 @@ impl Served {
         })
     }
 
-    /// Asks for the attributes of `file`, which `number` names and for which none are loaded, and loads them.
+    /// Asks for the attributes of the file that `number` names and for which none are loaded, and loads them.
     fn load_asked<B: Backing>(
         &mut self,
         backing: &mut B,
         number: Number,
-        file: FileId,
+        located: Located,
     ) -> Result<Attr, BackingFault>
         requires backs { Backs (B.content backing.old) self.old.tree }
-        requires names { Names self.old number.0 file }
+        requires names { Names self.old number.0 located.file }
+        requires linkage { is_unlinked self.old.tree located.file ≡ lacks_name located.linkage }
         requires other { number.0 ≡ 1 → ⊥ }
         requires unloaded { loaded_attr self.old.map.loaded number.0 ≡ None }
-        ensures attr { IfOk result (λ told. attr_of self.old.tree file ≡ Some told) }
+        ensures attr { IfOk result (λ told. attr_of self.old.tree located.file ≡ Some told) }
         ensures loaded { IfOk result (λ told. self.new
             ≡ record self.old { map = record self.old.map { loaded = loaded_told self.old.map number told } }) }
         ensures unchanged { OnErr result (self.new ≡ self.old) }
-        ensures backed { OnErr result (IsBacked self.old.tree file) }
+        ensures backed { OnErr result (IsBacked self.old.tree located.file) }
         ensures answered { OnOk result (B.failed backing.new ≡ B.failed backing.old) }
         ensures failed { OnErr result (B.failed backing.old < B.failed backing.new) }
-        ensures failing { B.will_answer backing.old ≡ Some false → IsBacked self.old.tree file → IsErr result }
+        ensures failing { B.will_answer backing.old ≡ Some false → IsBacked self.old.tree located.file → IsErr result }
         ensures answering { B.will_answer backing.old ≡ Some true → IsOk result }
         ensures same_content { (file : FileId) → B.content backing.new file ≡ B.content backing.old file }
     {
-        let told = ask(&self.tree, backing, file)?;
+        let told = ask(&self.tree, backing, located)?;
         self.map.load(number, told);
         Ok(told)
     }
 }
 
-/// Returns the attributes of `file`. The backing is asked for a regular file of the manifest; the tree knows any other.
-fn ask<B: Backing>(tree: &Tree, backing: &mut B, file: FileId) -> Result<Attr, BackingFault>
+/// Returns the attributes of the file that was located. The backing is asked for a regular file of the manifest; the
+/// tree knows any other.
+fn ask<B: Backing>(tree: &Tree, backing: &mut B, located: Located) -> Result<Attr, BackingFault>
     requires is_tree { IsTree tree.now }
-    requires there { IsSome (tree_file tree.now file) }
+    requires there { IsSome (tree_file tree.now located.file) }
+    requires linkage { is_unlinked tree.now located.file ≡ lacks_name located.linkage }
     requires backs { Backs (B.content backing.old) tree.now }
-    ensures attr { IfOk result (λ told. attr_of tree.now file ≡ Some told) }
-    ensures backed { OnErr result (IsBacked tree.now file) }
+    ensures attr { IfOk result (λ told. attr_of tree.now located.file ≡ Some told) }
+    ensures backed { OnErr result (IsBacked tree.now located.file) }
     ensures answered { OnOk result (B.failed backing.new ≡ B.failed backing.old) }
     ensures failed { OnErr result (B.failed backing.old < B.failed backing.new) }
-    ensures failing { B.will_answer backing.old ≡ Some false → IsBacked tree.now file → IsErr result }
+    ensures failing { B.will_answer backing.old ≡ Some false → IsBacked tree.now located.file → IsErr result }
     ensures answering { B.will_answer backing.old ≡ Some true → IsOk result }
     ensures same_content { (other : FileId) → B.content backing.new other ≡ B.content backing.old other }
 {
-    let Some(attr) = tree.attr(file) else {
-        unreachable!()
-    };
-    if attr.kind == Kind::Dir {
+    if let Some(attr) = known(tree, located.file) {
         return Ok(attr);
     }
-    if tree.perm_made(file).is_some() {
-        return Ok(attr);
-    }
-    let content = backing.attr(file)?;
+    let content = backing.attr(located.file)?;
     Ok(Attr {
         kind: content.kind,
         perm: content.perm,
         size: content.size,
-        nlink: attr.nlink,
+        nlink: located.linkage.nlink(content.kind),
     })
+}
+
+/// Returns the attributes of `file` if the tree knows them by itself: if it is a directory, or was made since the
+/// manifest.
+fn known(tree: &Tree, file: FileId) -> Option<Attr>
+    requires there { IsSome (tree_file tree.now file) }
+    ensures attr { IfSome result (λ told. attr_of tree.now file ≡ Some told) }
+    ensures backed { IfNone result (IsBacked tree.now file) }
+    ensures not_backed { OnSome result (IsBacked tree.now file → ⊥) }
+{
+    if tree.kind(file) == Some(Kind::File) && tree.perm_made(file).is_none() {
+        return None;
+    }
+    let Some(attr) = tree.attr(file) else {
+        unreachable!()
+    };
+    Some(attr)
 }
 
 /// Returns the error for the cause why no number could be given.

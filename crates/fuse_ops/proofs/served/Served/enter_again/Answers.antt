@@ -1,10 +1,10 @@
 -- The number of a name that has one is held once more; the count is taken back where the backing fails.
-use Rattle.std.proofs.Common.{◌≡◌, Some, sym, ap, ◌∙◌, subst}
+use Rattle.std.proofs.Common.{◌≡◌, false, Some, sym, ap, ◌∙◌, subst}
 use Rattle.std.specs.Option.{option_map}
 use Rattle.eden_base.specs.declared.errno.Errno.{Errno}
 use Rattle.eden_base.specs.declared.errno.Errno.TheVariants.{EIO}
 use Rattle.eden_base.specs.declared.number.FileId.{FileId}
-use Rattle.checkout.specs.ChangedTree.{attr_of}
+use Rattle.checkout.specs.ChangedTree.{attr_of, is_unlinked}
 use Rattle.fuse_wire.specs.declared.reply.Answer.TheVariants.{Entry, Error}
 use Rattle.entry_table.proofs.FileLemmas.{IsFileOf-same}
 use Rattle.entry_table.specs.Entries.{entry_at, number_of_kept, IsFileOf}
@@ -62,6 +62,17 @@ pub load_asked-requires-clause-other : goal.load_asked-requires-clause-other
 load_asked-requires-clause-other g c =
     let may = again-may (served_over c.self.inside.tree c.self.inside.map) c.args.self.now c.args.dir c.args.name.now c.args.number c.self.view_is c.self.invariant c.requires.has c.in-Ok.ensures.accepted in
     entered-other _ _ _ _ may.1 c.give_again.new.self c.in-Ok.number c.in-Ok.ensures.number c.in-Ok.ensures.given
+
+pub load_asked-requires-clause-linkage : goal.load_asked-requires-clause-linkage
+load_asked-requires-clause-linkage g c =
+    let may = again-may (served_over c.self.inside.tree c.self.inside.map) c.args.self.now c.args.dir c.args.name.now c.args.number c.self.view_is c.self.invariant c.requires.has c.in-Ok.ensures.accepted in
+    let names = entered-names _ _ _ _ may.1 c.give_again.new.self c.in-Ok.number c.in-Ok.ensures.number c.in-Ok.ensures.given in
+    let linked = entered-linked _ _ _ _ may.1 c.give_again.new.self c.in-Ok.number c.in-Ok.ensures.number c.in-Ok.ensures.given in
+    let file = c.in-Some-file_of.file in
+    let at = subst (λ (s : ServedState). IsFileOf s.tree s.map.entries c.in-Ok.number.0 file) c.in_default.ensures.unchanged c.in-Some-file_of.ensures.located in
+    let same : file ≡ may.0.file = IsFileOf-same _ _ _ file may.0.file at names in
+    subst (λ (s : ServedState). is_unlinked s.tree file ≡ false) (sym (c.file_of.ensures.unchanged ∙ c.in_default.ensures.unchanged))
+    (subst (λ (f : FileId). is_unlinked c.self.inside.tree f ≡ false) (sym same) linked)
 
 pub returns-in-Ok-load_asked-clause-answer : goal.returns-in-Ok-load_asked-clause-answer
 returns-in-Ok-load_asked-clause-answer g c =

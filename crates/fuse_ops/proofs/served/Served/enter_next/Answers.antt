@@ -1,19 +1,29 @@
 -- The next number is given, and its file's attributes are the first that are loaded of it.
-use Rattle.std.proofs.Common.{◌≡◌, ap, refl, sym, ◌∙◌, subst, arith}
+use Rattle.std.proofs.Common.{◌≡◌, false, Option, ap, refl, sym, ◌∙◌, subst, arith}
 use Rattle.std.proofs.lemmas.Bool.Decides.{nat_tests}
 use Rattle.std.specs.Prelude.{◌≤◌}
 use Rattle.eden_base.specs.Limits.{end_of_numbers}
 use Rattle.eden_base.specs.declared.errno.Errno.TheVariants.{EIO}
+use Rattle.eden_base.specs.declared.number.FileId.{FileId}
+use Rattle.checkout.specs.ChangedTree.{is_unlinked}
 use Rattle.entry_table.specs.Entries.{entry_at}
-use Rattle.fuse_ops.specs.Answers.{IsBacked}
+use Rattle.fuse_ops.specs.Answers.{IsBacked, found_in}
 use Rattle.fuse_ops.specs.Gifts.{served_over}
 use Rattle.fuse_ops.specs.Loading.{LoadsTold}
 use Rattle.fuse_ops.specs.Served.{ServedState}
 use Rattle.fuse_ops.specs.Work.{errno_of}
 use Rattle.fuse_ops.proofs.Asking.{failed-known, fault-not_eio, full-known, not-both, told-known}
 use Rattle.fuse_ops.proofs.Entering.{may-enter, entered-entry, may-load, loaded-knows, loaded-told}
+use Rattle.fuse_ops.proofs.Finding.{found-linked}
 use Rattle.fuse_ops.proofs.Unloaded.{new-refused}
 use Rattle.fuse_ops.proofs.served.Served.enter_next.Goals as goal
+
+pub ask-requires-clause-linkage : goal.ask-requires-clause-linkage
+ask-requires-clause-linkage g c =
+    let found = c.args.found in
+    let told = c.requires.found.found in
+    subst (λ (s : ServedState). is_unlinked s.tree found.file ≡ false) (sym c.self.view_is)
+    (found-linked c.args.self.now.tree found.dir found.file c.args.name.now (ap (λ (o : Option FileId). found_in c.args.self.now.tree o c.args.name.now) (sym told.0) ∙ told.1))
 
 pub remember-requires : goal.remember-requires
 remember-requires g c =

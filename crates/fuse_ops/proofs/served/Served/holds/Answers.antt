@@ -1,10 +1,9 @@
 -- The relation that the tree tells is the function of the table.
-use Rattle.std.proofs.Common.{◌≡◌, Bool, ◌&&◌, subst, rules}
+use Rattle.std.proofs.Common.{◌≡◌, ◌&&◌, subst, rules}
 use Rattle.eden_base.specs.declared.attr.Kind.TheVariants.{Dir}
 use Rattle.std.specs.Prelude.{Some}
 use Rattle.manifest.specs.Tree.{is_dir, kind_of}
 use Rattle.fuse_ops.specs.Above.{is_at_or_above}
-use Rattle.fuse_ops.specs.Gifts.{served_over}
 use Rattle.fuse_ops.specs.Served.{ServedState}
 use Rattle.fuse_ops.proofs.MovedKeeps.{holds-is}
 use Rattle.fuse_ops.proofs.served.Served.holds.Goals as goal

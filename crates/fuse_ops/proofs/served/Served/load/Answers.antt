@@ -1,11 +1,13 @@
 -- The root's number names a file of the tree, and what is loaded is not asked for.
-use Rattle.std.proofs.Common.{sym, ap, ◌∙◌, subst}
+use Rattle.std.proofs.Common.{◌≡◌, sym, ap, ◌∙◌, subst}
 use Rattle.eden_base.proofs.NumberTests.{true-eq}
+use Rattle.checkout.specs.ChangedTree.{is_unlinked}
 use Rattle.inode_map.specs.InodeMap.{attr_of}
 use Rattle.fuse_ops.specs.Answers.{IsBacked}
 use Rattle.fuse_ops.specs.Gifts.{served_over}
 use Rattle.fuse_ops.specs.Served.{ServedState, IsUnloaded}
 use Rattle.fuse_ops.specs.Soundness.{Names}
+use Rattle.fuse_ops.specs.Work.{lacks_name}
 use Rattle.fuse_ops.proofs.Asking.{on-err}
 use Rattle.fuse_ops.proofs.Known.{named-file}
 use Rattle.fuse_ops.proofs.Unloaded.{number-loaded, number-unloaded, root-unbacked}
@@ -35,3 +37,6 @@ returns-clause-not_loaded g c =
     let none = ap (λ (s : ServedState). attr_of s.map.loaded c.args.number.0) c.self.view_is ∙ c.in_default.ensures.unloaded in
     on-err c.load_asked.result _ _ (λ backed. subst (λ (s : ServedState). IsUnloaded s file) c.self.view_is
     (number-unloaded old c.self.invariant.0 c.self.invariant.1 c.args.number.0 file names none (subst (λ (s : ServedState). IsBacked s.tree file) before backed))) c.load_asked.ensures.backed
+
+pub ask-requires-clause-linkage : goal.ask-requires-clause-linkage
+ask-requires-clause-linkage g c = subst (λ (s : ServedState). is_unlinked s.tree c.args.located.file ≡ lacks_name c.args.located.linkage) (sym c.self.view_is) c.requires.linkage

@@ -1,7 +1,4 @@
 -- No name was found, so the backing was not asked.
-use Rattle.std.proofs.Common.{Err, subst}
-use Rattle.fuse_ops.specs.Served.{ServedState}
-use Rattle.fuse_ops.specs.Work.{Finds}
 use Rattle.fuse_ops.proofs.Asking.{unfound-known}
 use Rattle.fuse_ops.proofs.served.Served.look_up.Goals as goal
 
