@@ -90,9 +90,9 @@ fn keeps_a_number_at_each_key(rt: HostRuntime) {
 
 #[test]
 fn makes_a_key_of_a_number_and_bytes(rt: HostRuntime) {
-    let own = key_of(5, b"".as_slice()) == 5;
-    let one = key_of(0, b"a".as_slice()) == 97;
-    let two = key_of(0, b"ab".as_slice()) == 0xF305_1F49_3B39_0457;
-    let nine = key_of(5, b"file1.txt".as_slice()) == 0x81E8_1331_EDD7_CE6F;
-    assert!(rt; own && one && two && nine);
+    let none = key_of(5, b"".as_slice()) == 0x0769_C09D_5C54_E1AE;
+    let two = key_of(5, b"ab".as_slice()) == 0xFFBA_4C5A_D61E_2006;
+    let eight = key_of(5, b"file1.tx".as_slice()) == 0x9A92_2E61_74DD_B206;
+    let nine = key_of(5, b"file1.txt".as_slice()) == 0x23D0_C93C_2AB5_E0B3;
+    assert!(rt; none && two && eight && nine);
 }

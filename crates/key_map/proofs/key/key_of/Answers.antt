@@ -1,5 +1,6 @@
--- Eight bytes more, and what is left behind the last eight.
-use Rattle.std.proofs.Common.{◌∙◌}
+-- Eight bytes more, and the last eight behind all.
+use Rattle.std.proofs.Common.{◌%◌, ◌*◌, ◌^◌, ◌∙◌}
+use Rattle.key_map.specs.Keys.{factor, key_of}
 use Rattle.key_map.proofs.KeyLemmas.{goes_on, ends}
 use Rattle.key_map.proofs.key.key_of.Goals as goal
 
@@ -11,4 +12,8 @@ loop-word-preserved c =
     ∙ c.loop-word.invariant
 
 pub returns : goal.returns
-returns c = record { key = c.key_with_each.ensures.key ∙ ends c.loop-word.key c.loop-word.rest.now c.in_default.ensures.cases ∙ c.loop-word.invariant }
+unfolding key_of
+returns c = record {
+  key = c.key_with.ensures.key
+      ∙ ends ((c.args.number * factor) % 2 ^ 64) c.loop-word.key c.key_with_last.result c.args.bytes.now c.loop-word.rest.now c.in_default.ensures.cases c.loop-word.invariant c.key_with_last.ensures.key;
+}
