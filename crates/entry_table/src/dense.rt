@@ -17,41 +17,33 @@ pub(crate) fn index_if(slots: &[Slot], index: usize, number: Number) -> Option<u
     }
 }
 
-/// Returns the index of the slot of `number` if no number between the slot at `guess` and it is missing, and mostly none
-/// otherwise. It looks at one slot besides that at `guess`.
-fn dense_index_around(slots: &[Slot], guess: usize, number: Number) -> Option<usize>
-    ensures index { IfSome result (IsIndexOf slots.now number.0) }
-{
-    let above = number.0.wrapping_sub(slots.get(guess)?.0);
-    index_if(slots, guess.wrapping_add(above as usize), number)
-}
-
 /// Returns the index of the slot of `number` if no number between the first slot's and `number` is missing, and mostly
 /// none otherwise. It looks at one slot besides the first.
 pub(crate) fn dense_index_of(slots: &[Slot], number: Number) -> Option<usize>
     ensures index { IfSome result (IsIndexOf slots.now number.0) }
 {
-    dense_index_around(slots, 0, number)
+    let above = number.0.wrapping_sub(slots.first()?.0);
+    index_if(slots, above as usize, number)
 }
 
-/// Returns the index of the slot of `number` if no number between `number` and the last slot's is missing, and mostly
-/// none otherwise. It looks at one slot besides the last.
-pub(crate) fn dense_index_from_end(slots: &[Slot], number: Number) -> Option<usize>
-    ensures index { IfSome result (IsIndexOf slots.now number.0) }
-{
-    dense_index_around(slots, slots.len().wrapping_sub(1), number)
-}
+/// How many slots `index_by_steps` looks at.
+const STEPS: u32 = 6;
 
-/// Returns the index of the slot of `number` if about as many numbers are missing before it as would be if the missing
-/// ones were spread evenly, and mostly none otherwise. It looks at two slots besides the first and the last.
-pub(crate) fn even_index_of(slots: &[Slot], number: Number) -> Option<usize>
+/// Returns the index of the slot of `number` if a few steps lead there. Each step goes as many slots on, or back, as the
+/// number at hand is below `number`, or above it. It misses by as many slots as numbers are missing between the two. So
+/// where one of 64 numbers is missing, a step comes 64 times nearer.
+pub(crate) fn index_by_steps(slots: &[Slot], number: Number) -> Option<usize>
     ensures index { IfSome result (IsIndexOf slots.now number.0) }
 {
-    let (first, last) = (slots.first()?.0, slots.last()?.0);
-    let above = number.0.wrapping_sub(first);
-    let steps = slots.len().wrapping_sub(1) as u64;
-    let guess = above
-        .wrapping_mul(steps)
-        .checked_div(last.wrapping_sub(first))?;
-    dense_index_around(slots, guess as usize, number)
+    let last = slots.len().checked_sub(1)?;
+    let mut index = 0;
+    for _ in 0..STEPS {
+        let there = slots[index].0;
+        if there == number.0 {
+            return Some(index);
+        }
+        let beyond = number.0.wrapping_sub(there) as usize;
+        index = index.wrapping_add(beyond).min(last);
+    }
+    None
 }

@@ -15,7 +15,7 @@ ghost use Rattle.entry_table.specs.Table.{IsIn, kept_of, without_entry, AreOfKep
 
 mod moves;
 
-use crate::dense::{dense_index_from_end, dense_index_of, even_index_of, index_if};
+use crate::dense::{dense_index_of, index_by_steps, index_if};
 use crate::index::Index;
 use crate::kept::{Entry, Kept};
 use crate::way::locate;
@@ -440,18 +440,15 @@ fn index_of(slots: &[Slot], number: Number) -> Option<usize>
     sparse_index_of(slots, number)
 }
 
-/// Returns the index of the slot of `number`, where numbers before it are missing. It isn't inlined, so that the code
-/// of its callers stays short.
+/// Returns the index of the slot of `number`, where numbers before it are missing: by steps, or else by halving. It isn't
+/// inlined, so that the code of its callers stays short.
 #[inline(never)]
 fn sparse_index_of(slots: &[Slot], number: Number) -> Option<usize>
     requires { IsSlots slots.now }
     ensures index { IfSome result (IsIndexOf slots.now number.0) }
     ensures none { IfNone result (slot_at slots.now number.0 ≡ None) }
 {
-    if let Some(index) = even_index_of(slots, number) {
-        return Some(index);
-    }
-    if let Some(index) = dense_index_from_end(slots, number) {
+    if let Some(index) = index_by_steps(slots, number) {
         return Some(index);
     }
     let index = up_to(slots, number).checked_sub(1)?;
