@@ -1,11 +1,12 @@
 -- What requests read of a tree, beyond its files and names, and the trees that they make of it. A file that is unlinked
 -- stays in the tree. (EdenFS's documents on inodes and the overlay; `nlink` is that of stat(2).)
-use Rattle.std.specs.Prelude.{ℕ, ◌+◌, Bool, ◌&&◌, ◌==◌, not, nat_lt, List, length, Option, None, if◌then◌else◌}
+use Rattle.std.specs.Prelude.{ℕ, ◌+◌, Bool, true, false, ◌&&◌, ◌==◌, not, nat_lt, List, length, Option, None, Some, if◌then◌else◌}
 use Rattle.std.specs.Option.{option_map}
 use Rattle.std.specs.List.{list_any}
 use Rattle.std.specs.FinMap.{insert, remove, entries}
 use Rattle.eden_base.specs.declared.attr.Attr.{Attr}
 use Rattle.eden_base.specs.declared.attr.Kind.{Kind}
+use Rattle.eden_base.specs.declared.attr.Kind.TheVariants.{File as RegularFile, Dir}
 use Rattle.eden_base.specs.declared.attr.Perm.{Perm}
 use Rattle.eden_base.specs.declared.number.FileId.{FileId}
 use Rattle.manifest.specs.Manifest.{File}
@@ -14,6 +15,12 @@ use Rattle.manifest.specs.Tree.{Tree, file_of, kind_of, is_dir, nlink_of_kind}
 -- whether some link gives the file
 abbrev pub is_linked : Tree → FileId → Bool
 is_linked tree file = list_any (λ (link : (ℕ × List ℕ) × FileId). link.1.0 == file.0) (entries tree.links)
+
+-- whether this is the kind of a regular file
+abbrev pub is_regular : Option Kind → Bool
+is_regular None = false
+is_regular (Some RegularFile) = true
+is_regular (Some Dir) = false
 
 -- whether a file is unlinked: it is not the root, and no link gives it
 abbrev pub is_unlinked : Tree → FileId → Bool
@@ -43,6 +50,10 @@ abbrev pub perm_made : Tree → FileId → Option Perm
 perm_made tree file =
     if nat_lt file.0 (length tree.manifest.lines + 2) then None
     else option_map (λ (f : File). f.perm) (file_of tree file)
+
+-- whether the file is a regular file of the manifest: the backing tells its attributes, and the tree those of any other
+abbrev pub is_backed : Tree → FileId → Bool
+is_backed tree file = nat_lt file.0 (length tree.manifest.lines + 2) && is_regular (kind_of tree file)
 
 -- whether the file is a directory of the tree in which some link stands
 abbrev pub is_full_dir : Tree → FileId → Bool

@@ -11,7 +11,7 @@ ghost use Rattle.checkout.specs.Changes.{AreChanges};
 ghost use Rattle.checkout.specs.declared.changes.Changes.{Changes as ChangesState};
 ghost use Rattle.checkout.specs.Create.{IsCreateRefusal};
 ghost use Rattle.manifest.specs.Tree.{Tree as TreeState, IsTree, tree_of, child_of, kind_of, file_of, nlink_of_kind};
-ghost use Rattle.checkout.specs.ChangedTree.{attr_of, perm_made, next_file, nlink_of, has_links, is_empty_dir, is_full_dir, is_linked, is_unlinked, created, removed};
+ghost use Rattle.checkout.specs.ChangedTree.{attr_of, perm_made, next_file, nlink_of, has_links, is_empty_dir, is_full_dir, is_backed, is_linked, is_regular, is_unlinked, created, removed};
 ghost use Rattle.checkout.specs.RenamedTree.{can_replace, renamed, IsAtOrAbove};
 
 use crate::added::Added;
@@ -158,6 +158,16 @@ impl Tree {
         }
         let made = self.made.get(file)?;
         Some(made.perm)
+    }
+
+    /// Returns whether the file is a regular file of the manifest: its attributes are the backing's to tell.
+    pub fn is_backed(&self, file: FileId) -> bool
+        ensures backed { result ≡ is_backed self.now file }
+    {
+        match self.manifest.content(file) {
+            Some(content) => is_regular(content.kind),
+            None => false,
+        }
     }
 
     /// Returns whether some name leads to the file. No name leads to the root.
@@ -356,5 +366,15 @@ impl Tree {
         overlay::lose(&self.manifest, gone, lost, Some(file));
         overlay::lose(&self.manifest, gone, lost, replaced);
         Ok(())
+    }
+}
+
+/// Returns whether this is the kind of a regular file.
+fn is_regular(kind: Kind) -> bool
+    ensures { result ≡ is_regular (Some kind) }
+{
+    match kind {
+        Kind::File => true,
+        Kind::Dir => false,
     }
 }
