@@ -238,8 +238,8 @@ fn ask<B: Backing>(tree: &Tree, backing: &mut B, located: Located) -> Result<Att
     ensures answering { B.will_answer backing.old ≡ Some true → IsOk result }
     ensures same_content { (other : FileId) → B.content backing.new other ≡ B.content backing.old other }
 {
-    if let Some(attr) = known(tree, located.file) {
-        return Ok(attr);
+    if !tree.is_backed(located.file) {
+        return Ok(known(tree, located.file));
     }
     let content = backing.attr(located.file)?;
     Ok(Attr {
@@ -250,21 +250,16 @@ fn ask<B: Backing>(tree: &Tree, backing: &mut B, located: Located) -> Result<Att
     })
 }
 
-/// Returns the attributes of `file` if the tree knows them by itself: if it is a directory, or was made since the
-/// manifest.
-fn known(tree: &Tree, file: FileId) -> Option<Attr>
+/// Returns the attributes of `file`, as the tree knows them. It isn't inlined, so that its caller stays short.
+#[inline(never)]
+fn known(tree: &Tree, file: FileId) -> Attr
     requires there { IsSome (tree_file tree.now file) }
-    ensures attr { IfSome result (λ told. attr_of tree.now file ≡ Some told) }
-    ensures backed { IfNone result (IsBacked tree.now file) }
-    ensures not_backed { OnSome result (IsBacked tree.now file → ⊥) }
+    ensures attr { attr_of tree.now file ≡ Some result }
 {
-    if tree.kind(file) == Some(Kind::File) && tree.perm_made(file).is_none() {
-        return None;
-    }
     let Some(attr) = tree.attr(file) else {
         unreachable!()
     };
-    Some(attr)
+    attr
 }
 
 /// Returns the error for the cause why no number could be given.
