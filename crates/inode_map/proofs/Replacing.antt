@@ -5,13 +5,14 @@ use Rattle.std.specs.Map.{keys_of, lookup, remove_entry, set_value}
 use Rattle.std.specs.Option.{option_map_or}
 use Rattle.std.specs.BTreeMap.{insert_entry}
 use Rattle.std.specs.Ordering.{nat_cmp}
-use Rattle.eden_base.proofs.NumberTests.{eq-true, eq-false, eq-or}
+use Rattle.eden_base.proofs.NumberTests.{eq-false, eq-or}
 use Rattle.entry_table.specs.Table.{note_of, without_note}
 use Rattle.inode_map.specs.Loaded.{AreNamed}
 use Rattle.inode_map.specs.declared.loaded.LoadedAttr.{LoadedAttr}
 use Rattle.inode_map.proofs.Loading.{Held, same-slot}
 use Rattle.inode_map.proofs.Naming.{note-gone, note-other, named-lost, named-added}
-use Rattle.node_arena.specs.Arena.{Arena, arena, is_slot, slots_of, value_at, with_first, without, with_value, touched}
+use Rattle.node_arena.proofs.CallerLemmas.{value_at-with_value}
+use Rattle.node_arena.specs.Arena.{Arena, IsHeld, arena, is_slot, slots_of, value_at, with_first, without, with_value, touched}
 use Rattle.node_arena.specs.declared.slot.Slot.{Slot}
 
 -- a slot that stands nowhere has no attributes
@@ -39,13 +40,20 @@ kept s t (e ∷ es) other = in_ (is_slot s e.0) refl (kept s t es other) where
       sym (ap (λ b. cond b (Some e.1) (lookup (is_slot t) es)) apart)
   in_ false at rest = ap (λ (o : Option LoadedAttr). cond (is_slot t e.0) (Some e.1) o) rest
 
--- what is touched and then replaced stands as if it was removed and the other added
-pub replaced : (old : Arena LoadedAttr) (s : Slot) (was x : LoadedAttr) → value_at old s ≡ Some was → with_value (touched old s) s x ≡ with_first (without old s) s x
-replaced old s was x at =
-    ap (λ (o : Option LoadedAttr). with_value (option_map_or (λ (l : LoadedAttr). with_first (without old s) s l) o old) s x) at
-    ∙ ap (λ b. arena (cond b ((s, x) ∷ rest) ((s, was) ∷ set_value (is_slot s) rest x)) old.capacity) (eq-true s.index s.index refl) where
-      rest : Held
-      rest = remove_entry (is_slot s) old.entries
+-- what is written into a slot is of no matter once the slot is removed
+written : (s : Slot) (x : LoadedAttr) (es : Held) → remove_entry (is_slot s) (set_value (is_slot s) es x) ≡ remove_entry (is_slot s) es
+written s x [] = refl
+written s x (e ∷ es) = in_ (is_slot s e.0) refl (written s x es) where
+  in_ : (b : Bool) → is_slot s e.0 ≡ b → remove_entry (is_slot s) (set_value (is_slot s) es x) ≡ remove_entry (is_slot s) es →
+      remove_entry (is_slot s) (cond b ((e.0, x) ∷ es) (e ∷ set_value (is_slot s) es x)) ≡ cond b es (e ∷ remove_entry (is_slot s) es)
+  in_ true at rest = ap (λ b. cond b es ((e.0, x) ∷ remove_entry (is_slot s) es)) at
+  in_ false at rest = ap (λ b. cond b (set_value (is_slot s) es x) (e ∷ remove_entry (is_slot s) (set_value (is_slot s) es x))) at ∙ ap (λ (xs : Held). e ∷ xs) rest
+
+-- what is written and then touched stands as if the one before was removed and it was added
+pub replaced : (old : Arena LoadedAttr) (s : Slot) (x : LoadedAttr) → IsHeld old s → touched (with_value old s x) s ≡ with_first (without old s) s x
+replaced old s x held =
+    ap (λ (o : Option LoadedAttr). option_map_or (λ (l : LoadedAttr). with_first (without (with_value old s x) s) s l) o (with_value old s x)) (value_at-with_value old s x held)
+    ∙ ap (λ (es : Held). with_first (arena es old.capacity) s x) (written s x old.entries)
 
 -- a number without a note has none once another lost its own
 pub unnoted-still : (notes : List (ℕ × ℕ)) (n m : ℕ) → note_of notes m ≡ None → note_of (without_note notes n) m ≡ None

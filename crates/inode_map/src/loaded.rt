@@ -79,15 +79,15 @@ pub(crate) fn unload_oldest(table: &mut Table, nodes: &mut Nodes<LoadedAttr>) ->
     true
 }
 
-/// Puts `loaded` into the node of the attributes that were used longest ago, which are unloaded. `loaded` becomes the
-/// most recent.
-fn replace_oldest(table: &mut Table, nodes: &mut Nodes<LoadedAttr>, loaded: LoadedAttr)
-    requires entry { IsSome (entry_of table.old.entries loaded.number.0) }
-    requires unloaded { attr_of (attrs_in nodes.old) loaded.number.0 ≡ None }
+/// Puts `number` and `attr` into the node of the attributes that were used longest ago, which are unloaded. They become
+/// the most recent.
+fn replace_oldest(table: &mut Table, nodes: &mut Nodes<LoadedAttr>, number: Number, attr: Attr)
+    requires entry { IsSome (entry_of table.old.entries number.0) }
+    requires unloaded { attr_of (attrs_in nodes.old) number.0 ≡ None }
     requires some { 0 < length nodes.old.entries }
     requires entries { AreOfKept loaded_number table.old.entries (attrs_in nodes.old) }
     requires named { AreNamed table.old.notes nodes.old }
-    ensures loaded { attrs_in nodes.new ≡ loaded ∷ without_oldest (attrs_in nodes.old) }
+    ensures loaded { attrs_in nodes.new ≡ record { number = number; attr = attr } ∷ without_oldest (attrs_in nodes.old) }
     ensures capacity { nodes.new.capacity ≡ nodes.old.capacity }
     ensures table { table.new ≡ record table.old { notes = table.new.notes } }
     ensures still_named { AreNamed table.new.notes nodes.new }
@@ -96,11 +96,12 @@ fn replace_oldest(table: &mut Table, nodes: &mut Nodes<LoadedAttr>, loaded: Load
     let Some(oldest) = nodes.oldest() else {
         unreachable!()
     };
-    let unloaded = nodes.get(oldest).number;
+    let node = nodes.get_mut(oldest);
+    let unloaded = node.number;
+    *node = LoadedAttr { number, attr };
     nodes.touch(oldest);
-    *nodes.get_mut(oldest) = loaded;
     table.note(unloaded, None);
-    table.note(loaded.number, Some(oldest.index));
+    table.note(number, Some(oldest.index));
 }
 
 /// Adds `loaded` as the most recent, where the limit isn't reached.
@@ -138,11 +139,10 @@ pub(crate) fn load_attr(
     ensures still_named { AreNamed table.new.notes nodes.new }
 {
     nodes.slots_are_apart();
-    let loaded = LoadedAttr { number, attr };
     if nodes.len() == nodes.capacity() {
-        replace_oldest(table, nodes, loaded);
+        replace_oldest(table, nodes, number, attr);
     } else {
-        add(table, nodes, loaded);
+        add(table, nodes, LoadedAttr { number, attr });
     }
 }
 
