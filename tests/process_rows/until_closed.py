@@ -134,6 +134,10 @@ def standard_input_may_have_ended_before(room):
         script = f"exec {room.program} {words} {stream}"
         status, printed = run_to_end(["sh", "-c", script], stdout=subprocess.PIPE, cwd=room.path)
         same((status, printed.decode().splitlines()[-1:]), (0, ["closed"]))
+    if os.path.lexists(room.takeover_at):
+        os.remove(room.takeover_at)
+    # somebody listens and answers nothing, since a daemon that finds nobody may tell that first
+    room.listen(room.takeover_at)
     room.take_over("--until-closed", stdin=subprocess.DEVNULL).ends(["closed"])
     broker.kill()
 
