@@ -227,7 +227,7 @@ impl Table {
         if k == 0 {
             return None;
         }
-        let index = index_or_near(self.slots.as_slice(), self.near, number)?;
+        let index = index_or_near(self.slots.as_slice(), &self.near, number)?;
         self.near = index;
         let slot = &mut self.slots[index];
         let Some(entry) = &mut slot.1 else {
@@ -262,7 +262,7 @@ impl Table {
         requires held { IsSome (entry_of self.old.entries number.0) }
         ensures noted { self.new ≡ record self.old { notes = noted self.old.notes number.0 note } }
     {
-        let Some(index) = index_or_near(self.slots.as_slice(), self.near, number) else {
+        let Some(index) = index_or_near(self.slots.as_slice(), &self.near, number) else {
             unreachable!()
         };
         let slot = &mut self.slots[index];
@@ -472,8 +472,8 @@ fn index_near(slots: &[Slot], near: usize, number: Number) -> Option<usize>
 }
 
 /// Returns the index of the slot of `number`. Where numbers before it are missing, it looks at the slot with the index
-/// `last` before it searches.
-fn index_or_near(slots: &[Slot], last: usize, number: Number) -> Option<usize>
+/// `last` before it searches. Elsewhere it doesn't read `last`.
+fn index_or_near(slots: &[Slot], last: &usize, number: Number) -> Option<usize>
     requires { IsSlots slots.now }
     ensures index { IfSome result (IsIndexOf slots.now number.0) }
     ensures none { IfNone result (slot_at slots.now number.0 ≡ None) }
@@ -481,7 +481,7 @@ fn index_or_near(slots: &[Slot], last: usize, number: Number) -> Option<usize>
     if let Some(index) = dense_index_of(slots, number) {
         return Some(index);
     }
-    if let Some(index) = index_if(slots, last, number) {
+    if let Some(index) = index_if(slots, *last, number) {
         return Some(index);
     }
     sparse_index_of(slots, number)

@@ -337,7 +337,9 @@ impl InodeMap {
         attr_at(&self.table, &mut self.loaded, number)
     }
 
-    /// Loads the attributes of `number`. If the limit is reached, the oldest attributes are unloaded first.
+    /// Loads the attributes of `number`. If the limit is reached, the oldest attributes are unloaded first. It is inlined
+    /// but for the case below the limit, since most requests of a large checkout load one file in place of another.
+    #[inline(always)]
     pub fn load(&mut self, number: Number, attr: Attr)
         requires entry { IsSome (entry_of self.old.entries number.0) }
         requires unloaded { attr_of self.old.loaded number.0 ≡ None }

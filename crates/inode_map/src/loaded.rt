@@ -81,6 +81,7 @@ pub(crate) fn unload_oldest(table: &mut Table, nodes: &mut Nodes<LoadedAttr>) ->
 
 /// Puts `number` and `attr` into the node of the attributes that were used longest ago, which are unloaded. They become
 /// the most recent.
+#[inline(always)]
 fn replace_oldest(table: &mut Table, nodes: &mut Nodes<LoadedAttr>, number: Number, attr: Attr)
     requires entry { IsSome (entry_of table.old.entries number.0) }
     requires unloaded { attr_of (attrs_in nodes.old) number.0 ≡ None }
@@ -105,6 +106,7 @@ fn replace_oldest(table: &mut Table, nodes: &mut Nodes<LoadedAttr>, number: Numb
 }
 
 /// Adds `loaded` as the most recent, where the limit isn't reached.
+#[inline(never)]
 fn add(table: &mut Table, nodes: &mut Nodes<LoadedAttr>, loaded: LoadedAttr)
     requires entry { IsSome (entry_of table.old.entries loaded.number.0) }
     requires unloaded { attr_of (attrs_in nodes.old) loaded.number.0 ≡ None }
@@ -123,6 +125,7 @@ fn add(table: &mut Table, nodes: &mut Nodes<LoadedAttr>, loaded: LoadedAttr)
 }
 
 /// Loads attributes, which become the most recent. If the limit is reached, the oldest are unloaded first.
+#[inline(always)]
 pub(crate) fn load_attr(
     table: &mut Table,
     nodes: &mut Nodes<LoadedAttr>,
