@@ -21,14 +21,14 @@ pub struct KeyMap {
 }
 
 impl KeyMap {
-    /// Makes a map without numbers. Each tier has half as many buckets as the tier above it.
+    /// Makes a map without numbers. The second tier has a quarter as many buckets as the first, and the third an eighth.
     #[tactic(auto, unfolding(crate::specs::Keys::at_key))]
     pub fn new(alloc: Global) -> KeyMap
         ensures empty { (key : ℕ) → at_key result key ≡ None }
     {
         let third = Tier::over(alloc, 0, 1, Tree::new(alloc));
         let second = Tier::over(alloc, 16, 2, third);
-        let tiers = Tier::over(alloc, 32, 4, second);
+        let tiers = Tier::over(alloc, 32, 8, second);
         KeyMap { tiers, held: 0 }
     }
 
