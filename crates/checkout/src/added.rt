@@ -147,6 +147,14 @@ impl Added {
         Ok(())
     }
 
+    /// Gives back the room that no link takes. No link changes.
+    pub fn trim(&mut self)
+        ensures { self.new ≡ self.old }
+    {
+        self.places.shrink_to_fit();
+        trim(&mut self.counts);
+    }
+
     /// Removes the added link under `name` in `dir`, and returns its file, or none if there is no such link. Takes no
     /// memory.
     pub fn remove(&mut self, dir: FileId, name: &Name) -> Option<FileId>
@@ -302,4 +310,11 @@ fn lower(counts: &mut HashMap<u64, u64>, dir: FileId)
         return;
     }
     counts.remove(&dir.0);
+}
+
+/// Gives back the room that no count takes.
+fn trim(counts: &mut HashMap<u64, u64>)
+    ensures { (d : ℕ) → counted counts.new d ≡ counted counts.old d }
+{
+    counts.shrink_to_fit();
 }

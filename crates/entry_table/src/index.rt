@@ -53,6 +53,7 @@ impl Index {
             let key = key_of(parent.0, name);
             maps.file(alloc, parent.0, name, key, *number)?;
         }
+        maps.trim();
         Ok(Index { maps, latest: None })
     }
 

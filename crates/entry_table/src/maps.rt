@@ -88,6 +88,13 @@ impl Maps {
         Ok(())
     }
 
+    /// Gives back the room that no count takes.
+    pub fn trim(&mut self)
+        ensures { AreAlike self.old self.new }
+    {
+        self.counts.shrink_to_fit();
+    }
+
     /// Removes the link of `number` from its key, or else from under its name, and takes the name off the count.
     pub fn drop_link(&mut self, parent: u64, name: &Name, key: u64, number: u64)
         ensures drops { Drops self.old self.new parent name.now key number }

@@ -47,7 +47,7 @@ fn take(manifest: &Manifest, change: &LinkChange, gone: &mut UnlinkedFiles, lost
     }
 }
 
-/// Returns the added links: one for each change that has a target.
+/// Returns the added links: one for each change that has a target. They take no more room than they need.
 pub fn added(alloc: Global, links: &[LinkChange]) -> Result<Added, NoMemory>
     requires fit { CanAdd empty links.now }
     ensures { IfOk result (λ added. added ≡ with_added empty links.now) }
@@ -58,5 +58,6 @@ pub fn added(alloc: Global, links: &[LinkChange]) -> Result<Added, NoMemory>
             added.insert(alloc, change.dir, &change.name, file)?;
         }
     }
+    added.trim();
     Ok(added)
 }

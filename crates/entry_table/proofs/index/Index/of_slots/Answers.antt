@@ -1,5 +1,5 @@
 -- The index has each linked entry, one after another.
-use Rattle.std.proofs.Common.{ℕ, List, Option, None, take, drop, length, suc, sym, ap, ◌∙◌, subst, arith}
+use Rattle.std.proofs.Common.{ℕ, List, Option, None, take, drop, length, suc, refl, sym, ap, ◌∙◌, subst, arith}
 use Rattle.std.proofs.lemmas.List.{take_all}
 use Rattle.entry_table.specs.Entries.{AreEntries}
 use Rattle.entry_table.specs.Links.{key_of, Files}
@@ -8,6 +8,7 @@ use Rattle.entry_table.specs.declared.index.Index.{Index}
 use Rattle.entry_table.specs.declared.kept.Entry.{Entry}
 use Rattle.entry_table.specs.declared.kept.Kept.{Kept}
 use Rattle.entry_table.proofs.EntryRuns.{cut, taken, indexed-linked, indexed-unlinked, counted-bound, numbers-long, place-in, slot-in, slots-length}
+use Rattle.entry_table.proofs.IndexedLemmas.{indexed-alike}
 use Rattle.entry_table.proofs.index.Index.of_slots.Goals as goal
 
 pub unreachable-requires : goal.unreachable-requires
@@ -59,6 +60,8 @@ returns c =
     let es = kept_from c.args.slots.now in
     let full = ap length c.requires.full in
     let len = slots-length es in
-    let index : Index = record { maps = c.loop-number.maps; latest = None } in
+    let filed : Index = record { maps = c.loop-number.maps; latest = None } in
+    let trimmed : Index = record { maps = c.trim.new.self; latest = None } in
     let past = c.loop-number-test.false in
-    subst (λ (some : List Kept). IsIndexed some index) (take_all c.loop-number.number-index es (omega arith)) c.loop-number.invariant
+    indexed-alike es filed trimmed c.trim.ensures refl
+    (subst (λ (some : List Kept). IsIndexed some filed) (take_all c.loop-number.number-index es (omega arith)) c.loop-number.invariant)
