@@ -1,5 +1,5 @@
 -- The asks without a reply, in the order of their uniques.
-use Rattle.std.specs.Prelude.{ℕ, List, ◌++◌, option_to_list}
+use Rattle.std.specs.Prelude.{ℕ, List}
 use Rattle.std.specs.List.Sorted.{IsStrictlySortedBy}
 use Rattle.std.specs.Ordering.{nat_cmp}
 use Rattle.std.specs.Map.{keys_of}
@@ -10,6 +10,6 @@ use Rattle.broker_core.specs.declared.unanswered.Unanswered.TheInside.{Inside}
 abbrev pub IsRising : List (ℕ × Form) → Type 0
 IsRising asks = IsStrictlySortedBy nat_cmp (keys_of asks)
 
--- the uniques in the map rise, and that of the last ask is above them
+-- the uniques of the asks rise
 abbrev pub IsInOrder : Inside → Type 0
-IsInOrder unanswered = IsRising (unanswered.earlier.entries ++ option_to_list unanswered.last)
+IsInOrder unanswered = IsRising unanswered.asks.items

@@ -1,39 +1,23 @@
 -- What is left is in order.
-use Rattle.broker_core.proofs.RisingLaws.{left-last, left-earlier}
+use Rattle.std.proofs.Common.{rules, List, sym, subst}
+use Rattle.eden_base.specs.First.{IsFirstPlace}
+use Rattle.eden_base.proofs.FirstLemmas.{without_where-none}
+use Rattle.broker_core.specs.Traffic.{is_of}
+use Rattle.broker_core.proofs.AskedLaws.{Asked}
+use Rattle.broker_core.proofs.RisingLaws.{rising-left}
 use Rattle.broker_core.proofs.unanswered.Unanswered.remove.Goals as goal
+
+pub returns-in_default-clause-removed : goal.returns-in_default-clause-removed
+returns-in_default-clause-removed c = sym (without_where-none (is_of c.args.unique) c.args.self.now c.in_default.ensures)
 
 pub invariant_of-self : goal.invariant_of-self
 invariant_of-self c =
-    let inside = c.self.inside in
-    (left-last c.args.unique inside.earlier.entries inside.last _ _ c.self.invariant c.form_in.ensures
-    c.is_some.ensures c.if-is_some.true).rising
-
-pub returns-then-is_some-clause-removed : goal.returns-then-is_some-clause-removed
-returns-then-is_some-clause-removed c =
-    let inside = c.self.inside in
-    rw (← c.self.view_is) (left-last c.args.unique inside.earlier.entries inside.last _ _ c.self.invariant
-    c.form_in.ensures c.is_some.ensures c.if-is_some.true).is
-
-pub returns-then-is_some-clause-rising : goal.returns-then-is_some-clause-rising
-returns-then-is_some-clause-rising c =
-    let inside = c.self.inside in
-    (left-last c.args.unique inside.earlier.entries inside.last _ _ c.self.invariant c.form_in.ensures
-    c.is_some.ensures c.if-is_some.true).rising
-
-pub invariant_of-self-2 : goal.invariant_of-self-2
-invariant_of-self-2 c =
-    let inside = c.self.inside in
-    (left-earlier c.args.unique inside.earlier.entries c.remove-form.new.self.entries inside.last _ _ c.self.invariant
-    c.form_in.ensures c.is_some.ensures c.if-is_some.false c.remove-form.ensures.entries).rising
-
-pub returns-clause-removed : goal.returns-clause-removed
-returns-clause-removed c =
-    let inside = c.self.inside in
-    rw (← c.self.view_is) (left-earlier c.args.unique inside.earlier.entries c.remove-form.new.self.entries inside.last
-    _ _ c.self.invariant c.form_in.ensures c.is_some.ensures c.if-is_some.false c.remove-form.ensures.entries).is
+    let first = subst (λ (es : List Asked). IsFirstPlace (is_of c.args.unique) es c.in-Some.index) (sym c.self.view_is) c.in-Some.ensures in
+    let bound = first.bound in
+    rising-left c.args.unique c.self.inside.asks.items c.remove-removed.new.self.items c.in-Some.index c.self.invariant first (search rules)
 
 pub returns-clause-rising : goal.returns-clause-rising
 returns-clause-rising c =
-    let inside = c.self.inside in
-    (left-earlier c.args.unique inside.earlier.entries c.remove-form.new.self.entries inside.last _ _ c.self.invariant
-    c.form_in.ensures c.is_some.ensures c.if-is_some.false c.remove-form.ensures.entries).rising
+    let first = subst (λ (es : List Asked). IsFirstPlace (is_of c.args.unique) es c.in-Some.index) (sym c.self.view_is) c.in-Some.ensures in
+    let bound = first.bound in
+    rising-left c.args.unique c.self.inside.asks.items c.remove-removed.new.self.items c.in-Some.index c.self.invariant first (search rules)
