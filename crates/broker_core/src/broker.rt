@@ -13,6 +13,7 @@ use crate::traffic::Traffic;
 use eden_base::{ClaimFault, DaemonId, NoMemory, Number};
 use fuse_wire::{Ask, Item, Reply, Request};
 use std::alloc::Global;
+use std::collections::VecDeque;
 use std::marker::Model;
 use thiserror::Error;
 
@@ -409,6 +410,20 @@ impl Broker {
         ensures count { result ≡ entries_of self.now.traffic number.0 }
     {
         self.traffic.entries_posted(number)
+    }
+
+    /// Returns the forget items that wait for a daemon, the oldest first.
+    pub fn items(&self) -> &VecDeque<Item>
+        ensures items { result.now.items ≡ self.now.traffic.items }
+    {
+        self.traffic.items()
+    }
+
+    /// Returns the posted replies that the kernel did not get yet, the oldest first.
+    pub fn replies(&self) -> &VecDeque<Reply>
+        ensures replies { result.now.items ≡ self.now.traffic.posted }
+    {
+        self.traffic.replies()
     }
 
     /// Returns whether the ask with this unique is under way, from issue to delivery. Searches the posted replies.

@@ -86,6 +86,13 @@ impl Forgets {
         let (first, second) = self.items.as_slices();
         taken_back(first, number) + taken_back(second, number)
     }
+
+    /// Returns the items, the oldest first.
+    pub(crate) fn items(&self) -> &VecDeque<Item>
+        ensures items { result.now.items ≡ self.now }
+    {
+        &self.items
+    }
 }
 
 /// Removes the first items, as many as a batch may have, and returns them.

@@ -243,6 +243,20 @@ impl Traffic {
         let (first, second) = self.posted.as_slices();
         entries_of(first, number) + entries_of(second, number)
     }
+
+    /// Returns the forget items that wait, the oldest first.
+    pub(crate) fn items(&self) -> &VecDeque<Item>
+        ensures items { result.now.items ≡ self.now.items }
+    {
+        self.forgets.items()
+    }
+
+    /// Returns the posted replies that the kernel did not get yet, the oldest first.
+    pub(crate) fn replies(&self) -> &VecDeque<Reply>
+        ensures replies { result.now.items ≡ self.now.posted }
+    {
+        &self.posted
+    }
 }
 
 /// Returns whether `answer` gives out no number, or one other than 0 and the root.
