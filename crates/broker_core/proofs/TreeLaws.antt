@@ -67,6 +67,13 @@ module _ (old new : List (ℕ × ℕ)) (n : ℕ) where
   pub lowered-some : (k : ℕ) → k < held_count (map_of old) n → Sets old new n (Some (held_count (map_of old) n - k)) → map_of new ≡ lowered (map_of old) n k
   lowered-some k more sets = inserted (held_count (map_of old) n - k) sets ∙ sym (lowered-less (map_of old) n k more)
 
+  -- a number without a count is held no less
+  pub lowered-none : (k : ℕ) → count_in old n ≡ None → ((q : ℕ) → count_in new q ≡ count_in old q) → map_of new ≡ lowered (map_of old) n k
+  lowered-none k none same = lowered-all k (omega (arith, held_count-found old n None none)) (λ q. same q ∙ here q (is_at (nat_cmp n) q) refl) where
+    here : (q : ℕ) (b : Bool) → is_at (nat_cmp n) q ≡ b → count_in old q ≡ cond b None (count_in old q)
+    here q true at = let one : n ≡ q = grind (arith, nat_tests, one_test n q, at) in subst (λ m. count_in old m ≡ None) one none
+    here q false at = refl
+
   module _ (kept : (q : ℕ) → count_in old q ≢ Some 0) where
     pub kept-some : (c : ℕ) → 1 ≤ c → Sets old new n (Some c) → (q : ℕ) → count_in new q ≢ Some 0
     kept-some c some sets q none = either (is_at (nat_cmp n) q) (sym (sets q) ∙ none) where
@@ -102,3 +109,10 @@ least-first m n above rest next c kept range is = (grind (arith, nat_tests, firs
 
 pub least-none : (m : BTreeMap ℕ ℕ) (n : ℕ) (above : List (ℕ × ℕ)) → IsRangeOf nat_cmp (Excluded n) Unbounded m above → above ≡ [] → (q : ℕ) → n < q → held_count (map_of m.entries) q ≡ 0
 least-none m n above range is q low = held_count-found m.entries q None (range.5 is q ((let less : nat_cmp n q ≡ Less = grind (arith, nat_tests) in less), tt))
+
+-- a count that is written as it was, and then taken out
+pub sets-out : (old same new : List (ℕ × ℕ)) (n c : ℕ) → Sets old same n (Some c) → Sets same new n None → Sets old new n None
+sets-out old same new n c first then q = then q ∙ (either (is_at (nat_cmp n) q) (first q)) where
+  either : (b : Bool) → count_in same q ≡ cond b (Some c) (count_in old q) → cond b None (count_in same q) ≡ cond b None (count_in old q)
+  either true e = refl
+  either false e = e

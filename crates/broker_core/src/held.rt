@@ -58,14 +58,14 @@ impl Held {
     pub(crate) fn lower(&mut self, number: Number, k: u64)
         ensures lowered { self.new ≡ lowered self.old number.0 k }
     {
-        if self.count(number) <= k {
-            let _count = self.counts.remove(&number.0);
+        let Some(count) = self.counts.get_mut(&number.0) else {
+            return;
+        };
+        if *count > k {
+            *count -= k;
             return;
         }
-        let Some(count) = self.counts.get_mut(&number.0) else {
-            unreachable!();
-        };
-        *count -= k;
+        let _count = self.counts.remove(&number.0);
     }
 
     /// Empties the map.
