@@ -6,7 +6,8 @@ mod decimal;
 mod event_line;
 mod lines;
 mod print;
-mod taken_back;
+mod sums;
+mod under_way;
 
 pub use broker_line::{BrokerLine, read_broker_line};
 pub use decimal::number;

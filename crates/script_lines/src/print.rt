@@ -1,23 +1,20 @@
 //! The lines that a script's events print.
-ghost use Rattle.std.specs.Prelude.{◌≡◌, ◌≤◌, ◌<◌, ◌^◌, ◌∷◌, [], length, sum_by, count_by, IfSome, OnOk};
+ghost use Rattle.std.specs.Prelude.{◌≡◌, ◌≤◌, ◌<◌, ◌^◌, ◌∷◌, [], length, IfSome, OnOk};
 ghost use Rattle.std.specs.Fmt.{decimal};
 ghost use Rattle.std.specs.Io.KnownBytes.{Appends};
 ghost use Rattle.std.specs.Option.{option_copied};
-ghost use Rattle.broker_core.specs.Traffic.{gives};
 ghost use Rattle.entry_table.specs.declared.kept.Kept.{Kept};
 ghost use Rattle.daemon.specs.Server.{at_position};
-ghost use Rattle.world.specs.State.{hand_of};
-ghost use Rattle.script_lines.specs.Gathered.{members};
-ghost use Rattle.script_lines.specs.Printed.{printed, line, line_of, said_line, message_words, total_length, length_at, refusal_line, asked_words, spaced, reply_line, answer_words, file_words, octal, world_lines, served_lines, kept_lines, kept_line, count_words, taken_back_by, taken_back_under_way, given_under_way, place_line};
+ghost use Rattle.script_lines.specs.Gathered.{AreUnderWay};
+ghost use Rattle.script_lines.specs.Printed.{printed, line, line_of, said_line, message_words, total_length, length_at, refusal_line, asked_words, spaced, reply_line, answer_words, file_words, octal, world_lines, served_lines, kept_lines, kept_line, count_words, place_line};
 
-use crate::taken_back::TakenBack;
+use crate::under_way::{Counts, UnderWay};
 use broker_core::Seat;
 use eden_base::{Attr, DaemonId, Number, Perm, Place};
 use fuse_ops::Served;
 use fuse_wire::{Answer, Reply};
 use inode_map::InodeMap;
 use map_image::PART_LEN;
-use std::collections::VecDeque;
 use std::io::{self, Write};
 use takeover_core::Message;
 use world::{Event, Happened, Outcome, Refusal, World};
@@ -281,16 +278,15 @@ fn print_all_kept<W: Write>(
     ensures { OnOk result (Appends (W.contents out.old) (W.contents out.new)
         (kept_lines world.now daemon map.now.entries)) }
 {
-    let hand = world.hand(daemon);
-    let mut taken_back = TakenBack::gather(hand, Number::ROOT.0);
+    let mut under_way = UnderWay::gather(world, daemon, Number::ROOT.0);
     let mut last = Number::ROOT;
     while let Some(number) = map.after(last) {
         let Some(place) = map.entry(number) else {
             unreachable!()
         };
-        let in_hand = taken_back.of(hand, number);
+        let counts = under_way.of(world, daemon, number);
         let count = map.count(number);
-        print_kept(out, world, daemon, number, in_hand, count, place)?;
+        print_kept(out, world, daemon, number, counts, count, place)?;
         last = number;
     }
     Ok(())
@@ -302,19 +298,18 @@ fn print_kept<W: Write>(
     world: &World,
     daemon: DaemonId,
     number: Number,
-    in_hand: u128,
+    counts: Counts,
     count: u64,
     place: &Place,
 ) -> io::Result<()>
-    requires sum { in_hand ≡ sum_by (taken_back_by number.0) (hand_of world.now daemon) }
-    requires below { in_hand < 2 ^ 127 }
+    requires counts { AreUnderWay world.now daemon number.0 counts }
     ensures { (kept : Kept) → kept ≡ record { number = number; place = place.now; count = count }
         → OnOk result (Appends (W.contents out.old) (W.contents out.new)
         (kept_line world.now daemon kept)) }
 {
     let n = number.0;
     write!(out, "number {n} ")?;
-    print_counts(out, world, daemon, number, in_hand, count)?;
+    print_counts(out, world, daemon, number, counts, count)?;
     print_place(out, place)
 }
 
@@ -324,65 +319,16 @@ fn print_counts<W: Write>(
     world: &World,
     daemon: DaemonId,
     number: Number,
-    in_hand: u128,
+    counts: Counts,
     count: u64,
 ) -> io::Result<()>
-    requires sum { in_hand ≡ sum_by (taken_back_by number.0) (hand_of world.now daemon) }
-    requires below { in_hand < 2 ^ 127 }
+    requires counts { AreUnderWay world.now daemon number.0 counts }
     ensures { OnOk result (Appends (W.contents out.old) (W.contents out.new)
         (spaced (count_words world.now daemon number.0 count))) }
 {
     let held = world.broker().held(number);
-    let up = taken_back_under_way(world, daemon, number, in_hand);
-    let down = given_under_way(world, daemon, number);
+    let Counts { up, down } = counts;
     write!(out, "held {held} up {up} down {down} count {count} ")
-}
-
-/// Returns how many lookups of `number` the items that wait and the items in a daemon's hand take back.
-fn taken_back_under_way(world: &World, daemon: DaemonId, number: Number, in_hand: u128) -> u128
-    requires sum { in_hand ≡ sum_by (taken_back_by number.0) (hand_of world.now daemon) }
-    requires below { in_hand < 2 ^ 127 }
-    ensures { result ≡ taken_back_under_way world.now daemon number.0 }
-{
-    u128::from(world.broker().forgets_waiting(number)) + in_hand
-}
-
-/// Returns how many replies give `number` out, of those that `daemon` did not post and those that wait for the kernel.
-fn given_under_way(world: &World, daemon: DaemonId, number: Number) -> u128
-    ensures { result ≡ given_under_way world.now daemon number.0 }
-{
-    let unposted = entries_unposted(world.unposted(daemon), number);
-    unposted + u128::from(world.broker().entries_posted(number))
-}
-
-/// Returns how many of a daemon's unposted replies give `number` out. Returns 0 if the daemon serves nothing.
-fn entries_unposted(replies: Option<&VecDeque<Reply>>, number: Number) -> u128
-    ensures count { result ≡ count_by (gives number.0) (members replies.entry) }
-    ensures below { result < 2 ^ 127 }
-{
-    let Some(replies) = replies else {
-        return 0;
-    };
-    let (front, back) = replies.as_slices();
-    u128::from(entries_of(front, number)) + u128::from(entries_of(back, number))
-}
-
-/// Returns how many of `replies` give `number` out.
-fn entries_of(replies: &[Reply], number: Number) -> u64
-    ensures { result ≡ count_by (gives number.0) replies.now }
-{
-    let count = replies.iter().filter(|reply| gives(reply, number)).count();
-    count as u64
-}
-
-/// Returns whether `reply` gives `number` out.
-fn gives(reply: &Reply, number: Number) -> bool
-    ensures { result ≡ gives number.0 reply.now }
-{
-    match reply.answer.given_out() {
-        Some(given) => given == number,
-        None => false,
-    }
 }
 
 /// Prints the place of a number. A name is written byte for byte.

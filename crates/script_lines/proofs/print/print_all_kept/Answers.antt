@@ -6,7 +6,7 @@ use Rattle.script_lines.proofs.print.print_all_kept.Goals as goal
 pub loop-number-init : goal.loop-number-init
 loop-number-init g c = record {
   lines = λ are end more. kept_lines_same c.args.world.now c.args.daemon _ c.args.map.now.entries _ end (above-all 2 c.args.map.now.next 1 c.args.map.now.entries are (omega arith)) more;
-  gathered = c.gather-taken_back.ensures.gathered;
+  gathered = c.gather-under_way.ensures.gathered;
 }
 
 pub unreachable-requires : goal.unreachable-requires
@@ -25,7 +25,7 @@ loop-number-preserved g c = record {
       let (kept, i) = next-is 2 c.args.map.now.next c.loop-number.last.0 c.args.map.now.entries c.in-Some.number are (sym c.after.ensures.after ∙ c.in-Some.is) in
       let is = kept-is c.args.map.now.next c.loop-number.last.0 c.args.map.now.entries c.in-Some.number kept c.entry.result c.in-Some-entry.place c.count-count.result i c.entry.ensures.place c.in-Some-entry.is c.count-count.ensures.count in
       c.loop-number.invariant.lines are end (kept_lines_more c.args.world.now c.args.daemon kept _ _ _ _ end i.goes_on (c.in_ok-print_kept.ensures kept is) more);
-  gathered = c.of-in_hand.ensures.gathered;
+  gathered = c.of-counts.ensures.gathered;
 }
 
 pub returns : goal.returns

@@ -1,0 +1,65 @@
+//! How many lookups are under way between a daemon and the kernel.
+ghost use Rattle.std.specs.Prelude.{◌≡◌, ◌<◌, slice_index_or};
+ghost use Rattle.script_lines.specs.Gathered.{AreUnderWay, IsGathered};
+
+use crate::sums::Sums;
+use eden_base::{DaemonId, Number};
+use world::World;
+
+/// How many lookups of a number are taken back, and how many replies give the number out.
+#[derive(Clone, Copy)]
+pub(crate) struct Counts {
+    pub(crate) up: u128,
+    pub(crate) down: u128,
+}
+
+/// What is under way on each of 256 numbers.
+#[derive(Drop)]
+pub(crate) struct UnderWay {
+    /// What the items that wait and the items in the daemon's hand take back.
+    up: Sums,
+    /// What the replies that the daemon did not post and the posted ones give out.
+    down: Sums,
+}
+
+impl UnderWay {
+    /// Goes over all that is under way once, and sums up for the numbers from `low` on.
+    pub(crate) fn gather(world: &World, daemon: DaemonId, low: u64) -> UnderWay
+        ensures gathered { IsGathered world.now daemon result }
+        ensures low { result.up.low ≡ low }
+    {
+        let mut up = Sums::new(low);
+        up.add_queue(world.broker().items());
+        up.add_any(world.hand(daemon));
+        let mut down = Sums::new(low);
+        down.add_queue(world.broker().replies());
+        down.add_any(world.unposted(daemon));
+        UnderWay { up, down }
+    }
+
+    /// Returns what is under way on `number`. If `number` is not among the summed ones, goes over all that is under way
+    /// again, for `number` and the numbers after it.
+    pub(crate) fn of(&mut self, world: &World, daemon: DaemonId, number: Number) -> Counts
+        requires gathered { IsGathered world.now daemon self.old }
+        ensures counts { AreUnderWay world.now daemon number.0 result }
+        ensures gathered { IsGathered world.now daemon self.new }
+    {
+        if let Some(at) = self.up.index_of(number) {
+            return self.at(at);
+        }
+        *self = UnderWay::gather(world, daemon, number.0);
+        self.at(0)
+    }
+
+    /// Returns both sums at index `at`.
+    fn at(&self, at: usize) -> Counts
+        requires within { at < 256 }
+        ensures up { result.up ≡ slice_index_or self.now.up.sums at 0 }
+        ensures down { result.down ≡ slice_index_or self.now.down.sums at 0 }
+    {
+        Counts {
+            up: self.up.at(at),
+            down: self.down.at(at),
+        }
+    }
+}
