@@ -47,8 +47,18 @@ impl UnderWay {
         if let Some(at) = self.up.index_of(number) {
             return self.at(at);
         }
-        *self = UnderWay::gather(world, daemon, number.0);
+        self.gather_again(world, daemon, number.0);
         self.at(0)
+    }
+
+    /// Goes over all that is under way again, and sums up for the numbers from `low` on. It isn't inlined, since its
+    /// 8,208 bytes would be filled in for each number then.
+    #[inline(never)]
+    fn gather_again(&mut self, world: &World, daemon: DaemonId, low: u64)
+        ensures gathered { IsGathered world.now daemon self.new }
+        ensures low { self.new.up.low ≡ low }
+    {
+        *self = UnderWay::gather(world, daemon, low);
     }
 
     /// Returns both sums at index `at`.
