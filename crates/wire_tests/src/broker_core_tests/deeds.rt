@@ -306,12 +306,36 @@ fn are_numbers_found(alloc: Global, broker: &mut Broker, last: u64) -> bool {
     }
 }
 
+/// Returns how many of the posted replies give `number` out.
+fn given_out(broker: &Broker, number: Number) -> u64 {
+    let mut count = 0u64;
+    for reply in broker.replies().iter() {
+        if reply.answer.given_out() == Some(number) {
+            count = count.wrapping_add(1);
+        }
+    }
+    count
+}
+
+/// Returns how often the waiting items take `number` back.
+fn taken_back(broker: &Broker, number: Number) -> u64 {
+    let mut sum = 0u64;
+    for item in broker.items().iter() {
+        if item.node == number {
+            sum = sum.wrapping_add(item.k);
+        }
+    }
+    sum
+}
+
 /// Returns whether `number` is held, given out by posted replies, and taken back by waiting items, as often as `counts`
-/// say in this order.
+/// say in this order. Replies and items are also counted one by one.
 fn stands(broker: &Broker, number: Number, counts: [u64; 3]) -> bool {
     broker.held(number) == counts[0]
         && broker.entries_posted(number) == counts[1]
+        && given_out(broker, number) == counts[1]
         && broker.forgets_waiting(number) == counts[2]
+        && taken_back(broker, number) == counts[2]
 }
 
 /// Makes the call of `deed`, and returns whether its result is the expected one.
