@@ -131,6 +131,19 @@ fn write_any(arena: &mut Arena, slots: &[u32]) {
     }
 }
 
+#[inline(never)]
+fn replace_any(arena: &mut Arena, slots: &[u32]) {
+    let mut random = 1;
+    for _ in 0..ROUNDS {
+        random = next_random(random);
+        let slot = pick(slots, random);
+        if arena.is_held(slot) {
+            let value = arena.remove(slot).unwrap();
+            let _ = arena.add(value);
+        }
+    }
+}
+
 pub fn measure(words: &[String]) -> String {
     let capacity = words[0].parse::<usize>().unwrap().clamp(1, 65_536);
     let mut arena = Arena::new(capacity);
@@ -143,6 +156,9 @@ pub fn measure(words: &[String]) -> String {
     }
     for chosen in [&slots[..], few] {
         write_any(&mut arena, chosen);
+    }
+    for chosen in [&slots[..], few] {
+        replace_any(&mut arena, chosen);
     }
     let held = slots.iter().filter(|slot| arena.is_held(**slot));
     let sum = held.fold(0u64, |sum, slot| sum.wrapping_add(arena.get(*slot)));

@@ -11,14 +11,17 @@ use std::time::CpuClock;
 /// How often the calls of a round are made.
 const ROUNDS: u32 = 1_000_000;
 
-/// The names of the rounds, by the calls in each. The last two rounds pick any slot, the two before them one of eight.
-const NAMES: [&str; 6] = [
+/// The names of the rounds, by the calls in each. The last three rounds pick any slot, the three before them one of
+/// eight.
+const NAMES: [&str; 8] = [
     "oldest/touch",
     "oldest/remove/add",
     "is_held/touch",
     "is_held/get/get_mut",
+    "is_held/remove/add",
     "any:is_held/touch",
     "any:is_held/get/get_mut",
+    "any:is_held/remove/add",
 ];
 
 /// Returns the next number of a fixed sequence (Knuth's MMIX generator).
@@ -97,6 +100,21 @@ fn write_any(nodes: &mut Nodes<u64>, slots: &[Slot]) {
     }
 }
 
+/// Calls `is_held`, `remove` and `add` of slots in a random order.
+#[inline(never)]
+fn replace_any(nodes: &mut Nodes<u64>, slots: &[Slot]) {
+    let mut random = 1;
+    for _ in 0..ROUNDS {
+        random = next_random(random);
+        if let Some(slot) = pick(slots, random) {
+            if nodes.is_held(slot) {
+                let value = nodes.remove(slot);
+                let _ = nodes.add(value);
+            }
+        }
+    }
+}
+
 /// The calls of a round.
 #[derive(Clone, Copy)]
 enum Round {
@@ -104,6 +122,7 @@ enum Round {
     ReplaceOldest,
     TouchAny,
     WriteAny,
+    ReplaceAny,
 }
 
 /// Makes the calls of `round`, `ROUNDS` times.
@@ -113,6 +132,7 @@ fn make(round: Round, nodes: &mut Nodes<u64>, slots: &[Slot]) {
         Round::ReplaceOldest => replace_oldest(nodes),
         Round::TouchAny => touch_any(nodes, slots),
         Round::WriteAny => write_any(nodes, slots),
+        Round::ReplaceAny => replace_any(nodes, slots),
     }
 }
 
@@ -136,12 +156,22 @@ fn time_both(
 }
 
 /// Returns the nanoseconds that the calls of each round take, in the order of `NAMES`.
-fn time_all(rt: &impl CpuClock, nodes: &mut Nodes<u64>, slots: &[Slot]) -> [u64; 6] {
+fn time_all(rt: &impl CpuClock, nodes: &mut Nodes<u64>, slots: &[Slot]) -> [u64; 8] {
     let oldest = time(rt, Round::TouchOldest, nodes, slots);
     let replaced = time(rt, Round::ReplaceOldest, nodes, slots);
     let (touched, touched_few) = time_both(rt, Round::TouchAny, nodes, slots);
     let (written, written_few) = time_both(rt, Round::WriteAny, nodes, slots);
-    [oldest, replaced, touched_few, written_few, touched, written]
+    let (put, put_few) = time_both(rt, Round::ReplaceAny, nodes, slots);
+    [
+        oldest,
+        replaced,
+        touched_few,
+        written_few,
+        put_few,
+        touched,
+        written,
+        put,
+    ]
 }
 
 /// Returns the sum of the values in an arena.
