@@ -65,9 +65,17 @@ impl Added {
     pub fn new(alloc: Global) -> Added
         ensures { result ≡ empty }
     {
+        Added::for_links(alloc, 0)
+    }
+
+    /// Makes an empty set of links, the index of which is made for this many `links`. It takes no memory before the first
+    /// link comes.
+    pub fn for_links(alloc: Global, links: usize) -> Added
+        ensures { result ≡ empty }
+    {
         Added {
             places: HashMap::new(alloc),
-            names: Names::new(alloc),
+            names: Names::for_links(alloc, links),
             counts: HashMap::new(alloc),
         }
     }

@@ -33,7 +33,7 @@ impl Index {
         ensures { IsIndexed [] result }
     {
         Index {
-            maps: Maps::new(alloc),
+            maps: Maps::for_links(alloc, 0),
             latest: None,
         }
     }
@@ -44,7 +44,7 @@ impl Index {
         requires entries { (next : ℕ) × AreEntries (kept_from slots.now) next }
         ensures { IfOk result (IsIndexed (kept_from slots.now)) }
     {
-        let mut maps = Maps::new(alloc);
+        let mut maps = Maps::for_links(alloc, slots.len());
         for (number, held) in slots {
             let Some(entry) = held else { unreachable!() };
             let Place::Linked { parent, name } = &entry.place else {

@@ -24,14 +24,14 @@ pub(crate) struct Maps {
 }
 
 impl Maps {
-    /// Returns maps without links.
-    pub fn new(alloc: Global) -> Maps
+    /// Returns maps without links, whose first buckets are enough for this many `links`.
+    pub fn for_links(alloc: Global, links: usize) -> Maps
         ensures numbers { (key : ℕ) → at_key result.numbers key ≡ None }
         ensures others { (dir : ℕ) (q : List ℕ) → written result.others dir q ≡ None }
         ensures counts { (dir : ℕ) → counted result.counts dir ≡ 0 }
     {
         Maps {
-            numbers: KeyMap::new(alloc),
+            numbers: KeyMap::for_numbers(alloc, links),
             others: HashMap::new(alloc),
             counts: HashMap::new(alloc),
         }

@@ -64,9 +64,9 @@ fn right(map: &KeyMap, keys: Keys, removed: bool) -> u64 {
     right
 }
 
-/// Returns whether each key has its number once all were put in, once the odd ones were removed, and once they are back.
-fn keeps(alloc: Global, keys: Keys) -> bool {
-    let mut map = KeyMap::new(alloc);
+/// Puts keys into an empty map. Returns whether each key has its number once all were put in, once the odd ones were
+/// removed, and once they are back.
+fn keeps(alloc: Global, mut map: KeyMap, keys: Keys) -> bool {
     let put = put_all(alloc, &mut map, keys);
     let all = right(&map, keys, false);
     remove_odd(&mut map, keys);
@@ -81,7 +81,19 @@ fn keeps(alloc: Global, keys: Keys) -> bool {
 fn keeps_a_number_at_each_key(rt: HostRuntime) {
     let mut kept = 0u64;
     for keys in &KEYS {
-        if keeps(rt.alloc(), *keys) {
+        if keeps(rt.alloc(), KeyMap::new(rt.alloc()), *keys) {
+            kept = kept.wrapping_add(1);
+        }
+    }
+    assert!(rt; kept == 4);
+}
+
+#[test]
+fn keeps_a_number_at_each_key_in_buckets_made_for_them(rt: HostRuntime) {
+    let mut kept = 0u64;
+    for keys in &KEYS {
+        let map = KeyMap::for_numbers(rt.alloc(), keys.count as usize);
+        if keeps(rt.alloc(), map, *keys) {
             kept = kept.wrapping_add(1);
         }
     }

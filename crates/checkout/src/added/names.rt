@@ -18,13 +18,13 @@ pub(super) struct Names {
 }
 
 impl Names {
-    /// Makes an index without files.
-    pub(super) fn new(alloc: Global) -> Names
+    /// Makes an index without files, whose first buckets are enough for this many `links`.
+    pub(super) fn for_links(alloc: Global, links: usize) -> Names
         ensures keys { (k : ℕ) → at_key result.keys k ≡ None }
         ensures others { result.others ≡ empty }
     {
         Names {
-            keys: KeyMap::new(alloc),
+            keys: KeyMap::for_numbers(alloc, links),
             others: Links::new(alloc),
         }
     }

@@ -52,7 +52,7 @@ pub fn added(alloc: Global, links: &[LinkChange]) -> Result<Added, NoMemory>
     requires fit { CanAdd empty links.now }
     ensures { IfOk result (λ added. added ≡ with_added empty links.now) }
 {
-    let mut added = Added::new(alloc);
+    let mut added = Added::for_links(alloc, links.len());
     for change in links {
         if let Some(file) = change.target {
             added.insert(alloc, change.dir, &change.name, file)?;
