@@ -29,14 +29,14 @@ impl KeyMap {
     }
 
     /// Makes a map without numbers, whose first buckets are enough for this many `numbers`. It takes no memory before
-    /// the first number comes. The second tier has a quarter as many buckets as the first, and the third an eighth.
+    /// the first number comes. The second tier has half as many buckets as the first, and the third an eighth.
     #[tactic(auto, unfolding(crate::specs::Keys::at_key))]
     pub fn for_numbers(alloc: Global, numbers: usize) -> KeyMap
         ensures empty { (key : ℕ) → at_key result key ≡ None }
     {
         let buckets = numbers / CELLS;
         let third = Tier::over(alloc, 0, buckets / 8 + 1, Tree::new(alloc));
-        let second = Tier::over(alloc, 16, buckets / 4 + 2, third);
+        let second = Tier::over(alloc, 16, buckets / 2 + 4, third);
         let tiers = Tier::over(alloc, 32, buckets + 8, second);
         KeyMap { tiers, held: 0 }
     }
