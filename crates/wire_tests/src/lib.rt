@@ -1,8 +1,10 @@
-//! Tests of `byte_codec`, `eden_base`, `node_arena`, `fuse_wire`, `mount_wire`, `mount_desk`, `broker_core`, `broker_desk` and `frames` by their public calls.
+//! Tests of `byte_codec`, `eden_base`, `block_queue`, `node_arena`, `fuse_wire`, `mount_wire`, `mount_desk`, `broker_core`, `broker_desk` and `frames` by their public calls.
 #![tactic(auto)]
 
 #[cfg(test)]
 mod again;
+#[cfg(test)]
+mod block_queue_tests;
 #[cfg(test)]
 mod broker_core_tests;
 #[cfg(test)]
