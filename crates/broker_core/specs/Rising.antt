@@ -4,12 +4,7 @@ use Rattle.std.specs.List.Sorted.{IsStrictlySortedBy}
 use Rattle.std.specs.Ordering.{nat_cmp}
 use Rattle.std.specs.Map.{keys_of}
 use Rattle.fuse_wire.specs.declared.form.Form.{Form}
-use Rattle.broker_core.specs.declared.unanswered.Unanswered.TheInside.{Inside}
 
 -- each unique in the list is above those before it
 abbrev pub IsRising : List (ℕ × Form) → Type 0
 IsRising asks = IsStrictlySortedBy nat_cmp (keys_of asks)
-
--- the uniques of the asks rise
-abbrev pub IsInOrder : Inside → Type 0
-IsInOrder unanswered = IsRising unanswered.asks.items
