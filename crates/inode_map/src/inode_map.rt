@@ -118,8 +118,8 @@ impl InodeMap {
         requires entries { AreEntries entries.items next }
         ensures map { IfOk result (λ map. map ≡ map_of entries.items next loaded_limit) }
     {
-        let loaded = nodes_of(alloc, loaded_limit)?;
         let table = Table::of_entries(alloc, entries, next)?;
+        let loaded = nodes_of(alloc, loaded_limit)?;
         Ok(InodeMap {
             table,
             bad_items: 0,
