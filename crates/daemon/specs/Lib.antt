@@ -1,4 +1,5 @@
 pub mod Server
+pub mod Tasks
 pub mod Daemon
 pub mod Refusals
 pub mod Serving

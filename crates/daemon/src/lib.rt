@@ -10,6 +10,7 @@ mod messages;
 mod position;
 mod server;
 mod taking;
+mod task;
 mod turn;
 
 pub use daemon::Daemon;
@@ -18,4 +19,5 @@ pub use lease::Lease;
 pub use messages::Messages;
 pub use position::index_of;
 pub use server::{Server, opening};
+pub use task::Task;
 pub use turn::{Reaction, Turn};

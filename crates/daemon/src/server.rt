@@ -1,6 +1,5 @@
 //! What a daemon serves, with its hand and the replies that it did not post yet.
-ghost use Rattle.std.specs.Prelude.{◌≡◌, ◌++◌, ◌+◌, ◌≤◌, ◌<◌, ◌↔◌, map, length, remove, slice_index_or, IfOk, IfSome, IsSome, OnOk, OnSome};
-ghost use Rattle.std.specs.VecDeque.{deque_len, deque_capacity};
+ghost use Rattle.std.specs.Prelude.{◌≡◌, ◌++◌, ◌+◌, ◌≤◌, map, length, IfOk, OnOk, IsSome};
 ghost use Rattle.broker_core.specs.Broker.{take_fault};
 ghost use Rattle.fuse_ops.specs.Served.{new_served};
 ghost use Rattle.daemon.specs.Server.{at_position, handed, single, told_taken, told_item};
@@ -8,17 +7,17 @@ ghost use Rattle.daemon.specs.Beginning.{PutsBy, ServerBegins};
 ghost use Rattle.daemon.specs.Serving.{beginning, TakesBy, WorksBy, PostsBy};
 ghost use Rattle.daemon.specs.Talking.{at_generation};
 
-use crate::backing::apply;
 use crate::happened::{Begun, Happened, Refusal};
 use crate::lease::Lease;
 use crate::position::index_of;
+use crate::task::Task;
+use block_queue::BlockQueue;
 use broker_core::Broker;
-use eden_base::{DaemonId, NoMemory};
+use eden_base::{DaemonId, NoMemory, Number};
 use fuse_ops::Served;
 use fuse_wire::{Ask, Item, Items, Reply, Request};
 use manifest::Manifest;
 use std::alloc::Global;
-use std::collections::VecDeque;
 use std::marker::Model;
 
 /// What a daemon serves. `hand` has what the daemon took and did not work yet, `unposted` the replies that it did not
@@ -29,9 +28,10 @@ pub struct Server {
     generation: u64,
     manifest: Manifest,
     served: Served,
-    /// Asks, and forgets of one item each.
-    hand: VecDeque<Ask>,
-    unposted: VecDeque<Reply>,
+    hand: BlockQueue<Task>,
+    /// Room for the ask that is taken next, from a take's reservation on. What stands in it means nothing.
+    ask_room: Option<Box<Ask>>,
+    unposted: BlockQueue<Reply>,
 }
 
 impl Model for Server {
@@ -47,8 +47,8 @@ impl Model for Server {
     ghost view = { λ server. record {
       generation = server.generation;
       served = server.served;
-      hand = server.hand.items;
-      unposted = server.unposted.items;
+      hand = server.hand.members;
+      unposted = server.unposted.members;
     } };
 
     ghost invariant = { IsConsistent };
@@ -65,8 +65,9 @@ impl Server {
             generation,
             manifest,
             served,
-            hand: VecDeque::new(alloc),
-            unposted: VecDeque::new(alloc),
+            hand: BlockQueue::new(alloc),
+            ask_room: None,
+            unposted: BlockQueue::new(alloc),
         }
     }
 
@@ -104,15 +105,15 @@ impl Server {
     }
 
     /// Returns the asks and single items that the daemon took and did not work yet.
-    pub fn hand(&self) -> &VecDeque<Ask>
-        ensures hand { result.now.items ≡ self.now.hand }
+    pub fn hand(&self) -> &BlockQueue<Task>
+        ensures hand { result.now.members ≡ self.now.hand }
     {
         &self.hand
     }
 
     /// Returns the replies that the daemon did not post yet.
-    pub fn unposted(&self) -> &VecDeque<Reply>
-        ensures unposted { result.now.items ≡ self.now.unposted }
+    pub fn unposted(&self) -> &BlockQueue<Reply>
+        ensures unposted { result.now.members ≡ self.now.unposted }
     {
         &self.unposted
     }
@@ -123,13 +124,26 @@ impl Server {
         ensures takes { TakesBy (take_fault broker.old daemon self.old.generation)
             self.old broker.old result self.new broker.new }
     {
-        if make_room(&mut self.hand, &mut self.unposted).is_err() {
+        if make_room(
+            self.alloc,
+            &mut self.hand,
+            &mut self.ask_room,
+            &mut self.unposted,
+        )
+        .is_err()
+        {
             return match broker.take_refusal(daemon, self.generation) {
                 Some(fault) => Happened::Refused(Refusal::from(fault)),
                 None => Happened::Refused(Refusal::NoMemory),
             };
         }
-        take_into(&mut self.hand, broker, daemon, self.generation)
+        take_into(
+            &mut self.hand,
+            &mut self.ask_room,
+            broker,
+            daemon,
+            self.generation,
+        )
     }
 
     /// Issues `request`, and then takes what waits first at the broker. Memory for the take is reserved before the
@@ -142,7 +156,14 @@ impl Server {
     ) -> Begun
         ensures begins { ServerBegins broker.old daemon request.now result broker.new self.old self.new }
     {
-        if make_room(&mut self.hand, &mut self.unposted).is_err() {
+        if make_room(
+            self.alloc,
+            &mut self.hand,
+            &mut self.ask_room,
+            &mut self.unposted,
+        )
+        .is_err()
+        {
             return match broker.refusal(request) {
                 Some(fault) => Begun::Refused(Refusal::from(fault)),
                 None => Begun::Refused(Refusal::NoMemory),
@@ -151,7 +172,13 @@ impl Server {
         match broker.issue(request) {
             Ok(unique) => Begun::Issued {
                 unique,
-                taken: take_into(&mut self.hand, broker, daemon, self.generation),
+                taken: take_into(
+                    &mut self.hand,
+                    &mut self.ask_room,
+                    broker,
+                    daemon,
+                    self.generation,
+                ),
             },
             Err(fault) => Begun::Refused(Refusal::from(fault)),
         }
@@ -165,24 +192,18 @@ impl Server {
         let Some(index) = index_of(position, self.hand.len()) else {
             return Happened::Refused(Refusal::NoSuch);
         };
-        let Some(task) = take_out(&mut self.hand, index) else {
+        let Some(task) = self.hand.remove(index) else {
             unreachable!()
         };
-        let told = told_of_item(&self.served, task.what.item());
-        let answer = apply(
-            &mut self.served,
-            self.alloc,
-            &self.manifest,
-            fails,
-            &task.what,
-        );
-        let unique = task.unique;
-        drop(task);
+        let told = told_of_item(&self.served, task.item());
+        let answer = task.apply(&mut self.served, self.alloc, &self.manifest, fails);
+        let unique = task.unique();
+        keep_room(&mut self.ask_room, task);
         let Some(answer) = answer else {
             return told;
         };
         let reply = Reply { unique, answer };
-        self.unposted.push_back_reserved(reply);
+        self.unposted.push_reserved(reply);
         Happened::Made(reply)
     }
 
@@ -194,11 +215,13 @@ impl Server {
         let Some(index) = index_of(position, self.unposted.len()) else {
             return Happened::Refused(Refusal::NoSuch);
         };
-        let reply = self.unposted[index];
+        let Some(reply) = self.unposted.get(index).copied() else {
+            unreachable!()
+        };
         if let Err(fault) = broker.post(daemon, self.generation, reply) {
             return Happened::Refused(Refusal::from(fault));
         }
-        let _posted = take_out(&mut self.unposted, index);
+        let _posted = self.unposted.remove(index);
         Happened::Posted(reply.unique)
     }
 }
@@ -230,57 +253,71 @@ fn told_of_item(served: &Served, item: Option<Item>) -> Happened
     }
 }
 
-/// Removes the member at `index` from `queue` and returns it, if there is one. For the most part `index` is 0.
-fn take_out<T>(queue: &mut VecDeque<T>, index: usize) -> Option<T>
-    ensures value { IfSome result (λ taken. taken ≡ slice_index_or queue.old.items index taken) }
-    ensures items { OnSome result (queue.new.items ≡ remove queue.old.items index) }
-    ensures len { OnSome result (deque_len queue.new + 1 ≡ deque_len queue.old) }
-    ensures capacity { deque_capacity queue.new ≡ deque_capacity queue.old }
-    ensures within { IsSome result ↔ (index < deque_len queue.old) }
-{
-    if index == 0 {
-        return queue.pop_front();
+/// Keeps the memory of an ask that was worked, for the next one.
+fn keep_room(ask_room: &mut Option<Box<Ask>>, task: Task) {
+    if let Some(room) = task.into_room() {
+        *ask_room = Some(room);
     }
-    queue.remove(index)
 }
 
-/// Reserves memory for what a take may bring: for a whole batch in `hand`, and for a reply to each member of `hand`.
-fn make_room(hand: &mut VecDeque<Ask>, unposted: &mut VecDeque<Reply>) -> Result<(), NoMemory>
-    ensures same_hand { hand.new.items ≡ hand.old.items }
-    ensures same_replies { unposted.new.items ≡ unposted.old.items }
-    ensures lens { (deque_len hand.new ≡ deque_len hand.old) × (deque_len unposted.new ≡ deque_len unposted.old) }
-    ensures hand_room { OnOk result (deque_len hand.new + 256 ≤ deque_capacity hand.new) }
-    ensures reply_room { OnOk result (deque_len unposted.new + deque_len hand.new + 256 ≤ deque_capacity unposted.new) }
-    ensures never_less { deque_capacity unposted.old ≤ deque_capacity unposted.new }
+/// Reserves memory for what a take may bring: for a whole batch in `hand` or an ask in `ask_room`, and for a reply to
+/// each member of `hand`.
+fn make_room(
+    alloc: Global,
+    hand: &mut BlockQueue<Task>,
+    ask_room: &mut Option<Box<Ask>>,
+    unposted: &mut BlockQueue<Reply>,
+) -> Result<(), NoMemory>
+    ensures same_hand { hand.new.members ≡ hand.old.members }
+    ensures same_replies { unposted.new.members ≡ unposted.old.members }
+    ensures hand_room { OnOk result (256 ≤ hand.new.room) }
+    ensures ask_room { OnOk result (IsSome ask_room.new) }
+    ensures reply_room { OnOk result (length hand.new.members + 256 ≤ unposted.new.room) }
+    ensures never_less { unposted.old.room ≤ unposted.new.room }
 {
     hand.reserve(Items::MAX_LEN)?;
     unposted.reserve(hand.len() + Items::MAX_LEN)?;
+    if ask_room.is_none() {
+        *ask_room = Some(Box::new(alloc, no_ask())?);
+    }
     Ok(())
+}
+
+/// Returns an ask that nobody issued.
+fn no_ask() -> Ask {
+    Ask {
+        unique: 0,
+        what: Request::Getattr { node: Number(0) },
+    }
 }
 
 /// Takes what waits first at the broker into `hand`, which has room for it.
 fn take_into(
-    hand: &mut VecDeque<Ask>,
+    hand: &mut BlockQueue<Task>,
+    ask_room: &mut Option<Box<Ask>>,
     broker: &mut Broker,
     daemon: DaemonId,
     generation: u64,
 ) -> Happened
-    requires room { deque_len hand.old + 256 ≤ deque_capacity hand.old }
+    requires room { 256 ≤ hand.old.room }
+    requires ask_room { IsSome ask_room.old }
     ensures takes { PutsBy (take_fault broker.old daemon generation)
-        hand.old.items broker.old result hand.new.items broker.new }
-    ensures at_most { deque_len hand.new ≤ deque_len hand.old + 256 }
+        hand.old.members broker.old result hand.new.members broker.new }
+    ensures at_most { length hand.new.members ≤ length hand.old.members + 256 }
 {
     match broker.take(daemon, generation) {
-        Ok(ask) => put_in_hand(hand, ask),
+        Ok(ask) => put_in_hand(hand, ask_room, ask),
         Err(fault) => Happened::Refused(Refusal::from(fault)),
     }
 }
 
-/// Appends what was taken to `hand`: an ask as it is, each item of a forget by itself. Returns what happened.
-fn put_in_hand(hand: &mut VecDeque<Ask>, taken: Ask) -> Happened
-    requires room { deque_len hand.old + 256 ≤ deque_capacity hand.old }
-    ensures hand { hand.new.items ≡ hand.old.items ++ handed taken }
-    ensures at_most { deque_len hand.new ≤ deque_len hand.old + 256 }
+/// Appends what was taken to `hand`: an ask as it is, in `ask_room`, and each item of a forget by itself. Returns what
+/// happened.
+fn put_in_hand(hand: &mut BlockQueue<Task>, ask_room: &mut Option<Box<Ask>>, taken: Ask) -> Happened
+    requires room { 256 ≤ hand.old.room }
+    requires ask_room { IsSome ask_room.old }
+    ensures hand { hand.new.members ≡ hand.old.members ++ handed taken }
+    ensures at_most { length hand.new.members ≤ length hand.old.members + 256 }
     ensures told { result ≡ told_taken taken }
 {
     if !taken.what.is_ask() {
@@ -289,29 +326,22 @@ fn put_in_hand(hand: &mut VecDeque<Ask>, taken: Ask) -> Happened
         return Happened::TookForgets(count);
     }
     let unique = taken.unique;
-    hand.push_back_reserved(taken);
+    let Some(mut ask) = ask_room.take() else {
+        unreachable!()
+    };
+    *ask = taken;
+    hand.push_reserved(Task::of_ask(ask));
     Happened::Took(unique)
 }
 
-/// Appends each item to `hand` as a forget of its own, and returns how many items there are.
-fn put_each(hand: &mut VecDeque<Ask>, items: &[Item]) -> usize
-    requires room { deque_len hand.old + length items.now ≤ deque_capacity hand.old }
-    ensures hand { hand.new.items ≡ hand.old.items ++ map single items.now }
-    ensures len { deque_len hand.new ≡ deque_len hand.old + length items.now }
+/// Appends each item to `hand` as a task of its own, and returns how many items there are.
+fn put_each(hand: &mut BlockQueue<Task>, items: &[Item]) -> usize
+    requires room { length items.now ≤ hand.old.room }
+    ensures hand { hand.new.members ≡ hand.old.members ++ map single items.now }
     ensures count { result ≡ length items.now }
 {
     for item in items {
-        hand.push_back_reserved(by_itself(*item));
+        hand.push_reserved(Task::of_item(*item));
     }
     items.len()
-}
-
-/// Returns a forget of one item.
-fn by_itself(item: Item) -> Ask
-    ensures { result ≡ single item }
-{
-    Ask {
-        unique: 0,
-        what: Request::Forget(item),
-    }
 }

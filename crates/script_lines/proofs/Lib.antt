@@ -1,3 +1,4 @@
+pub mod DigitLemmas
 pub mod GatherLemmas
 pub mod LineLaws
 pub mod NumberLemmas

@@ -7,7 +7,7 @@ use Rattle.fuse_wire.specs.Request.{other_of, is_ask, IsSendable}
 use Rattle.fuse_wire.specs.declared.request.Request.{Request}
 use Rattle.fuse_wire.proofs.OtherLaws.{other-sendable}
 use Rattle.script_lines.specs.BrokerLine.{asked_by, ask_of, seat_of, forgets_of, broker_line_by, broker_line_of, IsSendableLine}
-use Rattle.script_lines.specs.EventLine.{named_of, made_of, pair_of, lookup_of, unlink_of, rmdir_of, rename_of, moved_between, moved_from, names_of, create_of, mkdir_of, forget_of, getattr_of, other_in, other_said, nameless_by, request_by, request_of}
+use Rattle.script_lines.specs.EventLine.{named_of, made_of, pair_of, lookup_of, unlink_of, rmdir_of, rename_of, moved_between, moved_from, names_of, create_of, mkdir_of, forget_of, getattr_of, other_in, other_said, naming_by, request_by, request_of}
 use Rattle.script_lines.specs.Number.{number_of}
 use Rattle.script_lines.specs.Words.{is_word}
 use Rattle.script_lines.specs.declared.broker_line.BrokerLine.TheVariants as says
@@ -39,21 +39,21 @@ sendable-moved words =
     (λ others. followed IsSendable _ (number_of others.0)
     (λ to_dir. mapped IsSendable _ (names_of others.1) (λ _. tt)))))
 
-sendable-nameless : (word rest : List ℕ) → IfSome (nameless_by word rest) IsSendable
-sendable-nameless word rest =
-    either IsSendable (is_word word (codes "forget")) (forget_of rest) _ (mapped IsSendable _ (pair_of rest) (λ _. tt))
-    (either IsSendable (is_word word (codes "getattr")) (getattr_of rest) _ (mapped IsSendable _ (number_of rest) (λ _. tt))
-    (either IsSendable (is_word word (codes "other")) (other_said rest) None (followed IsSendable _ (pair_of rest) (λ pair. sendable-in pair.0 pair.1)) tt))
-
-sendable-by : (word rest : List ℕ) → IfSome (request_by word rest) IsSendable
-sendable-by word rest =
+sendable-naming : (word rest : List ℕ) → IfSome (naming_by word rest) IsSendable
+sendable-naming word rest =
     either IsSendable (is_word word (codes "lookup")) (lookup_of rest) _ (mapped IsSendable _ (named_of rest) (λ _. tt))
     (either IsSendable (is_word word (codes "create")) (create_of rest) _ (mapped IsSendable _ (made_of rest) (λ _. tt))
     (either IsSendable (is_word word (codes "mkdir")) (mkdir_of rest) _ (mapped IsSendable _ (made_of rest) (λ _. tt))
     (either IsSendable (is_word word (codes "unlink")) (unlink_of rest) _ (mapped IsSendable _ (named_of rest) (λ _. tt))
     (either IsSendable (is_word word (codes "rmdir")) (rmdir_of rest) _ (mapped IsSendable _ (named_of rest) (λ _. tt))
-    (either IsSendable (is_word word (codes "rename")) (rename_of rest) _ (sendable-moved rest)
-    (sendable-nameless word rest))))))
+    (either IsSendable (is_word word (codes "rename")) (rename_of rest) None (sendable-moved rest) tt)))))
+
+sendable-by : (word rest : List ℕ) → IfSome (request_by word rest) IsSendable
+sendable-by word rest =
+    either IsSendable (is_word word (codes "forget")) (forget_of rest) _ (mapped IsSendable _ (pair_of rest) (λ _. tt))
+    (either IsSendable (is_word word (codes "getattr")) (getattr_of rest) _ (mapped IsSendable _ (number_of rest) (λ _. tt))
+    (either IsSendable (is_word word (codes "other")) (other_said rest) _
+    (followed IsSendable _ (pair_of rest) (λ pair. sendable-in pair.0 pair.1)) (sendable-naming word rest)))
 
 -- ---- lines
 

@@ -125,24 +125,24 @@ other_in opcode node = if nat_lt opcode (2 ^ 32) then other_of opcode (record { 
 abbrev pub other_said : List ℕ → Option Request
 other_said words = option_and_then (λ (pair : ℕ × ℕ). other_in pair.0 pair.1) (pair_of words)
 
--- a request without a name, by its first word and the rest
-abbrev pub nameless_by : List ℕ → List ℕ → Option Request
-nameless_by word rest =
-    if is_word word (codes "forget") then forget_of rest
-    else if is_word word (codes "getattr") then getattr_of rest
-    else if is_word word (codes "other") then other_said rest
-    else None
-
--- a request, by its first word and the rest
-abbrev pub request_by : List ℕ → List ℕ → Option Request
-request_by word rest =
+-- a request with a name, by its first word and the rest
+abbrev pub naming_by : List ℕ → List ℕ → Option Request
+naming_by word rest =
     if is_word word (codes "lookup") then lookup_of rest
     else if is_word word (codes "create") then create_of rest
     else if is_word word (codes "mkdir") then mkdir_of rest
     else if is_word word (codes "unlink") then unlink_of rest
     else if is_word word (codes "rmdir") then rmdir_of rest
     else if is_word word (codes "rename") then rename_of rest
-    else nameless_by word rest
+    else None
+
+-- a request, by its first word and the rest
+abbrev pub request_by : List ℕ → List ℕ → Option Request
+request_by word rest =
+    if is_word word (codes "forget") then forget_of rest
+    else if is_word word (codes "getattr") then getattr_of rest
+    else if is_word word (codes "other") then other_said rest
+    else naming_by word rest
 
 -- the request that these words write: `lookup N NAME`, `create N MODE NAME`, `mkdir N MODE NAME`, `unlink N NAME`,
 -- `rmdir N NAME`, `rename N NEWDIR OLD/NEW`, `forget N K`, `getattr N` or `other OPCODE N`

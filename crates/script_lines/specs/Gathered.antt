@@ -1,7 +1,7 @@
 -- What the members of queues count for each of 256 numbers, from a lowest one on. (This project's own.)
 use Rattle.std.specs.Prelude.{◌≡◌, ℕ, ◌+◌, ◌*◌, ◌<◌, ◌≤◌, ◌^◌, List, [], length, sum_by, slice_index_or, Option, Some, None, if◌then◌else◌}
 use Rattle.std.specs.Borrow.{Bor}
-use Rattle.std.specs.declared.collections.VecDeque.{VecDeque}
+use Rattle.block_queue.specs.Queue.{Queue}
 use Rattle.eden_base.specs.declared.number.DaemonId.{DaemonId}
 use Rattle.broker_core.specs.Traffic.{gives}
 use Rattle.fuse_wire.specs.declared.reply.Reply.{Reply}
@@ -11,9 +11,9 @@ use Rattle.script_lines.specs.declared.sums.Sums.{Sums}
 use Rattle.script_lines.specs.declared.under_way.Counts.{Counts}
 use Rattle.script_lines.specs.declared.under_way.UnderWay.{UnderWay}
 
--- the members of a ring, and none if there is no ring
-abbrev pub members : {X Z : Type 0} → Option (Bor (VecDeque X Z)) → List X
-members (Some ring) = ring.now.items
+-- the members of a queue, and none if there is no queue
+abbrev pub members : {X : Type 0} → Option (Bor (Queue X)) → List X
+members (Some queue) = queue.now.members
 members None = []
 
 -- how often a reply gives a number out: once, or not at all

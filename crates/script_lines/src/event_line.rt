@@ -1,6 +1,7 @@
 //! The lines of a script, each read as an event.
-ghost use Rattle.std.specs.Prelude.{◌≡◌, IfOk, option_map};
-ghost use Rattle.script_lines.specs.EventLine.{event_of, start_of, with_version, daemon_event_by, mount_of, take_of, work_of, tried_of, tried_at, pair_of, post_of, takeover_event_by, hear_of, drained_of, give_up_of, claim_of, crash_of, issue_of, do_of, request_of, request_by, nameless_by, lookup_of, create_of, mkdir_of, unlink_of, rmdir_of, rename_of, names_of, forget_of, getattr_of, other_said, named_of, made_of, name_of};
+ghost use Rattle.std.specs.Prelude.{◌≡◌, None, IfOk, option_map};
+ghost use Rattle.script_lines.specs.Number.{number_of};
+ghost use Rattle.script_lines.specs.EventLine.{event_of, start_of, with_version, daemon_event_by, mount_of, take_of, work_of, tried_of, tried_at, pair_of, post_of, takeover_event_by, hear_of, drained_of, give_up_of, claim_of, crash_of, issue_of, do_of, request_of, request_by, naming_by, lookup_of, create_of, mkdir_of, unlink_of, rmdir_of, rename_of, names_of, forget_of, getattr_of, other_said, named_of, made_of, name_of};
 
 use crate::decimal::number;
 use arrayvec::ArrayVec;
@@ -133,19 +134,26 @@ fn read_work(words: &[u8]) -> Option<Event>
     })
 }
 
-/// Reads a position, and whether the word `fail` follows it.
+/// Reads a position, and whether the word `fail` follows it. Mostly nothing does, so that is read first.
 fn read_tried(words: &[u8]) -> Option<(u64, bool)>
     ensures { result ≡ tried_of words.now }
 {
-    match cut(words, b' ') {
-        None => Some((number(words)?, false)),
-        Some((position, word)) => {
-            if word != b"fail".as_slice() {
-                return None;
-            }
-            Some((number(position)?, true))
-        }
+    match number(words) {
+        Some(position) => Some((position, false)),
+        None => read_failing(words),
     }
+}
+
+/// Reads a position that the word `fail` follows.
+fn read_failing(words: &[u8]) -> Option<(u64, bool)>
+    requires more { number_of words.now ≡ None }
+    ensures { result ≡ tried_of words.now }
+{
+    let (position, word) = cut(words, b' ')?;
+    if word != b"fail".as_slice() {
+        return None;
+    }
+    Some((number(position)?, true))
 }
 
 /// Reads two numbers, separated by a space.
@@ -236,9 +244,25 @@ pub(crate) fn read_request(alloc: Global, words: &[u8]) -> Result<Option<Request
     }
 }
 
-/// Reads a request by its first word and the rest.
+/// Reads a request by its first word and the rest. A forget is looked for first, since the kernel forgets in batches.
 fn read_request_by(alloc: Global, word: &[u8], rest: &[u8]) -> Result<Option<Request>, NoMemory>
     ensures { IfOk result (λ request. request ≡ request_by word.now rest.now) }
+{
+    if word == b"forget".as_slice() {
+        return Ok(read_forget(rest));
+    }
+    if word == b"getattr".as_slice() {
+        return Ok(read_getattr(rest));
+    }
+    if word == b"other".as_slice() {
+        return Ok(read_other(rest));
+    }
+    read_naming(alloc, word, rest)
+}
+
+/// Reads a request with a name, by its first word and the rest.
+fn read_naming(alloc: Global, word: &[u8], rest: &[u8]) -> Result<Option<Request>, NoMemory>
+    ensures { IfOk result (λ request. request ≡ naming_by word.now rest.now) }
 {
     if word == b"lookup".as_slice() {
         return read_lookup(alloc, rest);
@@ -258,23 +282,7 @@ fn read_request_by(alloc: Global, word: &[u8], rest: &[u8]) -> Result<Option<Req
     if word == b"rename".as_slice() {
         return read_rename(alloc, rest);
     }
-    Ok(read_nameless(word, rest))
-}
-
-/// Reads a request without a name, by its first word and the rest.
-fn read_nameless(word: &[u8], rest: &[u8]) -> Option<Request>
-    ensures { result ≡ nameless_by word.now rest.now }
-{
-    if word == b"forget".as_slice() {
-        return read_forget(rest);
-    }
-    if word == b"getattr".as_slice() {
-        return read_getattr(rest);
-    }
-    if word == b"other".as_slice() {
-        return read_other(rest);
-    }
-    None
+    Ok(None)
 }
 
 /// Reads the words of a `lookup`: a directory's number, and the name to look up in it.

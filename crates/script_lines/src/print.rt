@@ -1,10 +1,11 @@
 //! The lines that a script's events print.
-ghost use Rattle.std.specs.Prelude.{◌≡◌, ◌≤◌, ◌<◌, ◌^◌, ◌∷◌, [], length, IfSome, OnOk};
+ghost use Rattle.std.specs.Prelude.{◌≡◌, ◌≤◌, ◌<◌, ◌^◌, ◌∷◌, [], codes, length, IfSome, OnOk};
 ghost use Rattle.std.specs.Fmt.{decimal};
 ghost use Rattle.std.specs.Io.KnownBytes.{Appends};
 ghost use Rattle.std.specs.Option.{option_copied};
 ghost use Rattle.entry_table.specs.declared.kept.Kept.{Kept};
 ghost use Rattle.daemon.specs.Server.{at_position};
+ghost use Rattle.inode_map.specs.Words.{forgot_name};
 ghost use Rattle.script_lines.specs.Gathered.{AreUnderWay};
 ghost use Rattle.script_lines.specs.Printed.{printed, line, line_of, said_line, message_words, total_length, length_at, refusal_line, asked_words, spaced, reply_line, answer_words, file_words, octal, world_lines, served_lines, kept_lines, kept_line, count_words, place_line};
 
@@ -13,7 +14,7 @@ use broker_core::Seat;
 use eden_base::{Attr, DaemonId, Number, Perm, Place};
 use fuse_ops::Served;
 use fuse_wire::{Answer, Reply};
-use inode_map::InodeMap;
+use inode_map::{Forgot, InodeMap};
 use map_image::PART_LEN;
 use std::io::{self, Write};
 use takeover_core::Message;
@@ -54,10 +55,7 @@ fn print_happened<W: Write>(
         Happened::Took(unique) => print_numbered(out, "took", *unique),
         Happened::TookForgets(count) => writeln!(out, "took forgets {count}"),
         Happened::Made(reply) => print_reply(out, "made", reply),
-        Happened::Forgot { forgot, .. } => {
-            let name = forgot.name();
-            writeln!(out, "forgot {name}")
-        }
+        Happened::Forgot { forgot, .. } => print_forgot(out, *forgot),
         Happened::Posted(unique) => print_numbered(out, "posted", *unique),
         Happened::Answered(reply) => print_reply(out, "answer", reply),
         Happened::Said(position) => print_said(out, messages, *position),
@@ -67,6 +65,16 @@ fn print_happened<W: Write>(
         Happened::Crashed => writeln!(out, "crashed"),
         Happened::Refused(refusal) => print_refusal(out, *refusal),
     }
+}
+
+/// Prints what became of a forget. The words are written as they are, since a form costs more than they do.
+fn print_forgot<W: Write>(out: &mut W, forgot: Forgot) -> io::Result<()>
+    ensures { OnOk result (Appends (W.contents out.old) (W.contents out.new)
+        (line (codes "forgot" ∷ forgot_name forgot ∷ []))) }
+{
+    out.write_all(b"forgot ")?;
+    out.write_all(forgot.name().as_bytes())?;
+    out.write_all(b"\n")
 }
 
 /// Prints a line of a word and a number.
@@ -171,7 +179,7 @@ pub fn print_asked<W: Write>(out: &mut W, unique: Option<u64>) -> io::Result<()>
 {
     match unique {
         Some(unique) => writeln!(out, "asked {unique}"),
-        None => writeln!(out, "asked"),
+        None => out.write_all(b"asked\n"),
     }
 }
 
@@ -278,7 +286,8 @@ fn print_all_kept<W: Write>(
     ensures { OnOk result (Appends (W.contents out.old) (W.contents out.new)
         (kept_lines world.now daemon map.now.entries)) }
 {
-    let mut under_way = UnderWay::gather(world, daemon, Number::ROOT.0);
+    let mut under_way = UnderWay::nothing(Number::ROOT.0);
+    under_way.add_all(world, daemon);
     let mut last = Number::ROOT;
     while let Some(number) = map.after(last) {
         let Some(place) = map.entry(number) else {

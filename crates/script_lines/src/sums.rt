@@ -5,8 +5,10 @@ ghost use Rattle.broker_core.specs.Traffic.{taken_back};
 ghost use Rattle.script_lines.specs.Gathered.{AreAdded, AreBelow, AreZero, IsAdded, given_by, members};
 ghost use Rattle.script_lines.specs.Printed.{taken_back_by};
 
+use block_queue::BlockQueue;
+use daemon::Task;
 use eden_base::Number;
-use fuse_wire::{Ask, Item, Reply};
+use fuse_wire::{Item, Reply};
 use std::collections::VecDeque;
 
 /// For how many numbers one pass over a queue sums up.
@@ -22,11 +24,11 @@ pub(crate) trait Lookups {
         ensures lookups { (n : ℕ) → option_map_or (taken_back n) result 0 ≡ count n self.now };
 }
 
-impl Lookups for Ask {
+impl Lookups for Task {
     ghost count = { taken_back_by };
 
     fn lookups(&self) -> Option<Item> {
-        self.what.item()
+        self.item()
     }
 }
 
@@ -66,6 +68,15 @@ impl Sums {
         }
     }
 
+    /// Makes each sum 0, for the numbers from `low` on.
+    pub(crate) fn clear(&mut self, low: u64)
+        ensures low { self.new.low ≡ low }
+        ensures zero { AreZero self.new }
+    {
+        self.low = low;
+        self.sums = [0; WIDTH];
+    }
+
     /// Returns the index of the sum for `number`, if `number` is among the summed ones.
     pub(crate) fn index_of(&self, number: Number) -> Option<usize>
         ensures { MatchOption result (number.0 < self.now.low ⊎ self.now.low + 256 ≤ number.0)
@@ -87,14 +98,27 @@ impl Sums {
     }
 
     /// Adds what each member of `queue` counts, if there is a queue.
-    pub(crate) fn add_any<M: Lookups>(&mut self, queue: Option<&VecDeque<M>>)
+    pub(crate) fn add_any<M: Lookups + Drop>(&mut self, queue: Option<&BlockQueue<M>>)
         requires small { AreBelow (2 ^ 127) self.old }
         ensures added { AreAdded M.count self.old (members queue.entry) self.new }
     {
         let Some(queue) = queue else {
             return;
         };
-        self.add_queue(queue);
+        self.add_runs(queue);
+    }
+
+    /// Adds what each member of `queue` counts, a run of members after another.
+    fn add_runs<M: Lookups + Drop>(&mut self, queue: &BlockQueue<M>)
+        requires small { AreBelow (2 ^ 127) self.old }
+        ensures added { AreAdded M.count self.old queue.now.members self.new }
+    {
+        let (len, mut at) = (queue.len(), 0);
+        while at < len {
+            let run = queue.run_from(at);
+            self.add_each(run);
+            at += run.len();
+        }
     }
 
     /// Adds what each member of `queue` counts.

@@ -1,6 +1,6 @@
 //! How many lookups are under way between a daemon and the kernel.
 ghost use Rattle.std.specs.Prelude.{◌≡◌, ◌<◌, slice_index_or};
-ghost use Rattle.script_lines.specs.Gathered.{AreUnderWay, IsGathered};
+ghost use Rattle.script_lines.specs.Gathered.{AreUnderWay, AreZero, IsGathered};
 
 use crate::sums::Sums;
 use eden_base::{DaemonId, Number};
@@ -23,18 +23,30 @@ pub(crate) struct UnderWay {
 }
 
 impl UnderWay {
-    /// Goes over all that is under way once, and sums up for the numbers from `low` on.
-    pub(crate) fn gather(world: &World, daemon: DaemonId, low: u64) -> UnderWay
-        ensures gathered { IsGathered world.now daemon result }
-        ensures low { result.up.low ≡ low }
+    /// Makes sums of 0 for the numbers from `low` on, to which `add_all` adds what is under way.
+    pub(crate) fn nothing(low: u64) -> UnderWay
+        ensures low { (result.up.low ≡ low) × (result.down.low ≡ low) }
+        ensures zero { AreZero result.up × AreZero result.down }
     {
-        let mut up = Sums::new(low);
-        up.add_queue(world.broker().items());
-        up.add_any(world.hand(daemon));
-        let mut down = Sums::new(low);
-        down.add_queue(world.broker().replies());
-        down.add_any(world.unposted(daemon));
-        UnderWay { up, down }
+        UnderWay {
+            up: Sums::new(low),
+            down: Sums::new(low),
+        }
+    }
+
+    /// Goes over all that is under way once, and adds it to sums of 0. It isn't inlined, and adds where the sums stand,
+    /// so that 8,208 bytes are filled once and not moved.
+    #[inline(never)]
+    pub(crate) fn add_all(&mut self, world: &World, daemon: DaemonId)
+        requires zero { AreZero self.old.up × AreZero self.old.down }
+        requires same { self.old.down.low ≡ self.old.up.low }
+        ensures gathered { IsGathered world.now daemon self.new }
+        ensures low { self.new.up.low ≡ self.old.up.low }
+    {
+        self.up.add_queue(world.broker().items());
+        self.up.add_any(world.hand(daemon));
+        self.down.add_queue(world.broker().replies());
+        self.down.add_any(world.unposted(daemon));
     }
 
     /// Returns what is under way on `number`. If `number` is not among the summed ones, goes over all that is under way
@@ -51,14 +63,16 @@ impl UnderWay {
         self.at(0)
     }
 
-    /// Goes over all that is under way again, and sums up for the numbers from `low` on. It isn't inlined, since its
-    /// 8,208 bytes would be filled in for each number then.
+    /// Goes over all that is under way again, and sums up for the numbers from `low` on. It isn't inlined, since few
+    /// numbers need it.
     #[inline(never)]
     fn gather_again(&mut self, world: &World, daemon: DaemonId, low: u64)
         ensures gathered { IsGathered world.now daemon self.new }
         ensures low { self.new.up.low ≡ low }
     {
-        *self = UnderWay::gather(world, daemon, low);
+        self.up.clear(low);
+        self.down.clear(low);
+        self.add_all(world, daemon);
     }
 
     /// Returns both sums at index `at`.

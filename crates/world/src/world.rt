@@ -1,7 +1,6 @@
 //! All daemons and the kernel's side of their mount.
 ghost use Rattle.std.specs.Prelude.{◌≡◌, [], IfOk, is_some};
 ghost use Rattle.std.specs.Option.{option_copied, option_map_or};
-ghost use Rattle.std.specs.VecDeque.{deque_items};
 ghost use Rattle.world.specs.State.{started, server_of, served_of, hand_of, unposted_of, handed_of};
 ghost use Rattle.world.specs.Step.{Once, Step};
 ghost use Rattle.world.specs.Beginning.{Begins};
@@ -11,14 +10,14 @@ ghost use Rattle.world.specs.Agreement.{Matches, MovesOn};
 use crate::event::Event;
 use crate::outcome::Outcome;
 use crate::said::{index_of_data, let_turn, say};
+use block_queue::BlockQueue;
 use broker_core::{Broker, DeliverFault};
-use daemon::{Daemon, Happened, Refusal, Server, index_of, opening};
+use daemon::{Daemon, Happened, Refusal, Server, Task, index_of, opening};
 use eden_base::{DaemonId, NoMemory};
 use fuse_ops::Served;
-use fuse_wire::{Ask, Reply, Request};
+use fuse_wire::{Reply, Request};
 use manifest::Manifest;
 use std::alloc::Global;
-use std::collections::VecDeque;
 use std::marker::Model;
 use takeover_core::{Message, Versions};
 
@@ -89,16 +88,16 @@ impl World {
     }
 
     /// Returns the asks and single items that a daemon took and did not work yet, if the daemon serves.
-    pub fn hand(&self, daemon: DaemonId) -> Option<&VecDeque<Ask>>
-        ensures hand { option_map_or deque_items (option_copied result) [] ≡ hand_of self.now daemon }
+    pub fn hand(&self, daemon: DaemonId) -> Option<&BlockQueue<Task>>
+        ensures hand { option_map_or (λ queue. queue.members) (option_copied result) [] ≡ hand_of self.now daemon }
         ensures serves { is_some result ≡ is_some (served_of self.now daemon) }
     {
         Some(self.server(daemon)?.hand())
     }
 
     /// Returns the replies that a daemon did not post yet, if the daemon serves.
-    pub fn unposted(&self, daemon: DaemonId) -> Option<&VecDeque<Reply>>
-        ensures unposted { option_map_or deque_items (option_copied result) [] ≡ unposted_of self.now daemon }
+    pub fn unposted(&self, daemon: DaemonId) -> Option<&BlockQueue<Reply>>
+        ensures unposted { option_map_or (λ queue. queue.members) (option_copied result) [] ≡ unposted_of self.now daemon }
         ensures serves { is_some result ≡ is_some (served_of self.now daemon) }
     {
         Some(self.server(daemon)?.unposted())

@@ -1,4 +1,4 @@
-use Rattle.std.proofs.Common.{◌≡◌, ◌+◌, ◌≤◌, ◌++◌, take, length, deque_len, deque_capacity}
+use Rattle.std.proofs.Common.{◌≡◌, ◌+◌, ◌≤◌, ◌++◌, take, length}
 use Rattle.std.specs.Prelude.{map}
 use Rattle.daemon.specs.Server.{single}
 use Rattle.daemon.proofs.server.put_each.Given as goal
@@ -6,6 +6,6 @@ use Rattle.daemon.proofs.server.put_each.Given as goal
 -- the items so far are in hand, and there is room for the others
 abbrev pub invariant-loop-item : goal.invariant-loop-item
 invariant-loop-item l = record {
-  put : l.hand.items ≡ l.fn.hand.items ++ map single (take l.item-index l.items);
-  room : deque_len l.hand + length l.items ≤ deque_capacity l.hand + l.item-index;
+  put : l.hand.members ≡ l.fn.hand.members ++ map single (take l.item-index l.items);
+  room : length l.items ≤ l.hand.room + l.item-index;
 }

@@ -6,7 +6,7 @@ use Rattle.script_lines.proofs.print.print_all_kept.Goals as goal
 pub loop-number-init : goal.loop-number-init
 loop-number-init g c = record {
   lines = λ are end more. kept_lines_same c.args.world.now c.args.daemon _ c.args.map.now.entries _ end (above-all 2 c.args.map.now.next 1 c.args.map.now.entries are (omega arith)) more;
-  gathered = c.gather-under_way.ensures.gathered;
+  gathered = c.add_all.ensures.gathered;
 }
 
 pub unreachable-requires : goal.unreachable-requires

@@ -1,5 +1,6 @@
 -- What was worked leaves the hand, and its reply is unposted.
-use Rattle.std.proofs.Common.{length, refl, subst, arith}
+use Rattle.std.proofs.Common.{ℕ, ◌≡◌, [], ◌∷◌, ◌++◌, length, refl, subst, sym, ap, ◌∙◌, arith}
+use Rattle.std.proofs.lemmas.Option.{get_or_from_slice_get}
 use Rattle.daemon.specs.Server.{ServerState, at_position}
 use Rattle.daemon.specs.Serving.{IsIndex, WorksBy}
 use Rattle.daemon.specs.declared.happened.Happened.TheVariants.{Made}
@@ -9,32 +10,38 @@ use Rattle.daemon.proofs.server.Server.work.Goals as goal
 
 pub returns-in_default-answer : goal.returns-in_default-answer
 returns-in_default-answer c =
-    let old : ServerState = record { generation = c.self.inside.generation; served = c.self.inside.served; hand = c.self.inside.hand.items; unposted = c.self.inside.unposted.items } in
+    let old : ServerState = record { generation = c.self.inside.generation; served = c.self.inside.served; hand = c.self.inside.hand.members; unposted = c.self.inside.unposted.members } in
     let at : IsIndex (length old.hand) c.args.position c.in-Some.index = record {
       counted = c.in-Some.ensures.index.counted;
       is = c.in-Some.ensures.index.is;
-      within = omega (arith, c.in-Some.ensures.index.within, c.len.ensures, c.self.inside.hand.ok.0);
+      within = omega (arith, c.in-Some.ensures.index.within, c.len.ensures.len);
     } in
-    let new : ServerState = record old { served = c.apply-answer.new.served; hand = c.take_out.new.queue.items; unposted = c.self.inside.unposted.items } in
+    let new : ServerState = record old { served = c.apply-answer.new.served; hand = c.remove.new.self.members; unposted = c.self.inside.unposted.members } in
     record {
       works = subst (λ (s : ServerState). WorksBy (at_position s.hand c.args.position) s c.args.position c.args.fails c.told_of_item-told.result new) c.self.view_is
-          (WorksBy-some old new c.args.position c.args.fails c.in-Some.index c.in-Some-take_out.task c.told_of_item-told.result at c.in-Some-take_out.ensures.value
-          (WorksOff-forgets old (length old.hand) c.args.position c.in-Some.index c.args.fails c.in-Some-take_out.task c.item.result c.told_of_item-told.result c.apply-answer.result c.apply-answer.new.served c.take_out.new.queue.items c.self.inside.unposted.items
-          at (none-unless c.apply-answer.result c.in_default-answer.not-Some) c.apply-answer.ensures.replay c.told_of_item-told.ensures c.item.ensures.item c.in-Some-take_out.ensures.items refl));
+          (WorksBy-some old new c.args.position c.args.fails c.in-Some.index c.in-Some-remove.task c.told_of_item-told.result at
+          (sym (get_or_from_slice_get c.self.inside.hand.members c.in-Some.index c.in-Some-remove.task c.in-Some-remove.task (sym c.in-Some-remove.ensures.value)))
+          (WorksOff-forgets old (length old.hand) c.args.position c.in-Some.index c.args.fails c.in-Some-remove.task c.item.result c.told_of_item-told.result c.apply-answer.result c.apply-answer.new.served c.remove.new.self.members c.self.inside.unposted.members
+          at (none-unless c.apply-answer.result c.in_default-answer.not-Some) c.apply-answer.ensures.replay c.told_of_item-told.ensures c.item.ensures.item c.in-Some-remove.ensures.rest refl));
     }
 
 pub returns : goal.returns
 returns c =
-    let old : ServerState = record { generation = c.self.inside.generation; served = c.self.inside.served; hand = c.self.inside.hand.items; unposted = c.self.inside.unposted.items } in
+    let old : ServerState = record { generation = c.self.inside.generation; served = c.self.inside.served; hand = c.self.inside.hand.members; unposted = c.self.inside.unposted.members } in
     let at : IsIndex (length old.hand) c.args.position c.in-Some.index = record {
       counted = c.in-Some.ensures.index.counted;
       is = c.in-Some.ensures.index.is;
-      within = omega (arith, c.in-Some.ensures.index.within, c.len.ensures, c.self.inside.hand.ok.0);
+      within = omega (arith, c.in-Some.ensures.index.within, c.len.ensures.len);
     } in
-    let new : ServerState = record old { served = c.apply-answer.new.served; hand = c.take_out.new.queue.items; unposted = c.push_back_reserved.new.self.items } in
+    let new : ServerState = record old { served = c.apply-answer.new.served; hand = c.remove.new.self.members; unposted = c.push_reserved.new.self.members } in
+    let unique : c.unique-unique.result ≡ c.in-Some-remove.task.unique = c.unique-unique.ensures.unique in
+    let posted = c.push_reserved.ensures.members ∙ ap (λ (n : ℕ). c.self.inside.unposted.members ++ (record { unique = n; answer = c.in-Some-answer.answer }) ∷ []) unique in
+    let worked : WorksBy (at_position old.hand c.args.position) old c.args.position c.args.fails (Made (record { unique = c.in-Some-remove.task.unique; answer = c.in-Some-answer.answer })) new =
+    WorksBy-some old new c.args.position c.args.fails c.in-Some.index c.in-Some-remove.task _ at
+    (sym (get_or_from_slice_get c.self.inside.hand.members c.in-Some.index c.in-Some-remove.task c.in-Some-remove.task (sym c.in-Some-remove.ensures.value)))
+    (WorksOff-answers old (length old.hand) c.args.position c.in-Some.index c.args.fails c.in-Some-remove.task c.in-Some-answer.answer c.apply-answer.result c.apply-answer.new.served c.remove.new.self.members c.self.inside.unposted.members c.push_reserved.new.self.members
+    at c.in-Some-answer.is c.apply-answer.ensures.replay c.apply-answer.ensures.fails_so c.in-Some-remove.ensures.rest refl posted) in
+    let told = subst (λ (n : ℕ). WorksBy (at_position old.hand c.args.position) old c.args.position c.args.fails (Made (record { unique = n; answer = c.in-Some-answer.answer })) new) (sym unique) worked in
     record {
-      works = subst (λ (s : ServerState). WorksBy (at_position s.hand c.args.position) s c.args.position c.args.fails (Made (record { unique = c.in-Some-take_out.task.unique; answer = c.in-Some-answer.answer })) new) c.self.view_is
-          (WorksBy-some old new c.args.position c.args.fails c.in-Some.index c.in-Some-take_out.task _ at c.in-Some-take_out.ensures.value
-          (WorksOff-answers old (length old.hand) c.args.position c.in-Some.index c.args.fails c.in-Some-take_out.task c.in-Some-answer.answer c.apply-answer.result c.apply-answer.new.served c.take_out.new.queue.items c.self.inside.unposted.items c.push_back_reserved.new.self.items
-          at c.in-Some-answer.is c.apply-answer.ensures.replay c.apply-answer.ensures.fails_so c.in-Some-take_out.ensures.items refl c.push_back_reserved.ensures.items));
+      works = subst (λ (s : ServerState). WorksBy (at_position s.hand c.args.position) s c.args.position c.args.fails (Made (record { unique = c.unique-unique.result; answer = c.in-Some-answer.answer })) new) c.self.view_is told;
     }
