@@ -1,7 +1,9 @@
 -- How a daemon ends, and what it printed by then. (This project's own.)
-use Rattle.std.specs.Prelude.{◌≡◌, ◌⊎◌, ⊤, ℕ, Bool, true, if◌then◌else◌, List, [], Option, Some, None, Result, Ok, Err, codes, map}
+use Rattle.std.specs.Prelude.{◌≡◌, ◌⊎◌, ⊤, ℕ, Bool, true, false, if◌then◌else◌, List, [], Option, Some, None, Result, Ok, Err, codes, map}
 use Rattle.std.specs.Io.KnownBytes.{Appends}
 use Rattle.std.specs.List.{concat}
+use Rattle.broker_core.specs.declared.fault.TakeFault.{TakeFault}
+use Rattle.broker_core.specs.declared.fault.TakeFault.TheVariants as refused
 use Rattle.daemon_desk.specs.declared.answers.Claiming.{Claiming}
 use Rattle.daemon_desk.specs.declared.answers.Claiming.TheVariants as claiming
 use Rattle.daemon_process.specs.Serving.{serving_line}
@@ -12,7 +14,7 @@ use Rattle.daemon_process.specs.declared.exit.Ending.TheVariants.{Closed, Exits}
 use Rattle.daemon_process.specs.declared.fault.DaemonFault.{DaemonFault}
 use Rattle.daemon_process.specs.declared.fault.DaemonFault.TheVariants.{Broken, CannotWrite, TakeoverFailed}
 
--- ---- how a claim or the end of standard input ends a daemon
+-- ---- how a claim, a round or the end of standard input ends a daemon
 
 -- How a daemon ends that handed over, by the answer to its claim: it handed over exactly where the seat is at another
 -- generation. With the seat it serves on.
@@ -27,6 +29,16 @@ abbrev pub exit_of_claim : Claiming → Option Exit
 exit_of_claim (claiming.Serves generation) = None
 exit_of_claim claiming.Ended = Some Ended
 exit_of_claim answer = Some (Faulty TakeoverFailed)
+
+-- whether the broker said that the mount is over, by why it has no more for a channel
+abbrev pub is_over : Option TakeFault → Bool
+is_over (Some refused.Ended) = true
+is_over why = false
+
+-- how a daemon ends whose round broke, by whether the broker said that the mount is over
+abbrev pub exit_of_broken : Bool → Exit
+exit_of_broken true = Ended
+exit_of_broken false = Faulty Broken
 
 -- how a daemon ends that did not get to serve, by whether the end of standard input came before, and is heeded
 abbrev pub ending_before : Bool → Exit → Ending

@@ -9,6 +9,7 @@ mod exit;
 mod fault;
 mod handover;
 mod lobby;
+mod mount_end;
 mod orders;
 mod patient;
 mod process;

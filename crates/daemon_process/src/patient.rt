@@ -1,10 +1,11 @@
-//! A channel that looks again if it found no ask.
+//! A channel that looks again if it found no ask, and notes the end of the mount.
 ghost use Rattle.std.specs.Prelude.{◌≡◌, true};
 ghost use Rattle.daemon_process.specs.Patience.{Looks};
 ghost use Rattle.fuse_wire.specs.declared.request.Ask.{Ask as AskValue};
 ghost use Rattle.workers.specs.Channel.{with_ask};
 ghost use Rattle.workers.specs.declared.channel.Taken.TheVariants as took;
 
+use crate::mount_end::{HearsEnd, MountEnd};
 use fuse_wire::Reply;
 use std::sync::Arc;
 use workers::{Channel, Posted, Stop, Taken};
@@ -14,19 +15,21 @@ const LOOKS: usize = 9;
 
 /// A channel that looks again if it found no ask, unless the round is asked to stop. So a round outlasts a short
 /// silence. Threads start with each round, and a round for each silence would cost an idle daemon 2 % of a processor.
+/// Where the broker says that the mount is over, it notes that, since a round that breaks drops its channels.
 #[derive(Drop)]
-pub(crate) struct Patient<C> {
+pub(crate) struct Patient<'a, C> {
     channel: C,
     stop: Arc<Stop>,
+    end: &'a MountEnd,
 }
 
-impl<C: Channel> Patient<C> {
-    /// Makes a channel patient until a stop is asked.
-    pub(crate) fn new(channel: C, stop: Arc<Stop>) -> Patient<C>
+impl<'a, C: Channel + HearsEnd> Patient<'a, C> {
+    /// Makes a channel patient until a stop is asked. It notes the end of the mount in `end`.
+    pub(crate) fn new(channel: C, stop: Arc<Stop>, end: &'a MountEnd) -> Patient<'a, C>
         ensures channel { result.channel ≡ channel }
         ensures stop { result.stop ≡ stop }
     {
-        Patient { channel, stop }
+        Patient { channel, stop, end }
     }
 
     /// Heeds another round's stop from now on.
@@ -63,9 +66,16 @@ impl<C: Channel> Patient<C> {
         }
         self.channel.take()
     }
+
+    /// Notes that the mount is over, if the broker said so.
+    fn note_end(&self) {
+        if self.channel.has_heard_end() {
+            self.end.note();
+        }
+    }
 }
 
-impl<C: Channel> Channel for Patient<C> {
+impl<'a, C: Channel + HearsEnd> Channel for Patient<'a, C> {
     ghost takes = { λ before taken after. Looks C.takes before.channel taken after.channel };
 
     ghost posts = { λ before reply posted after. C.posts before.channel reply posted after.channel };
@@ -75,10 +85,14 @@ impl<C: Channel> Channel for Patient<C> {
     ghost told = { λ patient. C.told patient.channel };
 
     fn take(&mut self) -> Taken {
-        self.look()
+        let taken = self.look();
+        self.note_end();
+        taken
     }
 
     fn post(&mut self, reply: Reply) -> Posted {
-        self.channel.post(reply)
+        let posted = self.channel.post(reply);
+        self.note_end();
+        posted
     }
 }

@@ -1,9 +1,11 @@
 //! Rounds of workers over what a daemon serves.
 ghost use Rattle.std.specs.Prelude.{◌≡◌, ◌≤◌, vec_len, IfOk};
+ghost use Rattle.daemon_process.specs.Ending.{exit_of_broken};
 
 use crate::arrival::Worker;
 use crate::exit::Exit;
 use crate::fault::DaemonFault;
+use crate::mount_end::MountEnd;
 use broker_core::TakeFault;
 use checkout::{Backing, ManifestBacking};
 use daemon::Lease;
@@ -35,7 +37,8 @@ struct Back<C: Channel + Drop> {
 }
 
 /// Serves a round over `lease`, and returns the lease with what else the round leaves. If memory is refused, the round
-/// took no ask. Without a channel, or with more than 16, no round is served.
+/// took no ask. Without a channel, or with more than 16, no round is served. `end` is where the channels note the end of
+/// the mount.
 pub(crate) fn serve_one<'a, R: Threads + Wait + Clock + Sync>(
     rt: &'a R,
     alloc: Global,
@@ -43,6 +46,7 @@ pub(crate) fn serve_one<'a, R: Threads + Wait + Clock + Sync>(
     channels: Vec<Worker<'a, R>>,
     rooms: Rooms,
     stop: &Stop,
+    end: &MountEnd,
 ) -> Result<Left<'a, R>, Exit> {
     if channels.is_empty() || channels.len() > MAX_CHANNELS {
         return Err(Exit::Faulty(DaemonFault::Broken));
@@ -52,7 +56,7 @@ pub(crate) fn serve_one<'a, R: Threads + Wait + Clock + Sync>(
         manifest,
         served,
     } = lease;
-    match serve_over(rt, alloc, rooms, served, &manifest, channels, stop) {
+    match serve_over(rt, alloc, rooms, served, &manifest, channels, stop, end) {
         Ok(back) => Ok(left_by(generation, manifest, back)),
         Err(exit) => Err(exit),
     }
@@ -92,6 +96,7 @@ fn serve_over<C: Channel + Drop + Send, R: Threads + Wait + Sync>(
     manifest: &Manifest,
     channels: Vec<C>,
     stop: &Stop,
+    end: &MountEnd,
 ) -> Result<Back<C>, Exit>
     requires channels { (1 ≤ vec_len channels) × (vec_len channels ≤ 16) }
     requires over { served.tree.manifest ≡ manifest.now }
@@ -107,7 +112,19 @@ fn serve_over<C: Channel + Drop + Send, R: Threads + Wait + Sync>(
             served: back.served,
             channels: back.channels,
         }),
-        Err(_broken) => Err(Exit::Faulty(DaemonFault::Broken)),
+        Err(RoundFault::Broken) => Err(exit_of_broken(end.is_noted())),
+        Err(RoundFault::Unsettled) => Err(Exit::Faulty(DaemonFault::Broken)),
+    }
+}
+
+/// Returns how a daemon ends whose round broke, by whether the broker said that the mount is over.
+fn exit_of_broken(is_over: bool) -> Exit
+    ensures exit { result ≡ exit_of_broken is_over }
+{
+    if is_over {
+        Exit::Ended
+    } else {
+        Exit::Faulty(DaemonFault::Broken)
     }
 }
 

@@ -7,6 +7,7 @@ ghost use Rattle.daemon_process.specs.Serving.{IsSameSpell, PrintsRound, begins,
 use crate::arrival::{Worker, channels};
 use crate::exit::{Ending, Exit};
 use crate::fault::DaemonFault;
+use crate::mount_end::MountEnd;
 use crate::rounds::{exit_of, serve_one};
 use crate::shared::{Next, Shared};
 use daemon::Lease;
@@ -76,7 +77,7 @@ pub(crate) fn serve<R: Threads + Wait + Clock + Sync, W: Write>(
 fn serve_lease<'a, R: Threads + Wait + Clock + Sync, W: Write>(
     rt: &'a R,
     alloc: Global,
-    shared: &Shared,
+    shared: &'a Shared,
     workers: &[UnixStream],
     crew: &mut Crew<'a, R>,
     lease: Lease,
@@ -87,7 +88,9 @@ fn serve_lease<'a, R: Threads + Wait + Clock + Sync, W: Write>(
     ensures prints { PrintsRound (crew.old.generation, crew.old.stops) (lease.generation, stops)
         (crew.new.generation, crew.new.stops) (W.contents out.old) (W.contents out.new) result }
 {
-    let Ok(is_new) = man(rt, alloc, workers, crew, lease.generation, stop, stops) else {
+    let end = shared.mount_end();
+    let generation = lease.generation;
+    let Ok(is_new) = man(rt, alloc, workers, crew, generation, stop, stops, end) else {
         shared.take_back(rt, lease);
         thread::sleep(rt, Duration::from_millis(PAUSE));
         return None;
@@ -97,7 +100,7 @@ fn serve_lease<'a, R: Threads + Wait + Clock + Sync, W: Write>(
     }
     let channels = mem::replace(&mut crew.channels, Vec::new(alloc));
     let rooms = mem::replace(&mut crew.rooms, Rooms::new(alloc));
-    match serve_one(rt, alloc, lease, channels, rooms, stop) {
+    match serve_one(rt, alloc, lease, channels, rooms, stop, end) {
         Ok(left) => {
             crew.channels = left.channels;
             crew.rooms = left.rooms;
@@ -118,6 +121,7 @@ fn man<'a, R: Clock>(
     generation: u64,
     stop: &Arc<Stop>,
     stops: u64,
+    end: &'a MountEnd,
 ) -> io::Result<bool>
     ensures new { IfOk result (λ is_new.
         is_new ≡ begins (crew.old.generation, crew.old.stops) (generation, stops)) }
@@ -134,7 +138,7 @@ fn man<'a, R: Clock>(
         crew.stops = stops;
         return Ok(is_new);
     }
-    crew.channels = channels(rt, alloc, workers, generation, stop)?;
+    crew.channels = channels(rt, alloc, workers, generation, stop, end)?;
     crew.generation = generation;
     crew.stops = stops;
     Ok(true)

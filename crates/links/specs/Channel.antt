@@ -22,8 +22,8 @@ use Rattle.workers.specs.declared.channel.Posted.TheVariants as post
 use Rattle.workers.specs.declared.channel.Taken.{Taken}
 use Rattle.workers.specs.declared.channel.Taken.TheVariants as took
 
--- a channel: the generation at which it serves; why it stopped, if it did; and, if they are known, the bytes that are
--- to come in and those that went out
+-- a channel: the generation at which it serves; why the broker has no more for it, if it said so; and, if they are
+-- known, the bytes that are to come in and those that went out
 pub record ConnectionState : Type 0 where
   pub generation : ℕ
   pub ended : Option TakeFault
@@ -79,14 +79,25 @@ abbrev pub posted_of : Frame → Posted
 posted_of frames.Posted = post.Done
 posted_of heard = post.Broken
 
+-- why the broker has no more for a channel, if the answer to a Post says so; else what was noted before
+abbrev pub ended_by : Frame → Option TakeFault → Option TakeFault
+ended_by frames.Ended noted = Some refused.Ended
+ended_by (frames.Stale now) noted = Some (refused.Stale now)
+ended_by heard noted = noted
+
+-- a reply's Post was answered: the answer decides the result, and what is noted of the end
+abbrev pub Settles : ConnectionState → Frame → Posted → ConnectionState → Type 0
+Settles old heard posted new =
+    (posted ≡ posted_of heard) × (new ≡ record old { ended = ended_by heard old.ended })
+
 -- a reply was not posted: its frame was not answered, or memory for the frame was refused and nothing was written
 abbrev pub IsUnposted : ConnectionState → Reply → ConnectionState → Type 0
 IsUnposted old reply new = Unanswered old (post_of old reply) new ⊎ (new ≡ old)
 
--- the outcome of a reply: what the other end answered, or Broken where no answer came
+-- the outcome of a reply: its Post was answered, and the answer decides; or Broken where no answer came
 abbrev pub Posts : ConnectionState → Reply → Posted → ConnectionState → Type 0
 Posts old reply posted new =
-    ((heard : Frame) × (posted ≡ posted_of heard) × Exchanged old new (post_of old reply) heard)
+    ((mid : ConnectionState) × (heard : Frame) × Exchanged old mid (post_of old reply) heard × Settles mid heard posted new)
     ⊎ ((posted ≡ post.Broken) × IsUnposted old reply new)
 
 -- ---- asks

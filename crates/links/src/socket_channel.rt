@@ -1,7 +1,7 @@
 //! A worker's channel over a connection to the broker.
 ghost use Rattle.std.specs.Prelude.{◌≡◌, [], None, false, IfOk, IsSome, IsTrue};
 ghost use Rattle.fuse_wire.specs.RequestReading.{request_of};
-ghost use Rattle.links.specs.Channel.{Answers, Hears, Posts, Refuses, Serves, Stops, Takes, posted_of, state_of};
+ghost use Rattle.links.specs.Channel.{Answers, Hears, Posts, Refuses, Serves, Stops, Takes, ended_by, posted_of, state_of};
 
 use crate::{Frame, read_frame, write_frame};
 use broker_core::TakeFault;
@@ -86,7 +86,7 @@ impl<R: Read, W: Write> SocketChannel<R, W> {
         })
     }
 
-    /// Returns why the last `take` was Stopped, if one was.
+    /// Returns why the broker has no more for this channel, if it said so: in its answer to a `take` or a `post`.
     pub fn ended(&self) -> Option<TakeFault>
         ensures ended { result ≡ (state_of R.remaining W.contents self.now).ended }
     {
@@ -211,7 +211,8 @@ impl<R: Read, W: Write> SocketChannel<R, W> {
         }
     }
 
-    /// Posts the reply to an ask that was taken. If the result is Broken, close the connection.
+    /// Posts the reply to an ask that was taken. If the result is Broken, close the connection; `ended` tells whether
+    /// the broker said why.
     pub fn post(&mut self, reply: Reply) -> Posted
         ensures posts { Posts (state_of R.remaining W.contents self.old) reply result
             (state_of R.remaining W.contents self.new) }
@@ -224,7 +225,10 @@ impl<R: Read, W: Write> SocketChannel<R, W> {
         let generation = self.generation;
         let reply = Bytes::of(text);
         match self.ask(&Frame::Post { generation, reply }) {
-            Some(answer) => posted_of(&answer),
+            Some(answer) => {
+                self.ended = ended_by(&answer, self.ended);
+                posted_of(&answer)
+            }
             None => Posted::Broken,
         }
     }
@@ -237,6 +241,17 @@ fn posted_of(answer: &Frame) -> Posted
     match answer {
         Frame::Posted => Posted::Done,
         _ => Posted::Broken,
+    }
+}
+
+/// Returns why the broker has no more for a channel, if its answer to a Post says so; else returns `noted`.
+fn ended_by(answer: &Frame, noted: Option<TakeFault>) -> Option<TakeFault>
+    ensures { result ≡ ended_by answer.now noted }
+{
+    match answer {
+        Frame::Ended => Some(TakeFault::Ended),
+        Frame::Stale { now } => Some(TakeFault::Stale(*now)),
+        _ => noted,
     }
 }
 
