@@ -1,5 +1,7 @@
 //! An arena: an index slab, whose nodes stand in a ring of `u32` indexes in the order of their last use. The ring begins
 //! and ends with node 0, which has no value.
+use crate::random::next_random;
+
 const RING: u32 = 0;
 const ROUNDS: u32 = 1_000_000;
 
@@ -77,10 +79,6 @@ impl Arena {
     fn set(&mut self, slot: u32, value: u64) {
         self.nodes[slot as usize].value = Some(value);
     }
-}
-
-fn next_random(state: u64) -> u64 {
-    state.wrapping_mul(6_364_136_223_846_793_005).wrapping_add(1_442_695_040_888_963_407)
 }
 
 fn pick(slots: &[u32], random: u64) -> u32 {

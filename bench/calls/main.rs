@@ -2,6 +2,7 @@
 //! same calls and prints the same lines. Nothing is proved here. `bench/instructions` builds it, and runs both.
 //!
 //!   calls arena CAPACITY                rounds of calls on a full arena
+//!   calls queue COUNT                     rounds of calls on a queue
 //!   calls requests LINES DEPTH|random     requests to what a daemon serves
 //!   calls messages LINES                  messages read, answered and written
 //!   calls checkout LINES                  calls on a manifest's tree
@@ -19,6 +20,8 @@ mod journal;
 mod loaded;
 mod map;
 mod messages;
+mod queue;
+mod random;
 mod request;
 mod requests;
 mod wire;
@@ -27,6 +30,7 @@ fn main() {
     let words: Vec<String> = std::env::args().skip(1).collect();
     let told = match words[0].as_str() {
         "arena" => arena::measure(&words[1..]),
+        "queue" => queue::measure(&words[1..]),
         "requests" => requests::measure(&words[1..]),
         "messages" => messages::measure(&words[1..]),
         "checkout" => checkout::measure(&words[1..]),

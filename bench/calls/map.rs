@@ -1,6 +1,7 @@
 //! The numbers that a daemon gave: hash maps by number, and by directory and name.
 use crate::hashing::Map;
 use crate::loaded::{Attr, Kind, Loaded};
+use crate::random::Random;
 
 const ROOT: u64 = 1;
 const EACH: u64 = 64;
@@ -201,12 +202,8 @@ fn load_where_none(map: &mut Numbers, number: u64) -> bool {
 }
 
 fn ask_random(map: &mut Numbers, entries: u64) -> usize {
-    let mut word = 1u64;
-    let number = |_| {
-        word = word.wrapping_mul(6_364_136_223_846_793_005).wrapping_add(1_442_695_040_888_963_407);
-        (word >> 33) % entries.max(1) + 2
-    };
-    (0..ASKED_RANDOMLY).map(number).filter(|&number| load_where_none(map, number)).count()
+    let mut random = Random::new();
+    (0..ASKED_RANDOMLY).map(|_| random.number(entries)).filter(|&number| load_where_none(map, number)).count()
 }
 
 fn call_all(map: &mut Numbers, entries: u64) -> String {

@@ -1,5 +1,6 @@
 //! Messages of the FUSE protocol, read, answered and written: names are compared where they lie in the message.
 use crate::loaded::{Attr, Kind};
+use crate::random::Random;
 use crate::requests::{ASKED_RANDOMLY, Answer, DEFAULT_LIMIT, EACH, Item, Served, look_all_up, name_of};
 use crate::wire::{name_bytes, parts_of, u32_at, u64_at};
 
@@ -132,14 +133,7 @@ fn forget_of(node: u64) -> Vec<u8> {
     text_of(2, node, &[&1u64.to_le_bytes()])
 }
 
-struct Random(u64);
-
 impl Random {
-    fn number(&mut self, given: u64) -> u64 {
-        self.0 = self.0.wrapping_mul(6_364_136_223_846_793_005).wrapping_add(1_442_695_040_888_963_407);
-        (self.0 >> 33) % given.max(1) + 2
-    }
-
     fn held(&mut self, lines: u64) -> u64 {
         let node = self.number(lines);
         match (node - 2) % EACH {
@@ -229,22 +223,22 @@ pub fn measure(words: &[String]) -> String {
     (0..lines / EACH).for_each(|directory| {
         server.serve(&forget_of(directory * EACH + EACH + 1));
     });
-    let mut random = Random(1);
+    let mut random = Random::new();
     let looked_up: usize = (0..ASKED_RANDOMLY).map(|_| look_up_held(server, &lookup_of(random.held(lines)))).sum();
-    random = Random(1);
+    random = Random::new();
     let shown = (0..ASKED_RANDOMLY).filter(|_| get_attr(server, &getattr_of(random.held(lines)))).count();
-    random = Random(1);
+    random = Random::new();
     let mut mix = |turn: u64| {
         let node = random.held(lines);
         let text = if turn % 2 == 0 { lookup_of(node) } else { getattr_of(node) };
         mixed(server, &text) - 1
     };
     let replied: usize = (0..ASKED_RANDOMLY).map(&mut mix).sum();
-    random = Random(1);
+    random = Random::new();
     let found = (0..ASKED_RANDOMLY).filter(|_| find_fresh(server, random.fresh(lines))).count();
-    random = Random(1);
+    random = Random::new();
     let made: u64 = (0..ASKED_RANDOMLY).map(|i| make(server, dir_of(random.number(lines)), i)).sum();
-    random = Random(1);
+    random = Random::new();
     let mut move_any = |i: u64| {
         let node = random.held(lines);
         let to_dir = dir_of(random.number(lines));

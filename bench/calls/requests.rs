@@ -1,6 +1,7 @@
 //! What a daemon serves: hash maps by number, and by directory and name. Memory is not asked for beforehand.
 use crate::hashing::Map;
 use crate::loaded::{Attr, Kind, Loaded};
+use crate::random::Random;
 
 pub const ROOT: u64 = 1;
 pub const EACH: u64 = 64;
@@ -474,10 +475,9 @@ pub fn look_all_up(served: &mut Served, lines: u64) {
 
 fn ask_random(served: &mut Served, lines: u64) -> u64 {
     look_all_up(served, lines);
-    let (mut word, mut shown) = (1u64, 0);
+    let (mut random, mut shown) = (Random::new(), 0);
     for _ in 0..ASKED_RANDOMLY {
-        word = word.wrapping_mul(6_364_136_223_846_793_005).wrapping_add(1_442_695_040_888_963_407);
-        let node = (word >> 33) % lines.max(1) + 2;
+        let node = random.number(lines);
         shown += u64::from(get_attr(served, &Request::Getattr { node }).is_some());
     }
     shown

@@ -1,6 +1,7 @@
 //! What the calls of an arena cost: `measure arena CAPACITY` makes the calls on a full arena, and `measure arena
 //! CAPACITY times` prints the nanoseconds that the calls of each round take.
 use crate::clock::{each_since, moment};
+use crate::random::next_random;
 use crate::told::Told;
 use crate::words::number_at;
 use eden_base::NoMemory;
@@ -23,13 +24,6 @@ const NAMES: [&str; 8] = [
     "any:is_held/get/get_mut",
     "any:is_held/remove/add",
 ];
-
-/// Returns the next number of a fixed sequence (Knuth's MMIX generator).
-fn next_random(state: u64) -> u64 {
-    state
-        .wrapping_mul(6_364_136_223_846_793_005)
-        .wrapping_add(1_442_695_040_888_963_407)
-}
 
 /// Returns one of `slots`, picked by `random`, if there is one.
 fn pick(slots: &[Slot], random: u64) -> Option<Slot> {

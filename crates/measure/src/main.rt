@@ -10,6 +10,7 @@ mod lines;
 mod map;
 mod messages;
 mod names;
+mod queue;
 mod random;
 mod requests;
 mod round;
@@ -30,10 +31,12 @@ use told::Told;
 use words::refuse;
 
 /// The small runs: each is the words with which the program could be started.
-static RUNS: [&str; 57] = [
+static RUNS: [&str; 59] = [
     "arena 1",
     "arena 1024",
     "arena 65536",
+    "queue 16",
+    "queue 4096",
     "checkout 1000",
     "checkout 8000",
     "checkout 65536",
@@ -100,6 +103,7 @@ fn told_of<R: Threads + Wait + Clock + Sync>(
 ) -> Result<Option<Told>, NoMemory> {
     match subject {
         "arena" => arena::measure(rt, words),
+        "queue" => queue::measure(rt.alloc(), words),
         "checkout" => tree::measure(rt, words),
         "image" => image::measure(rt, words),
         "map" => map::measure(rt.alloc(), words),

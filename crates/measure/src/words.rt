@@ -3,6 +3,7 @@ use std::io::{Error, ErrorKind, Result};
 
 const USAGE: &str = "usage: measure [SUBJECT WORD..]
   arena CAPACITY [times]
+  queue COUNT
   checkout LINES [times]
   image ENTRIES UNLINKED [times]
   map ENTRIES [holes | given | random]
