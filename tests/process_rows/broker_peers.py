@@ -3,7 +3,7 @@ import os
 import struct
 import time
 
-from process_rows.checks import WAIT, row, same
+from process_rows.checks import WAIT, TooSlow, row, same, took_between
 from process_rows.frames import OFFER, drip, frame, u64
 from process_rows.new_daemons import part
 from process_rows.rooms import ATTR_1
@@ -70,16 +70,13 @@ def strangers_and_workers_are_few(room):
     strangers = [room.peer() for _ in range(64)]
     time.sleep(0.2)
     same(room.peer().is_closed(), True)
-    if time.monotonic() - began > 1.5:
-        raise AssertionError("too slow to tell")
+    took_between(0, time.monotonic() - began, 1.5, "the stranger that was too many was closed")
     for it in strangers[:16]:
         same(it.ask("Attach", u64(daemon)), ("Attached", u64(daemon)))
     same(strangers[16].ask("Attach", u64(daemon)), None)
     for it in strangers[17:20]:
         same(it.is_closed(), True)
-    took = time.monotonic() - began
-    if not 1.5 < took < 6:
-        raise AssertionError(f"silent strangers were closed after {took} s")
+    took_between(1.5, time.monotonic() - began, 6, "silent strangers were closed")
     strangers[0].close()
     until = time.monotonic() + WAIT
     while (answer := room.peer().ask("Attach", u64(daemon))) is None and time.monotonic() < until:
@@ -101,9 +98,7 @@ def a_take_that_finds_nothing_is_held(room):
     broker.printed("seat 1")
     began = time.monotonic()
     same(worker.ask("Take", u64(1)), ("Empty", b""))
-    took = time.monotonic() - began
-    if not 0.015 < took < 1:
-        raise AssertionError(f"an idle Take was held for {took} s")
+    took_between(0.015, time.monotonic() - began, 1, "an idle Take was answered")
     same(worker.ask("Take", u64(2)), ("Stale", u64(1)))
     same(other.attach(), 2)
     same(other.ask("Take", u64(1)), ("Stale", u64(1)))
@@ -116,7 +111,7 @@ def a_take_that_finds_nothing_is_held(room):
         holds.append(time.monotonic() - began)
     # Others run beside this row, so the least counts: without a request each would last 20 milliseconds.
     if min(holds) > 0.015:
-        raise AssertionError(f"each Take of a busy kernel was held for {min(holds)} s")
+        raise TooSlow(f"each Take of a busy kernel was held for {min(holds)} s")
     same(other.ask("Claim", u64(2)), ("Unanswered", u64(1)))
     error = struct.pack("<IiQ", 16, -5, 1)
     same(worker.ask("Post", u64(2) + error), ("Posted", b""))
@@ -152,7 +147,7 @@ def a_request_ends_the_hold_of_a_take(room):
             other.take_ask(1)
         worker, other = other, worker
     if not waits or min(waits) > 0.008:
-        raise AssertionError(f"the kernel's asks came after {waits} s")
+        raise TooSlow(f"the kernel's asks came after {waits} s")
     same(worker.ask("Post", u64(1) + struct.pack("<IiQ", 16, -5, tries + 1)), ("Posted", b""))
     broker.printed("ended")
     first.close()
@@ -173,9 +168,7 @@ def a_part_of_a_frame_holds_no_broker(room):
     drip(slow.end, frame("Take", u64(1)) + frame("Take", u64(1)))
     for it in (slow, part, behind):
         same(it.is_closed(), True)
-    took = time.monotonic() - began
-    if not 4 < took < 10:
-        raise AssertionError(f"they were closed after {took} s")
+    took_between(4, time.monotonic() - began, 10, "they were closed")
     time.sleep(1)
     mount = frame("Mount")
     silent.end.sendall(mount[:4])

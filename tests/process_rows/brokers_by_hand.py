@@ -1,22 +1,22 @@
 """Rows: a daemon whose broker is a peer that speaks frames by hand."""
 import time
 
-from process_rows.checks import WAIT, row, same
+from process_rows.checks import WAIT, TooSlow, row, same, took_between
 from process_rows.daemons import mounted_by_hand
-from process_rows.frames import drip, frame, u64
+from process_rows.frames import drip, frame, request, u64
 
 
 def as_broker(room, answers, lines, status):
-    """Lets a daemon with one worker mount at a peer that answers what it asks by the answers' names, one by one. The
-    worker's connection is answered behind the first."""
+    """Lets a daemon mount at a peer that answers what it asks by the answers' names, one by one. The first connection is
+    `first`; each other name is a worker, whose connection comes where it is answered first."""
     listener = room.listen(room.broker_at)
-    daemon = room.mount("--workers", "1", "--patience", "1000")
-    first = room.accept(listener)
-    worker = None
+    workers = {who for who, _wanted, _answer in answers} - {"first"}
+    daemon = room.mount("--workers", str(len(workers) or 1), "--patience", "1000")
+    ends = {"first": room.accept(listener)}
     for who, wanted, answer in answers:
-        if who == "worker" and worker is None:
-            worker = room.accept(listener)
-        end = first if who == "first" else worker
+        if who not in ends:
+            ends[who] = room.accept(listener)
+        end = ends[who]
         got = end.read()
         same(got and got[0], wanted)
         if answer is None:
@@ -69,12 +69,48 @@ def a_take_may_be_stale(room):
     as_broker(room, [*MOUNTING, ("worker", "Take", ("Stale", u64(2)))], ["serving 1", "fault: broken"], 1)
 
 
+# GETATTR of the root, and the same with a length that is too great, which the daemon's channel refuses by itself.
+GETATTR = request(3, 1, 1, bytes(16))
+ASKING = [*MOUNTING, ("worker", "Take", ("Ask", GETATTR))]
+ASKING_BADLY = [*MOUNTING, ("worker", "Take", ("Ask", b"\x39" + GETATTR[1:]))]
+
+
+@row
+def a_post_may_be_answered_ended(room):
+    """A daemon whose Post is answered Ended ends well: the mount was over while it had an ask in hand."""
+    as_broker(room, [*ASKING, ("worker", "Post", ("Ended",))], ["serving 1", "ended"], 0)
+
+
+@row
+def an_error_may_be_answered_ended(room):
+    """A daemon ends well, too, where the Post is of a request that it can't read."""
+    as_broker(room, [*ASKING_BADLY, ("worker", "Post", ("Ended",))], ["serving 1", "ended"], 0)
+
+
+@row
+def a_post_may_be_stale(room):
+    """A daemon whose Post is answered Stale is broken."""
+    as_broker(room, [*ASKING, ("worker", "Post", ("Stale", u64(2)))], ["serving 1", "fault: broken"], 1)
+
+
+@row
+def a_post_may_not_be_answered(room):
+    """A daemon is broken where a connection is closed in place of a Post's answer."""
+    as_broker(room, [*ASKING, ("worker", "Post", None)], ["serving 1", "fault: broken"], 1)
+
+
+@row
+def a_post_may_not_be_answered_behind_an_end(room):
+    """A daemon ends well where a connection is closed in place of a Post's answer, but another worker was told Ended."""
+    attaching = [*ATTACHING, ("other", "Attach", ("Attached", u64(1)))]
+    told = [("worker", "Take", ("Ask", GETATTR)), ("other", "Take", ("Ended",)), ("worker", "Post", None)]
+    as_broker(room, [*attaching, MOUNTING[-1], *told], ["serving 1", "ended"], 0)
+
+
 def breaks_after_five_seconds(daemon, began):
     """Shows that a daemon ends by a fault five seconds later."""
     daemon.ends(["serving 1", "fault: broken"], 1)
-    took = time.monotonic() - began
-    if not 4 < took < 10:
-        raise AssertionError(f"it ended after {took} s")
+    took_between(4, time.monotonic() - began, 10, "it ended")
 
 
 @row
@@ -121,7 +157,7 @@ def a_daemon_never_sleeps_between_takes(room):
     # A round ends behind ten Takes that found nothing. Others run beside this row, so each place in a round has its least.
     least = [min(waits[place::10]) for place in range(10)]
     if max(least) > 0.001:
-        raise AssertionError(f"a Take came after {max(least)} s")
+        raise TooSlow(f"a Take came after {max(least)} s")
     worker.send("Ended")
     daemon.ends(["serving 1", "ended"])
 

@@ -18,6 +18,18 @@ def row_of_proved(shows):
     return row(shows)
 
 
+class TooSlow(AssertionError):
+    """What took longer than it may. Beside other rows that shows little, so such a row runs once more by itself."""
+
+
+def took_between(least, took, most, what):
+    """Fails where something took as little as `least` seconds, or as much as `most`."""
+    if took <= least:
+        raise AssertionError(f"{what} after {took} s")
+    if took >= most:
+        raise TooSlow(f"{what} after {took} s")
+
+
 def same(got, wanted):
     """Fails where two values differ."""
     if got != wanted:

@@ -2,7 +2,7 @@
 import os
 import time
 
-from process_rows.checks import row, same
+from process_rows.checks import row, same, took_between
 from process_rows.counts import counts_of, handed_to, image_of
 from process_rows.daemons import LONG_NAMES, handed_over, long_checkout, parts_of
 from process_rows.frames import ALL_VERSIONS, PART, u32, u64
@@ -117,9 +117,7 @@ def a_new_daemon_waits_longer_behind_pong(room):
         ponged.append(time.monotonic())
 
     against_a_daemon(room, talk, ["fault: takeover failed"], patience="600")
-    took = time.monotonic() - ponged[0]
-    if not 5.5 < took < 14:
-        raise AssertionError(f"it waited for {took} s")
+    took_between(5.5, time.monotonic() - ponged[0], 14, "it ended")
 
 
 @row

@@ -4,7 +4,7 @@ import subprocess
 import threading
 import time
 
-from process_rows.checks import WAIT, row, same
+from process_rows.checks import WAIT, row, same, took_between
 from process_rows.counts import check_lines
 from process_rows.daemons import mounted_anew, offered
 from process_rows.frames import ALL_VERSIONS, u32, u64
@@ -32,9 +32,7 @@ def ends_within_a_second(room, daemon, lines, others=0):
     began = time.monotonic()
     daemon.child.stdin.close()
     daemon.ends(lines)
-    took = time.monotonic() - began
-    if took > (1 if room.is_proved else 3) + others:
-        raise AssertionError(f"it ended after {took} s")
+    took_between(0, time.monotonic() - began, (1 if room.is_proved else 3) + others, "it ended")
 
 
 @row
