@@ -1,5 +1,5 @@
 //! What a daemon has in hand.
-ghost use Rattle.std.specs.Prelude.{◌≡◌, Err, IfSome};
+ghost use Rattle.std.specs.Prelude.{◌≡◌};
 ghost use Rattle.daemon.specs.Server.{single};
 ghost use Rattle.daemon.specs.Serving.{FailsSo};
 ghost use Rattle.fuse_ops.specs.Served.{Replay};
