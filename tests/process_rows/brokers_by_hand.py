@@ -11,7 +11,7 @@ def as_broker(room, answers, lines, status):
     `first`; each other name is a worker, whose connection comes where it is answered first."""
     listener = room.listen(room.broker_at)
     workers = {who for who, _wanted, _answer in answers} - {"first"}
-    daemon = room.mount("--workers", str(len(workers) or 1), "--patience", "1000")
+    daemon = room.mount("--workers", str(len(workers) or 1))
     ends = {"first": room.accept(listener)}
     for who, wanted, answer in answers:
         if who not in ends:
@@ -52,7 +52,7 @@ def a_broker_may_answer_something_else(room):
 def a_broker_may_be_silent(room):
     """A daemon whose broker doesn't answer gives up."""
     listener = room.listen(room.broker_at)
-    daemon = room.mount("--patience", "300")
+    daemon = room.mount()
     room.accept(listener)
     daemon.ends(["fault: broken"], 1)
 

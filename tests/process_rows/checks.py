@@ -2,7 +2,10 @@
 import os
 
 TOP = os.path.dirname(os.path.dirname(os.path.dirname(os.path.abspath(__file__))))
-WAIT = 20
+# For how many seconds a row waits for what has to come, and how many milliseconds of silence daemons bear from each
+# other. Both are long, since a machine may be loaded; a row that is about silence names a patience of its own.
+WAIT = 60
+PATIENCE = "60000"
 ROWS, ROWS_OF_PROVED = [], []
 
 
@@ -19,7 +22,8 @@ def row_of_proved(shows):
 
 
 class TooSlow(AssertionError):
-    """What took longer than it may. Beside other rows that shows little, so such a row runs once more by itself."""
+    """What took longer than it may, or has not come. On a loaded machine that shows little, so such a row runs once more
+    by itself."""
 
 
 def took_between(least, took, most, what):

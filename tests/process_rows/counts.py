@@ -3,7 +3,7 @@ import dataclasses
 import struct
 import time
 
-from process_rows.checks import WAIT, same
+from process_rows.checks import WAIT, TooSlow, same
 from process_rows.frames import Peer, u32, u64
 
 
@@ -64,7 +64,7 @@ def image_of(path, version):
         finally:
             peer.close()
         time.sleep(0.002)
-    raise AssertionError(f"no image came from {path}")
+    raise TooSlow(f"no image came from {path}")
 
 
 def handed_to(peer, version):

@@ -31,7 +31,7 @@ def a_silent_peer_is_closed(room):
 @row
 def the_patience_is_two_seconds(room):
     """A daemon whose words name no patience has one of two seconds."""
-    broker, daemon = serving(room)
+    broker, daemon = serving(room, patience=None)
     it = room.peer(room.takeover_at)
     began = time.monotonic()
     same(it.is_closed(), True)

@@ -6,10 +6,10 @@ from process_rows.frames import OFFER, PART, u32, u64
 from process_rows.rooms import ATTR_1
 
 
-def serving(room, *options, script=("seat 1", "seat 2", "ask getattr 1")):
+def serving(room, *options, script=("seat 1", "seat 2", "ask getattr 1"), **others):
     """Starts a broker and a daemon, and waits until the daemon serves."""
     broker = room.broker(*script)
-    daemon = room.mount(*options)
+    daemon = room.mount(*options, **others)
     daemon.printed("serving 1")
     return broker, daemon
 

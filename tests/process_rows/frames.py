@@ -3,7 +3,7 @@ import socket
 import struct
 import time
 
-from process_rows.checks import WAIT, same
+from process_rows.checks import WAIT, TooSlow, same
 
 KINDS = {
     1: "Take", 2: "Ask", 3: "Empty", 4: "Post", 5: "Posted", 6: "Ended", 7: "Stale", 8: "NotAsked", 9: "Claim",
@@ -93,7 +93,7 @@ class Peer:
             answer = self.ask("Take", u64(generation))
             if answer and answer[0] != "Empty":
                 return answer
-        raise AssertionError("no ask came")
+        raise TooSlow("no ask came")
 
     def is_closed(self):
         """Returns whether the other end closes the connection; what it says before doesn't count."""

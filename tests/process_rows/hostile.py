@@ -6,7 +6,7 @@ import struct
 import threading
 import time
 
-from process_rows.checks import WAIT, row, same
+from process_rows.checks import WAIT, TooSlow, row, same
 from process_rows.frames import KINDS, OFFER, frame, u32, u64
 from process_rows.kernel import Client, Kernel
 
@@ -130,7 +130,7 @@ def act_on_daemon(room, act):
     """Lets hostile peers act on a daemon while a client's asks are answered rightly. Then another daemon takes over."""
     allow_many_files()
     kernel = Kernel(room)
-    daemon = room.mount("--workers", "2", "--patience", "1000")
+    daemon = room.mount("--workers", "2", patience="3000")
     daemon.printed("serving 1")
     client = Client(kernel)
     await_asks(kernel, 20)
@@ -140,7 +140,7 @@ def act_on_daemon(room, act):
     cost.is_at_most(len(peers))
     for it in peers:
         it.close()
-    new = room.take_over("--patience", "8000")
+    new = room.take_over()
     new.printed(1)
     await_asks(kernel, 20)
     client.stops = True
@@ -156,7 +156,7 @@ def await_asks(kernel, more):
     with kernel.lock:
         wanted = kernel.unique + more
         if not kernel.lock.wait_for(lambda: kernel.unique >= wanted, WAIT):
-            raise AssertionError(f"the kernel asked {kernel.unique} times, and not {wanted}")
+            raise TooSlow(f"the kernel asked {kernel.unique} times, and not {wanted}")
 
 
 def act_on_broker(room, act, is_attached):

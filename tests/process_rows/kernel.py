@@ -3,7 +3,7 @@ import struct
 import threading
 import time
 
-from process_rows.checks import WAIT, same
+from process_rows.checks import WAIT, TooSlow, same
 from process_rows.frames import Peer, u64
 
 
@@ -86,7 +86,7 @@ class Kernel:
             self.waiting.append((unique, head + body))
             self.lock.notify_all()
             if not self.lock.wait_for(lambda: unique in self.replies, WAIT):
-                raise AssertionError(f"ask {unique} was lost")
+                raise TooSlow(f"ask {unique} was lost")
             return self.replies.pop(unique)
 
 
@@ -128,5 +128,5 @@ def await_answers(clients, generation):
     until = time.monotonic() + WAIT
     while not all(generation in client.generations for client in clients):
         if time.monotonic() > until:
-            raise AssertionError(f"not each client was answered at {generation}: {[it.wrong for it in clients]}")
+            raise TooSlow(f"not each client was answered at {generation}: {[it.wrong for it in clients]}")
         time.sleep(0.005)

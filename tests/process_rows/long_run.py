@@ -2,7 +2,7 @@
 the broker says is held."""
 import itertools
 
-from process_rows.checks import WAIT, row, same
+from process_rows.checks import PATIENCE, WAIT, row, same
 from process_rows.counts import check_lines, counts_of, image_of
 from process_rows.proxies import Proxy
 
@@ -44,7 +44,8 @@ class LongRun:
     def __init__(self, room, rounds):
         self.room, self.rounds, self.script = room, rounds, script_of(rounds)
         self.broker = room.broker(*self.script)
-        self.daemon = room.run("daemon", "--mount", "broker.sock", "t0", "m", "--workers", WORKERS)
+        options = ("--workers", WORKERS, "--patience", PATIENCE)
+        self.daemon = room.run("daemon", "--mount", "broker.sock", "t0", "m", *options)
         self.daemon.printed("serving 1")
         self.next = self.proxy = None
         self.prepare(1)
@@ -54,7 +55,7 @@ class LongRun:
         """Starts the next daemon, which waits for the answer to its offer."""
         path = f"{self.room.path}/t{number}"
         self.proxy = Proxy(self.room, path, f"{self.room.path}/t{number - 1}", 1 << 30, None, False)
-        words = ("broker.sock", f"t{number}", "m", "--workers", WORKERS, "--patience", "60000")
+        words = ("broker.sock", f"t{number}", "m", "--workers", WORKERS, "--patience", PATIENCE)
         self.next = self.room.run("daemon", "--takeover", *words)
 
     def take_over(self, number):

@@ -28,7 +28,7 @@ def mounts_anew(room, mount, generation=2):
     """Lets a daemon mount over a dead mount, and shows that it serves."""
     until_seen = time.monotonic() + WAIT
     while True:
-        daemon = room.run("daemon", "--mount", "broker.sock", "t0", "m")
+        daemon = room.run("daemon", "--mount", "broker.sock", "t0", "m", *mount.options)
         daemon.printed(1)
         if daemon.lines[0] != "fault: seated" or time.monotonic() > until_seen:
             break

@@ -6,7 +6,7 @@ import shutil
 import struct
 import subprocess
 
-from process_rows.checks import row, same
+from process_rows.checks import WAIT, TooSlow, row, same
 from process_rows.mounted_programs import rounds_of
 from process_rows.mounts import WORK, Mount, drop_caches, mounts_below, size_of
 from process_rows.rooms import run_to_end
@@ -111,8 +111,8 @@ class Watch:
         """Returns the next so many things that were seen: what, and its name."""
         seen = []
         while len(seen) < count:
-            if not select.select([self.end], [], [], 20)[0]:
-                raise AssertionError(f"nothing more than {seen} was seen")
+            if not select.select([self.end], [], [], WAIT)[0]:
+                raise TooSlow(f"nothing more than {seen} was seen")
             text = os.read(self.end, 4096)
             while text:
                 _, mask, _, length = struct.unpack("=iIII", text[:16])

@@ -2,7 +2,7 @@
 daemon counts."""
 import random
 
-from process_rows.checks import row, same
+from process_rows.checks import row
 from process_rows.mounts import DIRECTORIES, FILES, WORK, Mount, drop_caches, size_of
 
 # A program without a proof is slow: it gets fewer rounds, and fewer files are looked for.
@@ -60,13 +60,11 @@ def taken_over_below_programs(room, workers):
         if number % 2:
             for it in programs:
                 it.rest()
-            mount.rest()
-        held, image = mount.take_over()
-        if number % 2:
-            same(image, held)
+            mount.take_over_at_rest()
             for it in programs:
                 it.go_on()
         else:
+            held, image = mount.take_over()
             covers(image, held)
     for it in programs:
         it.ends()

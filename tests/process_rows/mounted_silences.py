@@ -5,12 +5,12 @@ import signal
 import threading
 import time
 
-from process_rows.checks import WAIT, row, same
+from process_rows.checks import WAIT, TooSlow, row, same
 from process_rows.mounted_ends import STAT, mounts_anew
 from process_rows.mounts import Mount, drop_caches, size_of, until
 
 FRAMES = ("Offer", "Choice", "Ready", "Pong", "Data")
-PATIENCE = "700"
+SHORT_PATIENCE = "1500"
 FAILED = ("fault: takeover failed", 1)
 
 
@@ -24,7 +24,7 @@ class Stop:
 
     def __init__(self, room, whose, frame, number):
         self.room, self.whose, self.number = room, whose, number
-        self.mount = Mount(room, "--patience", PATIENCE)
+        self.mount = Mount(room, "--patience", SHORT_PATIENCE)
         self.old = self.mount.daemon
         self.program = room.program_in(STAT)
         self.program.works_on()
@@ -33,7 +33,7 @@ class Stop:
         self.new = self.mount.next_daemon(is_whole=True, at=frame, does=self.signal)
         self.is_known.set()
         if not self.is_done.wait(WAIT):
-            raise AssertionError(f"no {frame} came: {self.mount.tap.passed} {self.mount.tap.wrong}")
+            raise TooSlow(f"no {frame} came: {self.mount.tap.passed} {self.mount.tap.wrong}")
 
     def signal(self):
         """Stops or kills the daemon, and waits until that is so."""
@@ -191,8 +191,7 @@ def more_asks_than_a_broker_takes(room):
     for it in threads:
         it.join(3 * WAIT)
     same(seen, [0] * count)
-    held, image = mount.take_over()
-    same(image, held)
+    mount.take_over_at_rest()
     mount.unmount()
 
 
@@ -239,6 +238,5 @@ def a_program_that_is_killed_while_it_asks(room):
         program.works_on()
     program.ends()
     mount.counts_what_is_held()
-    held, image = mount.take_over()
-    same(image, held)
+    mount.take_over_at_rest()
     mount.unmount()

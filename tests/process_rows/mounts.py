@@ -9,7 +9,7 @@ import tempfile
 import threading
 import time
 
-from process_rows.checks import WAIT, same
+from process_rows.checks import PATIENCE, WAIT, TooSlow, same
 from process_rows.counts import counts_of, image_of
 from process_rows.proxies import Proxy
 from process_rows.rooms import Room, Running, run_to_end, start
@@ -20,10 +20,12 @@ DROP_CACHES = "/proc/sys/vm/drop_caches"
 DIRECTORIES, FILES = 40, 50
 WORK = "work"
 # After so many seconds a row is over: its processes are killed, and what waits for the mount fails.
-LONGEST_ROW, LONGEST_ROW_OF_UNPROVED = 100, 400
+LONGEST_ROW, LONGEST_ROW_OF_UNPROVED = 400, 800
 CLONE_NEWNS = 0x20000
 # The states of processes that were stopped, that ended, and that wait for what they forked to call exec.
 AT_REST = {"T", "Z", "X", "Dkernel_clone", "D_do_fork", "Dwait_for_vfork_done"}
+# Held while caches are dropped, which happens in each mount, and while one is compared with its daemon at rest.
+CACHES = threading.RLock()
 
 
 def size_of(directory, file):
@@ -98,7 +100,7 @@ def mounts_below(path):
 
 def drop_caches():
     """Has the kernel forget the entries and files that no program holds, in every mount."""
-    with open(DROP_CACHES, "w") as file:
+    with CACHES, open(DROP_CACHES, "w") as file:
         file.write("2\n")
 
 
@@ -107,7 +109,7 @@ def until(is_so, what, wait=WAIT):
     deadline = time.monotonic() + wait
     while not is_so():
         if time.monotonic() > deadline:
-            raise AssertionError(f"{what} was awaited in vain")
+            raise TooSlow(f"{what} was awaited in vain")
         time.sleep(0.005)
 
 
@@ -122,7 +124,6 @@ class MountRoom(Room):
         os.mkdir(self.mountpoint)
         self.write("m", manifest())
         self.programs = []
-        self.is_late = False
         self.timer = threading.Timer(LONGEST_ROW if is_proved else LONGEST_ROW_OF_UNPROVED, self.end_late)
         self.timer.daemon = True
         self.timer.start()
@@ -257,6 +258,18 @@ def states_of(group):
     return states
 
 
+def states_of_threads(pid):
+    """Returns the states that threads of a process have."""
+    states = set()
+    for thread in os.listdir(f"/proc/{pid}/task"):
+        try:
+            with open(f"/proc/{pid}/task/{thread}/stat") as file:
+                states.add(file.read().rpartition(") ")[2][0])
+        except OSError:
+            pass
+    return states
+
+
 class Tap(Proxy):
     """A connection between daemons of which the image is kept. Before a frame is passed on something may be done."""
 
@@ -287,7 +300,7 @@ class Mount:
 
     def __init__(self, room, *options):
         self.room = room
-        self.options = options if "--patience" in options else ("--patience", "60000", *options)
+        self.options = options if "--patience" in options else ("--patience", PATIENCE, *options)
         self.path = room.mountpoint
         is_left = os.path.exists(room.broker_at)
         self.broker = room.mount_broker("--held", "held")
@@ -309,6 +322,13 @@ class Mount:
         path = f"{self.room.path}/t{self.number}"
         self.tap = Tap(self.room, path, f"{self.room.path}/t{self.number - 1}", **taps)
         return self.room.run("daemon", "--takeover", "broker.sock", f"t{self.number}", "m", *self.options)
+
+    def take_over_at_rest(self):
+        """Lets a new daemon take over once nothing is under way, and shows that the image counts what the kernel holds."""
+        with CACHES:
+            self.rest()
+            held, image = self.take_over()
+        same(image, held)
 
     def take_over(self):
         """Lets a new daemon take over. Returns how often the kernel held each number then, and how often the image counts
@@ -338,25 +358,28 @@ class Mount:
         """Waits until neither the kernel nor a daemon has anything to do, for half a second. Of a program without a proof
         that can't be seen: its idle workers take much time."""
         if self.room.is_proved:
-            until(lambda: all(self.busy() < 0.02 for _ in range(5)), "a mount at rest", 3 * WAIT)
+            until(lambda: all(self.is_idle() for _ in range(5)), "a mount at rest", 3 * WAIT)
         else:
             time.sleep(2)
 
-    def busy(self):
-        """Returns how many seconds broker and daemon worked in a tenth of a second."""
+    def is_idle(self):
+        """Returns whether broker and daemon did next to nothing for a tenth of a second, and each of their threads waits
+        then. One that has something to do doesn't wait, even if it gets no processor."""
         began = self.broker.used() + self.daemon.used()
         time.sleep(0.1)
-        return self.broker.used() + self.daemon.used() - began
+        used = self.broker.used() + self.daemon.used() - began
+        return used < 0.02 and all(states_of_threads(it.pid) <= {"S"} for it in (self.broker, self.daemon))
 
     def counts_what_is_held(self):
         """Shows at rest that the daemon counts what the kernel holds: it hands its image over, and claims the seat again.
         Under load a forget may come in between, since nobody sees that the kernel has one to send; then it hands over
         once more. Returns what is held."""
-        for _ in range(4):
+        with CACHES:
+            for _ in range(4):
+                counts, held = self.counts_and_held()
+                if counts == held:
+                    return held
             counts, held = self.counts_and_held()
-            if counts == held:
-                return held
-        counts, held = self.counts_and_held()
         same(counts, held)
         return held
 

@@ -2,18 +2,18 @@
 import os
 import time
 
-from process_rows.checks import row, same, took_between
+from process_rows.checks import PATIENCE, row, same, took_between
 from process_rows.counts import counts_of, handed_to, image_of
 from process_rows.daemons import LONG_NAMES, handed_over, long_checkout, parts_of
 from process_rows.frames import ALL_VERSIONS, PART, u32, u64
 from process_rows.rooms import ENTRY
 
 
-def against_a_daemon(room, talk, lines, status=1, patience="8000"):
+def against_a_daemon(room, talk, lines, status=1, patience=PATIENCE):
     """Lets a daemon take over from a peer that talks by hand."""
     room.broker("seat 1")
     listener = room.listen(room.takeover_at)
-    new = room.take_over("--patience", patience)
+    new = room.take_over(patience=patience)
     other = room.accept(listener)
     same(other.read(), ("Offer", ALL_VERSIONS))
     talk(other)
@@ -139,7 +139,7 @@ def a_stale_claim_fails(room):
     first.printed("serving 2")
     os.rename(room.takeover_at, f"{room.path}/first.sock")
     listener = room.listen(room.takeover_at)
-    new = room.take_over("--patience", "8000")
+    new = room.take_over()
     other = room.accept(listener)
     other.read()
     talk(other)
@@ -170,7 +170,7 @@ def a_count_of_33_bits_goes_in_version_3_alone(room):
     same((generation, image[54:71]), (1, u64(2) + b"\0" + u64(1)))
     os.rename(room.takeover_at, f"{room.path}/first.sock")
     listener = room.listen(room.takeover_at)
-    second = room.take_over("--patience", "8000")
+    second = room.take_over()
     other = room.accept(listener)
     other.read()
     other.send("Choice", u32(1) + b"\x00\x03")

@@ -8,7 +8,7 @@ import tempfile
 import threading
 import time
 
-from process_rows.checks import WAIT, same
+from process_rows.checks import PATIENCE, WAIT, TooSlow, same
 from process_rows.frames import Peer
 
 MANIFEST = b"""commit 0123456789abcdef0123456789abcdef01234567
@@ -81,7 +81,7 @@ class Running:
         """Waits until the lines are such as are awaited."""
         with self.changed:
             if not self.changed.wait_for(lambda: is_there(self.lines), WAIT):
-                raise AssertionError(f"{what!r} was not printed, but {self.lines}")
+                raise TooSlow(f"{what!r} was not printed, but {self.lines}")
 
     def ends(self, lines, status=0, error=None, may_repeat=False):
         """Waits for the end, and compares what was printed, and the status. Lines that may repeat themselves stand once
@@ -126,6 +126,7 @@ class Room:
         self.takeover_at = f"{path}/takeover.sock"
         self.running = []
         self.ends = []
+        self.is_late = False
         self.write("m", MANIFEST)
 
     def write(self, name, text):
@@ -152,14 +153,20 @@ class Room:
         until = time.monotonic() + WAIT
         while not (takes_connections(path) if is_left else os.path.exists(path)):
             if time.monotonic() > until:
-                raise AssertionError(f"nobody listens at {path}")
+                raise TooSlow(f"nobody listens at {path}")
             time.sleep(0.005)
 
-    def mount(self, *options, manifest="m", **streams):
-        return self.run("daemon", "--mount", "broker.sock", "takeover.sock", manifest, *options, **streams)
+    def mount(self, *options, **others):
+        return self.daemon("--mount", options, **others)
 
-    def take_over(self, *options, manifest="m", **streams):
-        return self.run("daemon", "--takeover", "broker.sock", "takeover.sock", manifest, *options, **streams)
+    def take_over(self, *options, **others):
+        return self.daemon("--takeover", options, **others)
+
+    def daemon(self, how, options, manifest="m", patience=PATIENCE, **streams):
+        """Starts a daemon. The options may name another patience; where `patience` is none, the words name none."""
+        if patience and "--patience" not in options:
+            options = ("--patience", patience, *options)
+        return self.run("daemon", how, "broker.sock", "takeover.sock", manifest, *options, **streams)
 
     def peer(self, path=None):
         """Connects to the broker, or to another socket."""

@@ -1,6 +1,8 @@
 """Runs rows side by side, each in a folder of its own, and tells which of them failed."""
 import concurrent.futures
+import itertools
 import os
+import subprocess
 import sys
 import tempfile
 import time
@@ -10,7 +12,11 @@ from process_rows.checks import ROWS, ROWS_OF_PROVED, TOP, TooSlow
 from process_rows.rooms import Room
 
 HERE = os.path.dirname(os.path.abspath(__file__))
-AT_A_TIME = 6
+AT_A_TIME = 4
+# How often a row whose failure shows little runs again, and the share of the wanted processor time from which a host
+# that takes it away makes a failure show little: then daemons may miss the bounds of time that they have for each other.
+TRIES = 3
+MUCH_STOLEN = 0.1
 
 
 def program_at(words):
@@ -29,10 +35,18 @@ def is_unproved(program):
 
 
 class Outcome:
-    """How a row went: how many seconds it took, what went wrong, and whether that was only that it took so long."""
+    """How a row went: how many seconds it took, what went wrong, and why that shows little, where it does."""
 
     def __init__(self):
-        self.took, self.wrong, self.is_slow = 0, None, False
+        self.took, self.wrong, self.excuse = 0, None, None
+
+    def fails(self, error, room, stolen):
+        """Notes an error, and that it shows little where it is one of time, or where the host took much time away."""
+        self.wrong = f"{type(error).__name__} {error} ({lines_of(error)}); printed {room.printed()}"
+        if stolen > MUCH_STOLEN:
+            self.excuse = f"the host took {stolen:.0%} of the processors away"
+        elif room.is_late or is_of_time(error):
+            self.excuse = "something did not come in time"
 
     def line(self, shows, tells_times):
         """Returns the line that tells of it."""
@@ -40,16 +54,36 @@ class Outcome:
         return f"{time_of_it}{shows.__doc__.splitlines()[0]} {'FAILED: ' + self.wrong if self.wrong else 'ok'}"
 
 
+def processor_times():
+    """Returns how much of the processors' time was wanted so far, and how much of that the host took away: user, nice,
+    system, idle, iowait, irq, softirq and steal of the first line of /proc/stat (`proc(5)`)."""
+    with open("/proc/stat") as file:
+        times = [int(it) for it in file.readline().split()[1:9]]
+    return sum(times) - times[3] - times[4], times[7]
+
+
+def stolen_since(then):
+    """Returns the share of the time that was wanted since then which the host took away."""
+    wanted, stolen = (new - old for new, old in zip(processor_times(), then))
+    return stolen / max(wanted, 1)
+
+
+def is_of_time(error):
+    """Returns whether an error, or one that it comes from, is that something did not come in time."""
+    while error is not None and not isinstance(error, (TooSlow, TimeoutError, subprocess.TimeoutExpired)):
+        error = error.__cause__
+    return error is not None
+
+
 def attempt(shows, program, is_proved, room_type):
     """Runs a row in a folder of its own, and returns its outcome."""
-    began, it = time.monotonic(), Outcome()
+    began, times, it = time.monotonic(), processor_times(), Outcome()
     with tempfile.TemporaryDirectory(dir="/tmp", ignore_cleanup_errors=True) as path:
         room = room_type(path, program, is_proved)
         try:
             shows(room)
         except Exception as error:
-            it.is_slow = isinstance(error, TooSlow)
-            it.wrong = f"{type(error).__name__} {error} ({lines_of(error)}); printed {room.printed()}"
+            it.fails(error, room, stolen_since(times))
         finally:
             room.clear()
     it.took = time.monotonic() - began
@@ -71,27 +105,41 @@ def rows_of(words, is_proved, command):
     return [it for it in rows if it not in left_out]
 
 
-def outcomes(rows, run, at_a_time):
-    """Runs rows side by side. One that took too long runs once more behind the others, by itself. Returns each row with
-    its outcome."""
-    slow = []
+def run_again(row, outcome, run, tries):
+    """Runs a row by itself, `tries` times at most, as long as its failure shows little, and tells why. Returns its last
+    outcome."""
+    for _ in range(tries):
+        if outcome.excuse is None:
+            break
+        print(f"{row.__name__} runs again by itself, since {outcome.excuse}: {outcome.wrong}", flush=True)
+        outcome = run(row)
+    return outcome
+
+
+def outcomes(rows, run, at_a_time, tries):
+    """Runs rows side by side, and behind them those again whose failure shows little. Returns each row with its
+    outcome."""
+    again = []
     with concurrent.futures.ThreadPoolExecutor(at_a_time) as pool:
         for row, outcome in zip(rows, pool.map(run, rows)):
-            if outcome.is_slow:
-                slow.append(row)
-            else:
+            if outcome.excuse is None:
                 yield row, outcome
-    for row in slow:
-        print(f"{row.__name__} took too long beside others, and runs by itself:", flush=True)
-        yield row, run(row)
+            else:
+                again.append((row, outcome))
+    for row, outcome in again:
+        yield row, run_again(row, outcome, run, tries)
 
 
-def run_rows(program, words, tells_times, command="tests/processes", room_type=Room, at_a_time=AT_A_TIME):
-    """Runs the rows whose name has one of the words, or each row where there is no word. Returns the status."""
+def run_rows(words, command="tests/processes", room_type=Room, at_a_time=AT_A_TIME):
+    """Runs the rows that a command's words pick: options, the program, and words that names of rows have. Returns the
+    status."""
+    options = list(itertools.takewhile(lambda it: it in ("-v", "--once"), words))
+    program, words = program_at(words[len(options) :])
+    tells_times, tries = "-v" in options, 0 if "--once" in options else TRIES
     passed = failed = 0
     is_proved = not is_unproved(program)
     rows = rows_of(words, is_proved, command)
-    for row, outcome in outcomes(rows, lambda it: attempt(it, program, is_proved, room_type), at_a_time):
+    for row, outcome in outcomes(rows, lambda it: attempt(it, program, is_proved, room_type), at_a_time, tries):
         passed, failed = passed + (not outcome.wrong), failed + bool(outcome.wrong)
         print(outcome.line(row, tells_times), flush=True)
     print(f"{command}: {passed} passed, {failed} failed")

@@ -5,7 +5,7 @@ import random
 import threading
 import time
 
-from process_rows.checks import WAIT, row, same
+from process_rows.checks import PATIENCE, WAIT, TooSlow, row, same
 from process_rows.counts import check_lines, counts_of, image_of
 from process_rows.daemons import LONG_NAMES, long_checkout, mounted_anew
 from process_rows.proxies import Proxy
@@ -63,8 +63,8 @@ class Trial:
         path = f"{room.path}/proxy.sock"
         proxy = Proxy(room, path, room.takeover_at, frames, lambda: self.kill(killed), is_whole)
         words = ("broker.sock", "proxy.sock", self.manifest)
-        self.new = room.run("daemon", "--takeover", *words, "--patience", "8000")
-        self.old = room.mount("--patience", "8000", manifest=self.manifest)
+        self.new = room.run("daemon", "--takeover", *words, "--patience", PATIENCE)
+        self.old = room.mount(manifest=self.manifest)
         self.broker.printed(1 + len(self.files))
         room.await_socket(room.takeover_at)
         proxy.may_begin.set()
@@ -101,7 +101,7 @@ class Trial:
                 if third.lines[0].startswith("serving "):
                     return third
             time.sleep(0.001)
-        raise AssertionError(f"nobody serves: {self.room.printed()}")
+        raise TooSlow(f"nobody serves: {self.room.printed()}")
 
     def finish(self, path_of_new):
         """Compares all that is printed, and the image of whoever serves with what the kernel holds."""

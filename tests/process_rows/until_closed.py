@@ -221,7 +221,7 @@ def a_new_daemon_is_closed_before_its_data_comes(room):
     listener = room.listen(room.takeover_at)
     room.broker("seat 1")
     for says in range(3):
-        new = taking_over(room, "--patience", "8000")
+        new = taking_over(room)
         other = room.accept(listener)
         same(other.read(), ("Offer", ALL_VERSIONS))
         if says > 0:
