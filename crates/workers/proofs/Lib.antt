@@ -1,5 +1,6 @@
 pub mod Fitting
 pub mod Growing
+pub mod Leaving
 pub mod Replaying
 pub mod Rounds
 pub mod Serving

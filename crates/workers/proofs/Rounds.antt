@@ -1,10 +1,18 @@
 -- What a round gives, by how its workers ended.
 use Rattle.std.proofs.Common.{◌≡◌, ◌+◌, ◌*◌, ◌≤◌, ℕ, List, length, Result, Ok, Err, sym, subst, ◌∙◌, arith}
-use Rattle.std.specs.Prelude.{IfOk, OnOk, OnErr}
+use Rattle.std.specs.Global.{Vec}
+use Rattle.std.specs.Prelude.{IfOk, IfErr, OnOk, OnErr}
 use Rattle.std.specs.List.{All}
+use Rattle.fuse_wire.specs.declared.reply.Reply.{Reply}
 use Rattle.journal.specs.Journal.{JournalState}
 use Rattle.journal.specs.Receipts.{ReceiptsState}
+use Rattle.workers.specs.Faults.{IsBroken}
 use Rattle.workers.specs.Rooms.{HasPlaces, HaveRoom, rooms_of}
+use Rattle.workers.specs.Round.{OneBreaks}
+use Rattle.workers.specs.declared.channel.Posted.{Posted}
+use Rattle.workers.specs.declared.channel.Taken.{Taken}
+use Rattle.workers.specs.declared.fault.RoundFault.{RoundFault}
+use Rattle.workers.specs.declared.fault.RoundFault.TheVariants.{Broken}
 
 -- what holds of two parts of an Ok
 pub two_of_ok :
@@ -14,10 +22,15 @@ two_of_ok {R} {E} {A} {K} P (Ok x) f g a k fa gk d go =
     subst (λ (b : A). P b (g x)) (sym fa) (subst (λ (h : K). P a h) (sym gk) (go d))
 two_of_ok P (Err e) f g a k fa gk d go = tt
 
--- what follows from the cause of an Err
-pub err_so : {R E D P : Type 0} (r : Result R E) → OnErr r D → (D → P) → OnErr r P
-err_so (Ok x) why so = tt
-err_so (Err e) why so = so why
+-- a round that broke gives back its channels as their workers left them
+pub broken_by :
+    {R B C D : Type 0} (takes : C → Taken → C → Type 0) (posts : C → Reply → Posted → C → Type 0) (turns : ℕ)
+    (channels : List C) (left : Vec C) (r : Result R (RoundFault B C)) →
+    OnErr r D → IfErr r (λ why. why ≡ Broken left) → (D → OneBreaks takes posts turns channels left.items) →
+    IfErr r (IsBroken takes posts turns channels)
+broken_by takes posts turns channels left (Ok x) cause is so = tt
+broken_by {R} {B} {C} takes posts turns channels left (Err why) cause is so =
+    subst (λ (fault : RoundFault B C). IsBroken takes posts turns channels fault) (sym is) (so cause)
 
 -- a round that is served leaves the room that it began with
 pub room_kept :

@@ -1,16 +1,14 @@
 -- What a worker makes of its channel grows by a turn.
-use Rattle.std.proofs.Common.{◌≡◌, ◌⊎◌, ℕ, Bool, true, false, List, [], ◌∷◌, ◌++◌, Option, Some, None, refl, sym, subst, inl, inr}
-use Rattle.fuse_wire.specs.declared.request.Ask.{Ask}
-use Rattle.fuse_wire.specs.declared.reply.Answer.{Answer}
+use Rattle.std.proofs.Common.{◌≡◌, Bool, true, false, List, [], ◌∷◌, ◌++◌, Option, refl, sym, subst, inr}
 use Rattle.fuse_wire.specs.declared.reply.Reply.{Reply}
 use Rattle.journal.specs.declared.receipt.Receipt.{Receipt}
-use Rattle.workers.specs.Shift.{Ends, Fails, Finds, Goes, GoesOrEnds, Replies, Turns, after_turn}
+use Rattle.workers.specs.Shift.{Ends, Goes, GoesOrEnds, Replies, Turns, after_turn}
 use Rattle.workers.specs.declared.channel.Taken.{Taken}
 use Rattle.workers.specs.declared.channel.Taken.TheVariants as took
 use Rattle.workers.specs.declared.channel.Posted.{Posted}
 use Rattle.workers.specs.declared.channel.Posted.TheVariants as post
 use Rattle.workers.specs.declared.worker.Ending.{Ending}
-use Rattle.workers.specs.declared.worker.Ending.TheVariants.{Done, Broken}
+use Rattle.workers.specs.declared.worker.Ending.TheVariants.{Broken}
 
 -- one more turn, with its reply posted
 goes_more :

@@ -14,7 +14,7 @@ use Rattle.workers.specs.declared.fault.RoundFault.TheVariants.{Broken, Unsettle
 
 -- the words for a fault
 abbrev pub fault_text : {B C : Type 0} → RoundFault B C → List ℕ
-fault_text Broken = codes "the mount is over"
+fault_text (Broken left) = codes "the mount is over"
 fault_text Unsettled = codes "the receipts of the workers are not those of the journal"
 fault_text (NoMemory back) = codes "out of memory"
 
@@ -22,14 +22,21 @@ fault_text (NoMemory back) = codes "out of memory"
 abbrev pub GivesBack : {B C : Type 0} → ServedState → B → List C → RoundFault B C → Type 0
 GivesBack served backing channels (NoMemory back) =
     (back.served ≡ served) × (back.backing ≡ backing) × (back.channels.items ≡ channels)
-GivesBack served backing channels Broken = ⊤
+GivesBack served backing channels (Broken left) = ⊤
 GivesBack served backing channels Unsettled = ⊤
 
--- a round is not served for this cause: one of its workers found its channel broken, or memory was refused
+-- a round broke: one of its workers found its channel broken, and the channels come back as their workers left them
+abbrev pub IsBroken :
+    {B C : Type 0} → (C → Taken → C → Type 0) → (C → Reply → Posted → C → Type 0) → ℕ → List C
+    → RoundFault B C → Type 0
+IsBroken takes posts turns channels (Broken left) = OneBreaks takes posts turns channels left.items
+IsBroken takes posts turns channels why = ⊥
+
+-- a round is not served for this cause: it broke, or memory was refused
 abbrev pub IsUnserved :
     {B C : Type 0} → (C → Taken → C → Type 0) → (C → Reply → Posted → C → Type 0) → ℕ → List C
     → RoundFault B C → Type 0
-IsUnserved takes posts turns channels Broken = OneBreaks takes posts turns channels
+IsUnserved takes posts turns channels (Broken left) = OneBreaks takes posts turns channels left.items
 IsUnserved takes posts turns channels Unsettled = ⊥
 IsUnserved takes posts turns channels (NoMemory back) = ⊤
 
@@ -47,4 +54,4 @@ GivesRooms rooms why = ⊤
 abbrev pub IsUndrained : {B C : Type 0} → List Record → List ReceiptsState → RoundFault B C → Type 0
 IsUndrained records workers Unsettled = IsSettled records workers → ⊥
 IsUndrained records workers (NoMemory back) = ⊤
-IsUndrained records workers Broken = ⊥
+IsUndrained records workers (Broken left) = ⊥

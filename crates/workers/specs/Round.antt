@@ -1,13 +1,14 @@
 -- What a round leaves of its channels. (This project's own.)
-use Rattle.std.specs.Prelude.{◌≡◌, ◌≤◌, ℕ, Bool, true, List, [], ◌∷◌, length, ⊤}
-use Rattle.std.specs.List.{Any, sum_by}
+use Rattle.std.specs.Prelude.{◌≤◌, ◌⊎◌, ℕ, Bool, List, [], ◌∷◌, length, ⊤}
+use Rattle.std.specs.List.{sum_by}
 use Rattle.fuse_wire.specs.declared.reply.Reply.{Reply}
 use Rattle.journal.specs.Receipts.{ReceiptsState}
 use Rattle.journal.specs.declared.receipt.Receipt.{Receipt}
-use Rattle.workers.specs.Channel.{Told, grown}
+use Rattle.workers.specs.Channel.{Told}
 use Rattle.workers.specs.Shift.{Ends, IsShift, ending_by}
 use Rattle.workers.specs.declared.channel.Taken.{Taken}
 use Rattle.workers.specs.declared.channel.Posted.{Posted}
+use Rattle.workers.specs.declared.worker.Ending.{Ending}
 use Rattle.workers.specs.declared.worker.Ending.TheVariants.{Broken}
 
 -- A round turned each channel of the first list into the one at the same index of the second, as its worker's receipts
@@ -21,16 +22,34 @@ AreServed takes posts tells told turns (before ∷ befores) (after ∷ afters) (
     × AreServed takes posts tells told turns befores afters rest
 AreServed takes posts tells told turns befores afters kept = ⊥
 
--- the worker of this channel found it broken
-abbrev pub Breaks :
-    {C : Type 0} → (C → Taken → C → Type 0) → (C → Reply → Posted → C → Type 0) → ℕ → C → Type 0
-Breaks {C} takes posts turns before =
-    (receipts : List Receipt) × (after : C) × Ends takes posts before receipts Broken after × (length receipts ≤ turns)
+-- the worker of the channel `before` left it as `after`, after at most so many turns, in whatever way it ended
+abbrev pub IsLeft :
+    {C : Type 0} → (C → Taken → C → Type 0) → (C → Reply → Posted → C → Type 0) → ℕ → C → C → Type 0
+IsLeft takes posts turns before after =
+    (receipts : List Receipt) × (ending : Ending) × Ends takes posts before receipts ending after
+    × (length receipts ≤ turns)
 
--- the worker of one of these channels found it broken
+-- each channel of the first list was left as the one at the same index of the second
+abbrev pub AreLeft :
+    {C : Type 0} → (C → Taken → C → Type 0) → (C → Reply → Posted → C → Type 0) → ℕ → List C → List C → Type 0
+AreLeft takes posts turns [] [] = ⊤
+AreLeft takes posts turns (before ∷ befores) (after ∷ afters) =
+    IsLeft takes posts turns before after × AreLeft takes posts turns befores afters
+AreLeft takes posts turns befores afters = ⊥
+
+-- the worker of the channel `before` found it broken, and left it as `after`
+abbrev pub Breaks :
+    {C : Type 0} → (C → Taken → C → Type 0) → (C → Reply → Posted → C → Type 0) → ℕ → C → C → Type 0
+Breaks takes posts turns before after =
+    (receipts : List Receipt) × Ends takes posts before receipts Broken after × (length receipts ≤ turns)
+
+-- each channel of the first list was left as the one at the same index of the second, and one was found broken
 abbrev pub OneBreaks :
-    {C : Type 0} → (C → Taken → C → Type 0) → (C → Reply → Posted → C → Type 0) → ℕ → List C → Type 0
-OneBreaks takes posts turns channels = Any (Breaks takes posts turns) channels
+    {C : Type 0} → (C → Taken → C → Type 0) → (C → Reply → Posted → C → Type 0) → ℕ → List C → List C → Type 0
+OneBreaks takes posts turns (before ∷ befores) (after ∷ afters) =
+    (Breaks takes posts turns before after × AreLeft takes posts turns befores afters)
+    ⊎ (IsLeft takes posts turns before after × OneBreaks takes posts turns befores afters)
+OneBreaks takes posts turns befores afters = ⊥
 
 -- how many receipts these workers have
 abbrev pub receipts_in : List ReceiptsState → ℕ

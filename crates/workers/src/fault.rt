@@ -20,8 +20,8 @@ pub struct Returned<B: Drop, C: Drop> {
 /// `Error` asks for `Debug` of all that is given back.
 #[derive(Drop)]
 pub enum RoundFault<B: Drop, C: Drop> {
-    /// A channel was broken.
-    Broken,
+    /// A channel was broken. The channels are given back in their order, each as its worker left it.
+    Broken(Vec<C>),
     /// The receipts of the workers are not those of the journal.
     Unsettled,
     NoMemory(Returned<B, C>),
@@ -32,7 +32,7 @@ impl<B: Drop, C: Drop> fmt::Display for RoundFault<B, C> {
 
     fn fmt<W: fmt::Write>(&self, f: &mut fmt::Formatter<W>) -> fmt::Result {
         f.write_str(match self {
-            RoundFault::Broken => "the mount is over",
+            RoundFault::Broken(_left) => "the mount is over",
             RoundFault::Unsettled => "the receipts of the workers are not those of the journal",
             RoundFault::NoMemory(_back) => "out of memory",
         })

@@ -6,7 +6,7 @@ ghost use Rattle.fuse_ops.specs.Loading.{Backs};
 ghost use Rattle.workers.specs.Replays.{Replays};
 ghost use Rattle.workers.specs.Round.{AreServed, OneBreaks, receipts_in};
 ghost use Rattle.workers.specs.Rooms.{Fit, HasPlaces, HaveRoom, rooms_of};
-ghost use Rattle.workers.specs.Faults.{GivesBack, IsUnserved, WasNeeded};
+ghost use Rattle.workers.specs.Faults.{GivesBack, IsBroken, IsUnserved, WasNeeded};
 ghost use Rattle.workers.specs.declared.fault.RoundFault.TheVariants as fault;
 
 use crate::channel::Channel;
@@ -56,7 +56,8 @@ fn serve_all<
     ensures counted { result.share.amount ≡ receipts_in result.receipts.items }
     ensures served { result.is_broken ≡ false → AreServed C.takes C.posts C.tells C.told N.turns
         crew.channels.items result.channels.items result.receipts.items }
-    ensures broken { result.is_broken ≡ true → OneBreaks C.takes C.posts N.turns crew.channels.items }
+    ensures broken { result.is_broken ≡ true → OneBreaks C.takes C.posts N.turns
+        crew.channels.items result.channels.items }
     ensures places { All (HasPlaces N.turns) result.receipts.items }
     ensures workers { vec_len result.receipts ≡ vec_len crew.channels }
 {
@@ -69,7 +70,8 @@ fn serve_all<
             ensures counted { result.share.amount ≡ receipts_in result.receipts.items }
             ensures served { result.is_broken ≡ false → AreServed C.takes C.posts C.tells C.told N.turns
                 crew.channels.items result.channels.items result.receipts.items }
-            ensures broken { result.is_broken ≡ true → OneBreaks C.takes C.posts N.turns crew.channels.items }
+            ensures broken { result.is_broken ≡ true → OneBreaks C.takes C.posts N.turns
+                crew.channels.items result.channels.items }
             ensures places { All (HasPlaces N.turns) result.receipts.items }
             ensures workers { vec_len result.receipts ≡ vec_len crew.channels }
         { serve_each(scope, rt, shared, crew, hook, stop) },
@@ -119,7 +121,7 @@ fn closed<N: Opening, B: Backing + Drop, C: Channel + Drop>(
     }
 }
 
-/// Returns what a round leaves, if each of its workers ended well, else Broken.
+/// Returns what a round leaves, if each of its workers ended well, else Broken with the channels.
 fn left_by<N: Opening, B: Backing + Drop, C: Channel + Drop>(
     parts: Parts<N, B>,
     joined: Joined<N, C>,
@@ -142,12 +144,11 @@ fn left_by<N: Opening, B: Backing + Drop, C: Channel + Drop>(
     ensures well { OnOk result (joined.is_broken ≡ false) }
     ensures counted { IfOk result (λ round. length round.journal.records ≡ receipts_in round.receipts.items) }
     ensures broken { OnErr result (joined.is_broken ≡ true) }
-    ensures for_good { IfErr result (λ why. why ≡ fault.Broken) }
+    ensures left { IfErr result (λ why. why ≡ fault.Broken joined.channels) }
 {
     if joined.is_broken {
-        drop(joined);
         drop(parts);
-        return Err(RoundFault::Broken);
+        return Err(RoundFault::Broken(joined.channels));
     }
     Ok(closed(parts, joined))
 }
@@ -187,8 +188,7 @@ fn round_of<
         channels.items round.channels.items round.receipts.items) }
     ensures room { IfOk result (λ round. HaveRoom (vec_len channels) N.turns
         (rooms_of round.journal round.receipts.items (vec_len round.receipts))) }
-    ensures broken { IfErr result (λ why. why ≡ fault.Broken) }
-    ensures breaks { OnErr result (OneBreaks C.takes C.posts N.turns channels.items) }
+    ensures broken { IfErr result (IsBroken C.takes C.posts N.turns channels.items) }
 {
     let (journal, receipts) = rooms.into_parts();
     let Opened { shared, share } = LockedMap::<N, B>::open(alloc, blank, served, backing, journal);
@@ -236,7 +236,8 @@ pub fn serve_round<
     // The room for such a round is still there.
     ensures room { IfOk result (λ round. HaveRoom (vec_len channels) turns
         (rooms_of round.journal round.receipts.items (vec_len round.receipts))) }
-    // The fault is Broken exactly if a worker found its channel broken, and it is never Unsettled.
+    // The fault is Broken exactly if a worker found its channel broken, and it is never Unsettled. What it gives back
+    // are the channels as their workers left them.
     ensures broken { IfErr result (IsUnserved C.takes C.posts turns channels.items) }
     // Rooms that fit need no memory.
     ensures needed { IfErr result (WasNeeded (vec_len channels) turns rooms) }

@@ -3,7 +3,7 @@ ghost use Rattle.std.specs.Prelude.{◌≡◌, ◌+◌, ◌*◌, ◌<◌, ◌≤
 ghost use Rattle.std.specs.List.{All};
 ghost use Rattle.journal.specs.Receipts.{IsFresh};
 ghost use Rattle.workers.specs.Rooms.{HasPlaces};
-ghost use Rattle.workers.specs.Round.{AreServed, OneBreaks, receipts_in};
+ghost use Rattle.workers.specs.Round.{AreLeft, AreServed, OneBreaks, receipts_in};
 ghost use Rattle.workers.specs.Shift.{IsShift};
 ghost use Rattle.workers.specs.declared.worker.Ending.TheVariants.{Broken};
 
@@ -232,7 +232,9 @@ pub(crate) fn serve_each<
     ensures counted { result.share.amount ≡ receipts_in result.receipts.items }
     ensures served { result.is_broken ≡ false → AreServed C.takes C.posts C.tells C.told N.turns
         crew.channels.items result.channels.items result.receipts.items }
-    ensures broken { result.is_broken ≡ true → OneBreaks C.takes C.posts N.turns crew.channels.items }
+    ensures left { AreLeft C.takes C.posts N.turns crew.channels.items result.channels.items }
+    ensures broken { result.is_broken ≡ true → OneBreaks C.takes C.posts N.turns
+        crew.channels.items result.channels.items }
     ensures places { All (HasPlaces N.turns) result.receipts.items }
     ensures channels_len { vec_len result.channels ≡ vec_len crew.channels }
     ensures receipts_len { vec_len result.receipts ≡ vec_len crew.channels }

@@ -2,7 +2,7 @@
 ghost use Rattle.std.specs.Prelude.{◌≡◌, vec_len, IfOk};
 
 use super::rounds::{begun, serve};
-use super::scripted::{Scripted, Then};
+use super::scripted::{Rest, Scripted, Then};
 use crate::listed::LISTED;
 use eden_base::NoMemory;
 use manifest::Manifest;
@@ -18,7 +18,8 @@ use workers::{Hook, NoHook, RoundFault, Stop};
 enum Ended {
     /// Without a fault, with this many records in the journal.
     Well(usize),
-    Broken,
+    /// By a channel that was broken, with two channels that were left so.
+    Broken(Rest, Rest),
     Otherwise,
 }
 
@@ -28,24 +29,31 @@ type Script = (u64, usize, Then);
 /// A channel that gives one ask, and is empty after that.
 const WELL: Script = (1, 9, Then::Empty);
 
+/// What `WELL` is left with.
+const DONE: Rest = (0, 8, 1);
+
 /// Rows: two channels, and how a round over them ends.
 static ENDINGS: [(Script, Script, Ended); 16] = [
     (WELL, WELL, Ended::Well(2)),
     ((2, 9, Then::Stopped), WELL, Ended::Well(3)),
     (WELL, (2, 9, Then::Stopped), Ended::Well(3)),
     ((0, 9, Then::Stopped), (0, 9, Then::Stopped), Ended::Well(0)),
-    ((2, 9, Then::Broken), WELL, Ended::Broken),
-    (WELL, (2, 9, Then::Broken), Ended::Broken),
-    ((5, 4, Then::Empty), WELL, Ended::Broken),
-    (WELL, (5, 4, Then::Empty), Ended::Broken),
-    ((0, 9, Then::Broken), (1, 0, Then::Empty), Ended::Broken),
+    ((2, 9, Then::Broken), WELL, Ended::Broken((0, 7, 1), DONE)),
+    (WELL, (2, 9, Then::Broken), Ended::Broken(DONE, (0, 7, 1))),
+    ((5, 2, Then::Empty), WELL, Ended::Broken((2, 0, 4), DONE)),
+    (WELL, (5, 4, Then::Empty), Ended::Broken(DONE, (0, 0, 2))),
+    (
+        (0, 9, Then::Broken),
+        (1, 0, Then::Empty),
+        Ended::Broken((0, 9, 0), (0, 0, 0)),
+    ),
     ((4, 4, Then::Empty), (4, 4, Then::Stopped), Ended::Well(8)),
-    ((0, 9, Then::Broken), WELL, Ended::Broken),
-    ((1, 9, Then::Broken), WELL, Ended::Broken),
-    ((1, 0, Then::Empty), WELL, Ended::Broken),
-    (WELL, (0, 9, Then::Broken), Ended::Broken),
-    (WELL, (1, 9, Then::Broken), Ended::Broken),
-    (WELL, (1, 0, Then::Empty), Ended::Broken),
+    ((0, 9, Then::Broken), WELL, Ended::Broken((0, 9, 0), DONE)),
+    ((1, 9, Then::Broken), WELL, Ended::Broken(DONE, DONE)),
+    ((1, 0, Then::Empty), WELL, Ended::Broken((0, 0, 0), DONE)),
+    (WELL, (0, 9, Then::Broken), Ended::Broken(DONE, (0, 9, 0))),
+    (WELL, (1, 9, Then::Broken), Ended::Broken(DONE, DONE)),
+    (WELL, (1, 0, Then::Empty), Ended::Broken(DONE, (0, 0, 0))),
 ];
 
 /// Makes two channels, of the scripts `first` and `second`.
@@ -61,6 +69,14 @@ fn two<'a>(
     channels.push_reserved(Scripted::new(first.0, first.1, first.2, posted));
     channels.push_reserved(Scripted::new(second.0, second.1, second.2, posted));
     Ok(channels)
+}
+
+/// Returns how a round ended that broke and gave back `channels`.
+fn broken_with(channels: &[Scripted<'_>]) -> Ended {
+    if channels.len() != 2 {
+        return Ended::Otherwise;
+    }
+    Ended::Broken(channels[0].rest(), channels[1].rest())
 }
 
 /// Serves a round over `channels`, and returns how it ended.
@@ -81,7 +97,7 @@ fn ending_of<R: Threads + Wait + Sync, G: Hook + Sync>(
     let left = serve(rt, alloc, served, manifest, channels, 64, hook, stop);
     let ended = match &left {
         Ok(round) => Ended::Well(round.journal.records().len()),
-        Err(RoundFault::Broken) => Ended::Broken,
+        Err(RoundFault::Broken(channels)) => broken_with(channels.as_slice()),
         Err(_other) => Ended::Otherwise,
     };
     drop(left);

@@ -12,15 +12,20 @@ pub(crate) enum Then {
     Broken,
 }
 
-/// A channel that gives `asks` more asks, and takes `replies` more replies before it is broken. Each reply sets
-/// `posted`.
+/// A channel that gives `asks` more asks, and takes `replies` more replies before it is broken. The uniques of the asks
+/// count down to 1. Each reply sets `posted`, and leaves its unique in `last`.
 #[derive(Drop)]
 pub(crate) struct Scripted<'a> {
     asks: u64,
     replies: usize,
+    last: u64,
     then: Then,
     posted: &'a AtomicU64,
 }
+
+/// What a channel was left with: the asks that it would still give, the replies that it would still take, and the unique
+/// of the last reply that it took, or 0.
+pub(crate) type Rest = (u64, usize, u64);
 
 impl<'a> Scripted<'a> {
     pub(crate) fn new(
@@ -32,9 +37,15 @@ impl<'a> Scripted<'a> {
         Scripted {
             asks,
             replies,
+            last: 0,
             then,
             posted,
         }
+    }
+
+    /// Returns what the channel was left with.
+    pub(crate) fn rest(&self) -> Rest {
+        (self.asks, self.replies, self.last)
     }
 }
 
@@ -64,11 +75,12 @@ impl<'a> Channel for Scripted<'a> {
         }
     }
 
-    fn post(&mut self, _reply: Reply) -> Posted {
+    fn post(&mut self, reply: Reply) -> Posted {
         if self.replies == 0 {
             return Posted::Broken;
         }
         self.replies -= 1;
+        self.last = reply.unique;
         self.posted.store(1, Ordering::SeqCst);
         Posted::Done
     }

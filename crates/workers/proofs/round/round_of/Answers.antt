@@ -2,7 +2,7 @@
 use Rattle.std.proofs.Common.{vec_len, sym, ◌∙◌}
 use Rattle.std.proofs.lemmas.List.Elements.{All-same}
 use Rattle.journal.specs.Receipts.{IsFresh}
-use Rattle.workers.proofs.Rounds.{err_so, room_kept, two_of_ok}
+use Rattle.workers.proofs.Rounds.{broken_by, room_kept, two_of_ok}
 use Rattle.workers.specs.Round.{AreServed}
 use Rattle.workers.proofs.round.round_of.Goals as goal
 
@@ -15,8 +15,11 @@ returns-clause-each g c =
     (λ round. round.channels.items) (λ round. round.receipts.items) _ _ left.channels left.receipts left.well
     c.serve_all-joined.ensures.served
 
-pub returns-clause-breaks : goal.returns-clause-breaks
-returns-clause-breaks g c = err_so c.left_by.result c.left_by.ensures.broken c.serve_all-joined.ensures.broken
+pub returns-clause-broken : goal.returns-clause-broken
+returns-clause-broken g c =
+    let channel = g.C.Channel in
+    broken_by channel.takes channel.posts g.N.Opening.turns c.args.channels.items c.serve_all-joined.result.channels
+    c.left_by.result c.left_by.ensures.broken c.left_by.ensures.left c.serve_all-joined.ensures.broken
 
 pub returns-clause-room : goal.returns-clause-room
 returns-clause-room g c =

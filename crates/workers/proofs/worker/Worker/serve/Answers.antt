@@ -1,5 +1,5 @@
 -- the turn is one more, of the ask that was taken
-use Rattle.std.proofs.Common.{◌≡◌, List, sym, subst}
+use Rattle.std.proofs.Common.{List, sym, subst}
 use Rattle.fuse_wire.specs.declared.request.Request.{Request}
 use Rattle.journal.specs.declared.receipt.Receipt.{Receipt}
 use Rattle.workers.specs.Shift.{Goes}
