@@ -1,3 +1,4 @@
 mod FramesTold
 mod LinesPrinted
 mod NextRound
+mod RoundEnds

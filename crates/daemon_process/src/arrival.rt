@@ -1,7 +1,6 @@
 //! A daemon's connections to the broker.
 use crate::exit::Exit;
 use crate::fault::DaemonFault;
-use crate::mount_end::MountEnd;
 use crate::orders::Orders;
 use crate::patient::Patient;
 use crate::shared::Shared;
@@ -31,7 +30,7 @@ pub(crate) fn answer_by<R: Clock>(clock: &R) -> Deadline {
 }
 
 /// The channel of a worker.
-pub(crate) type Worker<'a, R> = Patient<'a, Asking<'a, R>>;
+pub(crate) type Worker<'a, R> = Patient<Asking<'a, R>>;
 
 /// A daemon's first connection to the broker, and those of its workers.
 #[derive(Drop)]
@@ -126,20 +125,19 @@ fn attach<R: Clock + Wait>(
     }
 }
 
-/// Makes a channel at `generation` for each worker's connection, patient until `stop` is asked. They note the end of the
-/// mount in `end`. No frame that was sent on these connections may still lack its answer.
+/// Makes a channel at `generation` for each worker's connection, patient until `stop` is asked. No frame that was sent
+/// on these connections may still lack its answer.
 pub(crate) fn channels<'a, R: Clock>(
     rt: &'a R,
     alloc: Global,
     workers: &[UnixStream],
     generation: u64,
     stop: &Arc<Stop>,
-    end: &'a MountEnd,
 ) -> io::Result<Vec<Worker<'a, R>>> {
     let mut channels = Vec::with_capacity(alloc, workers.len())?;
     for worker in workers {
         let channel = channel(rt, alloc, worker, generation)?;
-        channels.push(Patient::new(channel, Arc::try_clone(stop)?, end))?;
+        channels.push(Patient::new(channel, Arc::try_clone(stop)?))?;
     }
     Ok(channels)
 }

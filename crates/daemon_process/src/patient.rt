@@ -1,11 +1,12 @@
-//! A channel that looks again if it found no ask, and notes the end of the mount.
+//! A channel that looks again if it found no ask.
 ghost use Rattle.std.specs.Prelude.{◌≡◌, true};
 ghost use Rattle.daemon_process.specs.Patience.{Looks};
 ghost use Rattle.fuse_wire.specs.declared.request.Ask.{Ask as AskValue};
 ghost use Rattle.workers.specs.Channel.{with_ask};
 ghost use Rattle.workers.specs.declared.channel.Taken.TheVariants as took;
 
-use crate::mount_end::{HearsEnd, MountEnd};
+use crate::hears_end::HearsEnd;
+use broker_core::TakeFault;
 use fuse_wire::Reply;
 use std::sync::Arc;
 use workers::{Channel, Posted, Stop, Taken};
@@ -15,21 +16,19 @@ const LOOKS: usize = 9;
 
 /// A channel that looks again if it found no ask, unless the round is asked to stop. So a round outlasts a short
 /// silence. Threads start with each round, and a round for each silence would cost an idle daemon 2 % of a processor.
-/// Where the broker says that the mount is over, it notes that, since a round that breaks drops its channels.
 #[derive(Drop)]
-pub(crate) struct Patient<'a, C> {
+pub(crate) struct Patient<C> {
     channel: C,
     stop: Arc<Stop>,
-    end: &'a MountEnd,
 }
 
-impl<'a, C: Channel + HearsEnd> Patient<'a, C> {
-    /// Makes a channel patient until a stop is asked. It notes the end of the mount in `end`.
-    pub(crate) fn new(channel: C, stop: Arc<Stop>, end: &'a MountEnd) -> Patient<'a, C>
+impl<C: Channel> Patient<C> {
+    /// Makes a channel patient until a stop is asked.
+    pub(crate) fn new(channel: C, stop: Arc<Stop>) -> Patient<C>
         ensures channel { result.channel ≡ channel }
         ensures stop { result.stop ≡ stop }
     {
-        Patient { channel, stop, end }
+        Patient { channel, stop }
     }
 
     /// Heeds another round's stop from now on.
@@ -38,13 +37,6 @@ impl<'a, C: Channel + HearsEnd> Patient<'a, C> {
         ensures stop { self.new.stop ≡ stop }
     {
         self.stop = stop;
-    }
-
-    /// Returns the channel.
-    pub(crate) fn channel(&self) -> &C
-        ensures channel { result.now ≡ self.now.channel }
-    {
-        &self.channel
     }
 
     /// Takes the next ask. If there is none, looks again up to `LOOKS` times, as long as no stop is asked.
@@ -66,16 +58,9 @@ impl<'a, C: Channel + HearsEnd> Patient<'a, C> {
         }
         self.channel.take()
     }
-
-    /// Notes that the mount is over, if the broker said so.
-    fn note_end(&self) {
-        if self.channel.has_heard_end() {
-            self.end.note();
-        }
-    }
 }
 
-impl<'a, C: Channel + HearsEnd> Channel for Patient<'a, C> {
+impl<C: Channel> Channel for Patient<C> {
     ghost takes = { λ before taken after. Looks C.takes before.channel taken after.channel };
 
     ghost posts = { λ before reply posted after. C.posts before.channel reply posted after.channel };
@@ -85,14 +70,18 @@ impl<'a, C: Channel + HearsEnd> Channel for Patient<'a, C> {
     ghost told = { λ patient. C.told patient.channel };
 
     fn take(&mut self) -> Taken {
-        let taken = self.look();
-        self.note_end();
-        taken
+        self.look()
     }
 
     fn post(&mut self, reply: Reply) -> Posted {
-        let posted = self.channel.post(reply);
-        self.note_end();
-        posted
+        self.channel.post(reply)
+    }
+}
+
+impl<C: HearsEnd> HearsEnd for Patient<C> {
+    ghost why_ended = { λ patient. C.why_ended patient.channel };
+
+    fn ended(&self) -> Option<TakeFault> {
+        self.channel.ended()
     }
 }

@@ -1,13 +1,14 @@
 //! The rounds in which a daemon serves.
-ghost use Rattle.std.specs.Prelude.{◌≡◌, IfOk, OnErr, OnOk};
+ghost use Rattle.std.specs.Prelude.{◌≡◌, vec_len, IfOk, OnErr, OnOk};
 ghost use Rattle.std.specs.Io.KnownBytes.{Appends};
 ghost use Rattle.daemon_process.specs.Ending.{IsHeeded, PrintsUntil};
+ghost use Rattle.daemon_process.specs.Rounds.{EndsCrew};
 ghost use Rattle.daemon_process.specs.Serving.{IsSameSpell, PrintsRound, begins, printed_of, serving_line};
 
 use crate::arrival::{Worker, channels};
 use crate::exit::{Ending, Exit};
 use crate::fault::DaemonFault;
-use crate::mount_end::MountEnd;
+use crate::hears_end::HearsEnd;
 use crate::rounds::{exit_of, serve_one};
 use crate::shared::{Next, Shared};
 use daemon::Lease;
@@ -19,7 +20,7 @@ use std::sync::{Arc, Wait};
 use std::thread::Threads;
 use std::time::Duration;
 use std::{mem, thread};
-use workers::{Rooms, Stop};
+use workers::{Channel, Rooms, Stop};
 
 /// How long a daemon waits after memory was refused, in milliseconds.
 const PAUSE: u64 = 1;
@@ -27,11 +28,11 @@ const PAUSE: u64 = 1;
 /// The channels of a daemon's workers, the generation at which they were made, and the rooms that rounds work in.
 /// Before the first round there are no channels.
 #[derive(Drop)]
-struct Crew<'a, R: Clock> {
+struct Crew<C: Channel + Drop> {
     generation: u64,
     /// How often rounds were asked to stop before the last round began.
     stops: u64,
-    channels: Vec<Worker<'a, R>>,
+    channels: Vec<C>,
     rooms: Rooms,
 }
 
@@ -73,13 +74,14 @@ pub(crate) fn serve<R: Threads + Wait + Clock + Sync, W: Write>(
     unreachable!()
 }
 
-/// Serves a round over `lease`, and gives the lease back. Returns the daemon's exit, if the daemon ends.
+/// Serves a round over `lease` by channels at the lease's generation, and gives the lease back. Returns the daemon's exit,
+/// if the daemon ends.
 fn serve_lease<'a, R: Threads + Wait + Clock + Sync, W: Write>(
     rt: &'a R,
     alloc: Global,
-    shared: &'a Shared,
+    shared: &Shared,
     workers: &[UnixStream],
-    crew: &mut Crew<'a, R>,
+    crew: &mut Crew<Worker<'a, R>>,
     lease: Lease,
     stop: &Arc<Stop>,
     stops: u64,
@@ -88,9 +90,8 @@ fn serve_lease<'a, R: Threads + Wait + Clock + Sync, W: Write>(
     ensures prints { PrintsRound (crew.old.generation, crew.old.stops) (lease.generation, stops)
         (crew.new.generation, crew.new.stops) (W.contents out.old) (W.contents out.new) result }
 {
-    let end = shared.mount_end();
     let generation = lease.generation;
-    let Ok(is_new) = man(rt, alloc, workers, crew, generation, stop, stops, end) else {
+    let Ok(is_new) = man(rt, alloc, workers, crew, generation, stop, stops) else {
         shared.take_back(rt, lease);
         thread::sleep(rt, Duration::from_millis(PAUSE));
         return None;
@@ -98,9 +99,26 @@ fn serve_lease<'a, R: Threads + Wait + Clock + Sync, W: Write>(
     if let Err(error) = print_round(out, is_new, lease.generation) {
         return Some(Exit::Faulty(DaemonFault::CannotWrite(error)));
     }
+    serve_crew(rt, alloc, shared, crew, lease, stop)
+}
+
+/// Serves a round over `lease` by the crew's channels, and gives the lease back. Returns the daemon's exit, if the daemon
+/// ends.
+fn serve_crew<C: Channel + HearsEnd + Drop + Send, R: Threads + Wait + Sync>(
+    rt: &R,
+    alloc: Global,
+    shared: &Shared,
+    crew: &mut Crew<C>,
+    lease: Lease,
+    stop: &Stop,
+) -> Option<Exit>
+    ensures ends { EndsCrew C.takes C.posts C.tells C.told C.why_ended (vec_len crew.old.channels)
+        crew.old.channels.items crew.new.channels.items result }
+    ensures same { IsSameSpell (crew.new.generation, crew.new.stops) (crew.old.generation, crew.old.stops) }
+{
     let channels = mem::replace(&mut crew.channels, Vec::new(alloc));
     let rooms = mem::replace(&mut crew.rooms, Rooms::new(alloc));
-    match serve_one(rt, alloc, lease, channels, rooms, stop, end) {
+    match serve_one(rt, alloc, lease, channels, rooms, stop) {
         Ok(left) => {
             crew.channels = left.channels;
             crew.rooms = left.rooms;
@@ -117,11 +135,10 @@ fn man<'a, R: Clock>(
     rt: &'a R,
     alloc: Global,
     workers: &[UnixStream],
-    crew: &mut Crew<'a, R>,
+    crew: &mut Crew<Worker<'a, R>>,
     generation: u64,
     stop: &Arc<Stop>,
     stops: u64,
-    end: &'a MountEnd,
 ) -> io::Result<bool>
     ensures new { IfOk result (λ is_new.
         is_new ≡ begins (crew.old.generation, crew.old.stops) (generation, stops)) }
@@ -138,7 +155,7 @@ fn man<'a, R: Clock>(
         crew.stops = stops;
         return Ok(is_new);
     }
-    crew.channels = channels(rt, alloc, workers, generation, stop, end)?;
+    crew.channels = channels(rt, alloc, workers, generation, stop)?;
     crew.generation = generation;
     crew.stops = stops;
     Ok(true)

@@ -10,7 +10,6 @@ ghost use Rattle.daemon_process.specs.declared.shared.Next.TheVariants.{Close};
 
 use crate::exit::{Ending, Exit};
 use crate::fault::DaemonFault;
-use crate::mount_end::MountEnd;
 use daemon::Lease;
 use daemon_desk::{Claiming, DaemonDesk, Hearing, Mounting};
 use eden_base::NoMemory;
@@ -58,12 +57,11 @@ pub(crate) enum Next {
     Close,
 }
 
-/// A daemon's desk under a lock, the signal that tells its threads of changes, and what its workers note.
+/// A daemon's desk under a lock, and the signal that tells its threads of changes.
 #[derive(Drop)]
 pub(crate) struct Shared {
     state: Mutex<State>,
     changes: Condvar,
-    mount_end: MountEnd,
 }
 
 impl State {
@@ -177,13 +175,7 @@ impl Shared {
                 waits_at: None,
             }),
             changes: Condvar::new(),
-            mount_end: MountEnd::new(),
         }
-    }
-
-    /// Returns where the workers note that the mount is over.
-    pub(crate) fn mount_end(&self) -> &MountEnd {
-        &self.mount_end
     }
 
     /// Returns how many changes were signalled.
