@@ -55,11 +55,11 @@ abbrev pub EndsRound :
 EndsRound takes posts tells told why channels exit =
     EndsBroken takes posts why channels exit ⊎ EndsUnsettled takes posts tells told channels exit
 
--- a round is served over so many channels
+-- a round serves 1 to 16 channels
 abbrev pub IsRoundOf : ℕ → Type 0
 IsRoundOf count = (1 ≤ count) × (count ≤ 16)
 
--- how a daemon ends that is to serve a round over these channels, so many: by `broken` where no round is served, else by
+-- how a daemon ends that is to serve a round over these `count` channels: by `broken` where no round is served, else by
 -- the round
 abbrev pub EndsService :
     {C : Type 0} → (C → Taken → C → Type 0) → (C → Reply → Posted → C → Type 0) → Bool → (C → Told)
@@ -67,7 +67,7 @@ abbrev pub EndsService :
 EndsService takes posts tells told why count channels exit =
     ((IsRoundOf count → ⊥) × (exit ≡ Faulty Broken)) ⊎ EndsRound takes posts tells told why channels exit
 
--- What a round makes of a daemon, by the channels `before` it, so many, and those `after` it: either those are as their
+-- What a round makes of a daemon, by the `count` channels `before` it and those `after` it: either those are as their
 -- workers left them, and what they heard decides; or the daemon ends, and serves no round or has served its last.
 abbrev pub EndsCrew :
     {C : Type 0} → (C → Taken → C → Type 0) → (C → Reply → Posted → C → Type 0) → Bool → (C → Told)

@@ -22,7 +22,7 @@ AreServed takes posts tells told turns (before ∷ befores) (after ∷ afters) (
     × AreServed takes posts tells told turns befores afters rest
 AreServed takes posts tells told turns befores afters kept = ⊥
 
--- the worker of the channel `before` left it as `after`, after at most so many turns, in whatever way it ended
+-- the worker of the channel `before` left it as `after`, after at most `turns` turns, in whatever way it ended
 abbrev pub IsLeft :
     {C : Type 0} → (C → Taken → C → Type 0) → (C → Reply → Posted → C → Type 0) → ℕ → C → C → Type 0
 IsLeft takes posts turns before after =
