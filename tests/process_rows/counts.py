@@ -51,8 +51,8 @@ def counts_of(image, version, generation):
 
 
 def image_of(path, version):
-    """Has the daemon at a path hand over, and claims nothing. Returns the generation and the image. While the daemon
-    claims the seat for itself, it is asked again."""
+    """Has the daemon at a path hand over, and claims nothing. Returns the generation and the image, which is none where
+    the version can't have it. While the daemon claims the seat for itself, it is asked again."""
     until = time.monotonic() + WAIT
     while time.monotonic() < until:
         peer = Peer.at(path)
@@ -68,7 +68,8 @@ def image_of(path, version):
 
 
 def handed_to(peer, version):
-    """Offers a version, and returns the generation and the image; none where the daemon takes no offer now."""
+    """Offers a version, and returns the generation and the image, or no image where the daemon has none for the version.
+    Returns none where the daemon takes no offer now."""
     chosen = peer.ask("Offer", b"\x01" + struct.pack(">H", version))
     if chosen is None or chosen[0] != "Choice":
         return None
@@ -83,6 +84,8 @@ def handed_to(peer, version):
 
 def data_of(peer, session, generation):
     name, body = peer.read()
+    if (name, body) == ("Failed", session):
+        return None
     same((name, body[:12]), ("Data", session + u64(generation)))
     return body[12:]
 
