@@ -146,9 +146,10 @@ def act_on_daemon(room, act):
     client.stops = True
     client.join(WAIT)
     same(client.wrong, None)
+    same(daemon.ending(), ("handed over", 0))
     with kernel.lock:
         kernel.is_over = True
-    same((daemon.ending(), new.ending()), (("handed over", 0), ("ended", 0)))
+    same(new.ending(), ("ended", 0))
 
 
 def await_asks(kernel, more):

@@ -107,10 +107,12 @@ def five_takeovers_under_four_clients(room):
         same(client.wrong, None)
         same(client.generations, {1, 2, 3, 4, 5, 6})
         same(client.numbers, clients[0].numbers)
+    # One that handed over asks whether the seat went on, and is told so only while the mount is not over.
+    for number, daemon in enumerate(daemons[:-1], 1):
+        daemon.ends([f"serving {number}", "handed over"])
     with kernel.lock:
         kernel.is_over = True
-    for number, daemon in enumerate(daemons, 1):
-        daemon.ends([f"serving {number}", "ended" if number == 6 else "handed over"])
+    daemons[-1].ends(["serving 6", "ended"])
 
 
 @row
