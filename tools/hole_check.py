@@ -1,0 +1,159 @@
+"""Proves a few functions of a crate with wrong bodies planted in them, and puts a hole in place of all other proofs.
+
+A check of one function proves those that it calls, too. Here these are holes, which are taken by their contracts, as
+callers take them anyway. The libraries below stand proved in crates/NAME/out/rlib, where `rt ci` leaves them.
+"""
+import json
+import os
+import pathlib
+import re
+import shutil
+import subprocess
+import tempfile
+
+HOLE = """use Rattle.{module}.Statement.{{statement}}
+
+pub {last}_spec : {{M : Type 1}} → statement M
+{last}_spec 𝓤 𝓛 𝓜 𝓡 wired = ?
+"""
+# The functions that may have a file of their own for a proof: those of a path of words, and how a type is dropped.
+HAS_FILE = re.compile(r"\w+(::\w+)*|\w+(\+\+\w+)+\+Destruct::drop")
+REFUSED, LET_THROUGH = "refused", "LET THROUGH"
+HIDDEN = "NOT TRIED: only what it stands on is refused"
+UNKNOWN = "NOT TRIED: the check names no such function"
+
+
+def kit():
+    """Returns the folder of the toolchain: that of the page which `rt doc` prints."""
+    page = subprocess.run(["rt", "doc"], capture_output=True, text=True, check=True).stdout.strip()
+    return pathlib.Path(page).parent
+
+
+def listed_crates():
+    """Returns what crates.txt says: each crate with the libraries that it names."""
+    rows = re.findall(r"^(\w+)(?: [^:\n]*)?:(.*)$", pathlib.Path("crates.txt").read_text(), re.M)
+    return {name: libraries.split() for name, libraries in rows}
+
+
+class Crate:
+    """A crate whose wrong bodies are tried, over the libraries that stand proved in the repository `proved`."""
+
+    def __init__(self, name, crates, toolchain, proved):
+        self.name, self.crates, self.toolchain, self.proved = name, crates, toolchain, proved.resolve()
+        self.folder = pathlib.Path("crates") / name
+        code = self.rlib(name) / "toolchain" / "mir.json"
+        # A program leaves no library, so all that it calls of its own is proved once more.
+        self.functions = [path.split("::", 1)[1] for path, _ in json.loads(code.read_text())] if code.exists() else []
+
+    def rlib(self, name):
+        """Returns the folder of a proved library of the repository."""
+        return self.proved / "crates" / name / "out" / "rlib" / f"{name}.rlib"
+
+    def below(self):
+        """Returns the crates of the repository that it stands on, also through others."""
+        found, left = {}, [self.name]
+        while left:
+            for name in self.crates[left.pop()]:
+                if name in self.crates and name not in found:
+                    found[name] = True
+                    left.append(name)
+        return found
+
+    def words(self, functions):
+        """Returns the command that checks some functions by one job, in the words of `rt check`, with holes allowed."""
+        of_kit = [name for name in self.crates[self.name] if name not in self.crates]
+        of_kit += [] if "core" in of_kit else ["std"]
+        rlibs = {name: self.toolchain / "rlibs" / f"{name}.rlib" for name in of_kit}
+        rlibs.update((name, self.rlib(name)) for name in self.crates[self.name] if name in self.crates)
+        folders = [self.toolchain / "rlibs", *(self.rlib(name).parent for name in self.below())]
+        root = "src/lib.rt" if (self.folder / "src" / "lib.rt").exists() else "src/main.rt"
+        words = [self.toolchain / "bin" / "rattle", "check", "--crate-name", self.name, root]
+        for name, rlib in rlibs.items():
+            words += ["--extern", f"{name}={rlib}"]
+        for folder in folders:
+            words += ["-L", f"dependency={folder}"]
+        words += ["--antt-project", self.toolchain / "rattle" / "logic" / "antt-project.json"]
+        words += ["--logic-built", self.toolchain / "logic_built", "--jobs", "1", "--allow-holes"]
+        for function in functions:
+            words += ["--only", function]
+        return words
+
+    def dig(self, proofs, functions):
+        """Puts a hole in place of each proof below `proofs`, but for the functions and their closures."""
+        for function in self.functions:
+            owner = function.replace("fn::", "").rpartition("::")[0] if "fn::" in function else function
+            folder = proofs / function.replace("::", "/")
+            if owner in functions or not HAS_FILE.fullmatch(function) or (folder / "Proof.antt").exists():
+                continue
+            folder.mkdir(parents=True, exist_ok=True)
+            for file in ("Answers.antt", "Invariants.antt"):
+                (folder / file).unlink(missing_ok=True)
+            module = f"{self.name}.proofs.{function.replace('::', '.')}"
+            (folder / "Proof.antt").write_text(HOLE.format(module=module, last=folder.name))
+
+    def check(self, functions, bodies):
+        """Checks the functions in a copy with the wrong bodies. Returns what was said, and the seconds that it took."""
+        with tempfile.TemporaryDirectory() as room:
+            copy = pathlib.Path(room)
+            for part in ("src", "specs", "proofs"):
+                if (self.folder / part).is_dir():
+                    shutil.copytree(self.folder / part, copy / part)
+            for body in bodies:
+                body.apply(copy)
+            self.dig(copy / "proofs", functions)
+            with open(copy / "said", "w+", errors="replace") as said:
+                process = subprocess.Popen(self.words(functions), cwd=copy, stdout=said, stderr=subprocess.STDOUT)
+                _, status, usage = os.wait4(process.pid, 0)
+                process.returncode = os.waitstatus_to_exitcode(status)
+                said.seek(0)
+                return said.read(), usage.ru_utime + usage.ru_stime
+
+    def words_on(self, said):
+        """Returns the prover's last word on each function, or None where the check did not come so far."""
+        if not re.search(r"^only=\d+ holes=\d+$", said, re.M):
+            return None
+        return dict(re.findall(rf"^fn {self.name}::(\S+): (.*)$", said, re.M))
+
+    def verdict(self, body, word):
+        """Judges the last word on a wrong body's function: it is refused where a goal or an answer of its own fails."""
+        if word is None:
+            return UNKNOWN
+        if word.startswith(("proved", "no holes", "depends on a hole")):
+            return LET_THROUGH
+        own = (f"./proofs/{body.function.replace('::', '/')}/", f"Rattle.{self.name}.proofs.{body.function.replace('::', '.')}.")
+        if any(path in word for path in own):
+            return REFUSED
+        is_refused = body.is_definition() and re.search("did not prove|which antt refuses", word)
+        return REFUSED if is_refused else HIDDEN
+
+    def tried(self, bodies):
+        """Tries wrong bodies of different functions in one check. Returns each with its verdict, and the seconds.
+
+        One that does not compile hides the others, so they are tried in halves then. One whose function is refused for
+        what it stands on alone is tried once more by itself.
+        """
+        said, seconds = self.check(sorted({body.function for body in bodies}), bodies)
+        words = self.words_on(said)
+        if words is None and len(bodies) == 1:
+            errors = [line for line in said.splitlines() if "error" in line] or said.splitlines() or ["nothing was said"]
+            return {bodies[0]: f"NOT TRIED: {errors[0]}"}, seconds
+        if words is None:
+            parts = [bodies[: len(bodies) // 2], bodies[len(bodies) // 2 :]]
+        else:
+            told = {body: self.verdict(body, words.get(body.function)) for body in bodies}
+            parts = [[body] for body in bodies if told[body] == HIDDEN and len(bodies) > 1]
+        verdicts = {} if words is None else told
+        for part in parts:
+            more, took = self.tried(part)
+            verdicts.update(more)
+            seconds += took
+        return verdicts, seconds
+
+    def failing(self, functions):
+        """Proves functions as they stand, amid holes. Returns those that are refused then, with the word on them."""
+        said, _ = self.check(functions, [])
+        words = self.words_on(said)
+        if words is None:
+            return {self.name: said[-400:]}
+        good = ("no holes", "depends on a hole")
+        return {one: words.get(one) for one in functions if not (words.get(one) or "").startswith(good)}

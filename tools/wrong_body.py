@@ -1,0 +1,86 @@
+"""Reads wrong bodies: the edits of crates/*/planted, and those of tests/wrong."""
+import pathlib
+import re
+
+CRATES = pathlib.Path("crates")
+
+
+class WrongBody:
+    """One edit: the function that has to be refused, when it is tried, and the texts that it changes.
+
+    The crates' edits begin with two lines: 'fn: PATH' for the function, and 'part: N' or 'part: always'. A wrong
+    definition, which stands in specs/, names the lowest function whose clause breaks.
+    """
+
+    def __init__(self, path):
+        self.name = path.stem
+        self.crate = path.parent.parent.name
+        self.function = self.part = None
+        self.pairs = []
+        file = old = None
+        for line in path.read_text().splitlines():
+            key, _, text = line.partition(": ")
+            if key == "fn":
+                self.function = text
+            elif key == "part":
+                self.part = text
+            elif key == "file":
+                file = text
+            elif key == "old":
+                old = text
+            elif key == "new":
+                self.pairs.append((file, old, text))
+
+    def is_definition(self):
+        """Tells whether it changes what clauses say, and not a body alone."""
+        return any(not file.startswith("src/") for file, _, _ in self.pairs)
+
+    def is_shared(self):
+        """Tells whether it may break several functions: a definition, or what stands outside of functions, as a constant."""
+        return self.is_definition() or any(self.is_outside(file, old) for file, old, _ in self.pairs)
+
+    def is_outside(self, file, old):
+        """Tells whether a text stands above its file's functions or is a constant, and not a mere import."""
+        above = (CRATES / self.crate / file).read_text().partition(old)[0]
+        is_above = not re.search(r"^[^/\n]*\bfn\s", above + old, re.M)
+        return not old.startswith("use ") and (is_above or bool(re.match(r"\s*(pub\S* )?(const|static) ", old)))
+
+    def texts(self, folder):
+        """Returns the texts of the files below the folder that it changes, with the wrong body in them."""
+        texts = {}
+        for file, old, new in self.pairs:
+            source = folder / file
+            text = texts[source] if source in texts else source.read_text() if source.is_file() else ""
+            if text.count(old) != 1:
+                raise ValueError(f"{self.name}: its old text stands in {file} {text.count(old)} times, and not once")
+            texts[source] = text.replace(old, new)
+        return texts
+
+    def apply(self, folder):
+        """Writes the wrong body into the files below the folder."""
+        for source, text in self.texts(folder).items():
+            source.write_text(text)
+
+
+def every_body():
+    """Returns the wrong bodies of all crates, by crate and by name."""
+    return [WrongBody(path) for path in sorted(CRATES.glob("*/planted/*.edit"))]
+
+
+def faults(parts):
+    """Tells what is wrong with the edits, as far as reading shows it."""
+    known = {"always", *map(str, range(parts))}
+    edits = [(WrongBody(path), path.parent.parent) for path in sorted(CRATES.glob("*/planted/*.edit"))]
+    for body, _ in edits:
+        if not body.function or not re.fullmatch(r"\w+(::\w+)*", body.function):
+            yield f"{body.crate}: {body.name}: has no line 'fn: PATH'"
+        if body.part not in known:
+            yield f"{body.crate}: {body.name}: has no line 'part: always' or 'part: N' with N below {parts}"
+    edits += [(WrongBody(path), pathlib.Path(".")) for path in sorted(pathlib.Path("tests/wrong").glob("*.edit"))]
+    for body, folder in edits:
+        try:
+            body.texts(folder)
+        except ValueError as stale:
+            yield f"{folder.name or 'tests/wrong'}: {stale}"
+    for path in sorted(CRATES.glob("*/must-fail/*.edit")):
+        yield f"{path}: the gate tries the edits of planted/, and none of must-fail/"
