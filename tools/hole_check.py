@@ -11,6 +11,8 @@ import shutil
 import subprocess
 import tempfile
 
+import stubs
+
 HOLE = """use Rattle.{module}.Statement.{{statement}}
 
 pub {last}_spec : {{M : Type 1}} → statement M
@@ -79,7 +81,8 @@ class Crate:
         return words
 
     def dig(self, proofs, functions):
-        """Puts a hole in place of each proof below `proofs`, but for the functions and their closures."""
+        """Puts a hole in place of each proof below `proofs`, but for the functions and their closures. Returns where."""
+        dug = []
         for function in self.functions:
             owner = function.replace("fn::", "").rpartition("::")[0] if "fn::" in function else function
             folder = proofs / function.replace("::", "/")
@@ -90,6 +93,8 @@ class Crate:
                 (folder / file).unlink(missing_ok=True)
             module = f"{self.name}.proofs.{function.replace('::', '.')}"
             (folder / "Proof.antt").write_text(HOLE.format(module=module, last=folder.name))
+            dug.append(function)
+        return dug
 
     def check(self, functions, bodies):
         """Checks the functions in a copy with the wrong bodies. Returns what was said, and the seconds that it took."""
@@ -100,7 +105,7 @@ class Crate:
                     shutil.copytree(self.folder / part, copy / part)
             for body in bodies:
                 body.apply(copy)
-            self.dig(copy / "proofs", functions)
+            stubs.empty_functions(copy / "src", self.dig(copy / "proofs", functions), functions)
             with open(copy / "said", "w+", errors="replace") as said:
                 process = subprocess.Popen(self.words(functions), cwd=copy, stdout=said, stderr=subprocess.STDOUT)
                 _, status, usage = os.wait4(process.pid, 0)
