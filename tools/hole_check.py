@@ -138,17 +138,16 @@ class Crate:
         what it stands on alone is tried once more by itself.
         """
         said, seconds = self.check(sorted({body.function for body in bodies}), bodies)
-        words = self.words_on(said)
-        if words is None and len(bodies) == 1:
-            errors = [line for line in said.splitlines() if "error" in line] or said.splitlines() or ["nothing was said"]
-            return {bodies[0]: f"NOT TRIED: {errors[0]}"}, seconds
-        if words is None:
-            parts = [bodies[: len(bodies) // 2], bodies[len(bodies) // 2 :]]
+        words, verdicts = self.words_on(said), {}
+        if words is not None:
+            verdicts = {body: self.verdict(body, words.get(body.function)) for body in bodies}
+            again = [[body] for body in bodies if verdicts[body] == HIDDEN and len(bodies) > 1]
+        elif len(bodies) > 1:
+            again = [bodies[: len(bodies) // 2], bodies[len(bodies) // 2 :]]
         else:
-            told = {body: self.verdict(body, words.get(body.function)) for body in bodies}
-            parts = [[body] for body in bodies if told[body] == HIDDEN and len(bodies) > 1]
-        verdicts = {} if words is None else told
-        for part in parts:
+            lines = said.splitlines() or ["nothing was said"]
+            return {bodies[0]: f"NOT TRIED: {next((line for line in lines if 'error' in line), lines[-1])}"}, seconds
+        for part in again:
             more, took = self.tried(part)
             verdicts.update(more)
             seconds += took
