@@ -2,6 +2,8 @@
 import pathlib
 import re
 
+import stubs
+
 CRATES = pathlib.Path("crates")
 
 
@@ -70,10 +72,11 @@ def every_body():
 def faults(parts):
     """Tells what is wrong with the edits, as far as reading shows it."""
     known = {"always", *map(str, range(parts))}
+    functions = {crate.name: stubs.keys_below(crate / "src") for crate in CRATES.iterdir()}
     edits = [(WrongBody(path), path.parent.parent) for path in sorted(CRATES.glob("*/planted/*.edit"))]
     for body, _ in edits:
-        if not body.function or not re.fullmatch(r"\w+(::\w+)*", body.function):
-            yield f"{body.crate}: {body.name}: has no line 'fn: PATH'"
+        if stubs.key_of(body.function or "?") not in functions[body.crate]:
+            yield f"{body.crate}: {body.name}: has no line 'fn: PATH' with a function of the crate"
         if body.part not in known:
             yield f"{body.crate}: {body.name}: has no line 'part: always' or 'part: N' with N below {parts}"
     edits += [(WrongBody(path), pathlib.Path(".")) for path in sorted(pathlib.Path("tests/wrong").glob("*.edit"))]
