@@ -81,7 +81,7 @@ class Crate:
         return words
 
     def dig(self, proofs, functions):
-        """Puts a hole in place of each proof below `proofs`, but for the functions and their closures. Returns where."""
+        """Puts a hole in place of each proof, but for the functions and their closures. Returns whose proofs these are."""
         dug = []
         for function in self.functions:
             owner = function.replace("fn::", "").rpartition("::")[0] if "fn::" in function else function
@@ -125,8 +125,8 @@ class Crate:
             return UNKNOWN
         if word.startswith(("proved", "no holes", "depends on a hole")):
             return LET_THROUGH
-        own = (f"./proofs/{body.function.replace('::', '/')}/", f"Rattle.{self.name}.proofs.{body.function.replace('::', '.')}.")
-        if any(path in word for path in own):
+        folder, module = body.function.replace("::", "/"), body.function.replace("::", ".")
+        if f"./proofs/{folder}/" in word or f"Rattle.{self.name}.proofs.{module}." in word:
             return REFUSED
         is_refused = body.is_definition() and re.search("did not prove|which antt refuses", word)
         return REFUSED if is_refused else HIDDEN

@@ -38,7 +38,7 @@ class WrongBody:
         return any(not file.startswith("src/") for file, _, _ in self.pairs)
 
     def is_shared(self):
-        """Tells whether it may break several functions: a definition, or what stands outside of functions, as a constant."""
+        """Tells whether it may break several functions: whether it changes a definition, or a constant."""
         return self.is_definition() or any(self.is_outside(file, old) for file, old, _ in self.pairs)
 
     def is_outside(self, file, old):
