@@ -81,7 +81,7 @@ class Crate:
         return words
 
     def dig(self, proofs, functions):
-        """Puts a hole in place of each proof, but for the functions and their closures. Returns whose proofs these are."""
+        """Puts a hole in place of each proof, but not of the functions and their closures. Returns whose they were."""
         dug = []
         for function in self.functions:
             owner = function.replace("fn::", "").rpartition("::")[0] if "fn::" in function else function
