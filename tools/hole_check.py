@@ -63,8 +63,7 @@ class Crate:
 
     def words(self, functions):
         """Returns the command that checks some functions by one job, in the words of `rt check`, with holes allowed."""
-        of_kit = [name for name in self.crates[self.name] if name not in self.crates]
-        of_kit += [] if "core" in of_kit else ["std"]
+        of_kit = ["std", *(name for name in self.crates[self.name] if name not in self.crates)]
         rlibs = {name: self.toolchain / "rlibs" / f"{name}.rlib" for name in of_kit}
         rlibs.update((name, self.rlib(name)) for name in self.crates[self.name] if name in self.crates)
         folders = [self.toolchain / "rlibs", *(self.rlib(name).parent for name in self.below())]
