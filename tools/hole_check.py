@@ -133,20 +133,23 @@ class Crate:
     def tried(self, bodies):
         """Tries wrong bodies of different functions in one check. Returns each with its verdict, and the seconds.
 
-        One that does not compile hides the others, so they are tried in halves then. One whose function is refused for
-        what it stands on alone is tried once more by itself.
+        One that does not compile hides the others, so they are tried in halves then. Those whose functions are refused
+        for what they call alone are tried once more without the others.
         """
         said, seconds = self.check(sorted({body.function for body in bodies}), bodies)
-        words, verdicts = self.words_on(said), {}
-        if words is not None:
-            verdicts = {body: self.verdict(body, words.get(body.function)) for body in bodies}
-            again = [[body] for body in bodies if verdicts[body] == HIDDEN and len(bodies) > 1]
-        elif len(bodies) > 1:
-            again = [bodies[: len(bodies) // 2], bodies[len(bodies) // 2 :]]
-        else:
+        words = self.words_on(said)
+        verdicts = {body: self.verdict(body, words.get(body.function)) for body in bodies} if words is not None else {}
+        hidden = [body for body in bodies if verdicts.get(body) == HIDDEN]
+        if len(bodies) == 1 and words is None:
             lines = said.splitlines() or ["nothing was said"]
-            return {bodies[0]: f"NOT TRIED: {next((line for line in lines if 'error' in line), lines[-1])}"}, seconds
-        for part in again:
+            verdicts = {bodies[0]: f"NOT TRIED: {next((line for line in lines if 'error' in line), lines[-1])}"}
+        if len(bodies) == 1:
+            return verdicts, seconds
+        if words is None:
+            parts = [bodies[: len(bodies) // 2], bodies[len(bodies) // 2 :]]
+        else:
+            parts = [hidden] if len(hidden) < len(bodies) else [[body] for body in hidden]
+        for part in filter(None, parts):
             more, took = self.tried(part)
             verdicts.update(more)
             seconds += took
