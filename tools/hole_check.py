@@ -118,7 +118,7 @@ class Crate:
             return None
         return dict(re.findall(rf"^fn {self.name}::(\S+): (.*)$", said, re.M))
 
-    def verdict(self, body, word):
+    def verdict(self, body, word, said):
         """Judges the last word on a wrong body's function: it is refused where a goal or an answer of its own fails."""
         if word is None:
             return UNKNOWN
@@ -126,6 +126,9 @@ class Crate:
             return LET_THROUGH
         folder, module = body.function.replace("::", "/"), body.function.replace("::", ".")
         if f"./proofs/{folder}/" in word or f"Rattle.{self.name}.proofs.{module}." in word:
+            return REFUSED
+        # An answer to a goal that the wrong body has not. A wrong body that keeps the names of goals shows more.
+        if re.search(rf"^\./proofs/{folder}/\w+\.antt:\d+:\d+: error", said, re.M):
             return REFUSED
         is_refused = body.is_definition() and re.search("did not prove|which antt refuses", word)
         return REFUSED if is_refused else HIDDEN
@@ -138,7 +141,7 @@ class Crate:
         """
         said, seconds = self.check(sorted({body.function for body in bodies}), bodies)
         words = self.words_on(said)
-        verdicts = {body: self.verdict(body, words.get(body.function)) for body in bodies} if words is not None else {}
+        verdicts = {body: self.verdict(body, words.get(body.function), said) for body in bodies if words is not None}
         hidden = [body for body in bodies if verdicts.get(body) == HIDDEN]
         if len(bodies) == 1 and words is None:
             lines = said.splitlines() or ["nothing was said"]
