@@ -102,8 +102,11 @@ class Crate:
             for part in ("src", "specs", "proofs"):
                 if (self.folder / part).is_dir():
                     shutil.copytree(self.folder / part, copy / part)
-            for body in bodies:
-                body.apply(copy)
+            try:
+                for body in bodies:
+                    body.apply(copy)
+            except ValueError as clash:
+                return f"error: {clash}", 0.0
             stubs.empty_functions(copy / "src", self.dig(copy / "proofs", functions), functions)
             with open(copy / "said", "w+", errors="replace") as said:
                 process = subprocess.Popen(self.words(functions), cwd=copy, stdout=said, stderr=subprocess.STDOUT)
