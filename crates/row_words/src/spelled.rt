@@ -1,0 +1,382 @@
+//! Requests, answers and their parts, spelled as scripts write and print them (docs/SCRIPTS.md):
+//!
+//! `lookup N NAME`, `create N MODE NAME`, `mkdir N MODE NAME`, `unlink N NAME`, `rmdir N NAME`, `rename N NEWDIR OLD/NEW`,
+//! `getattr N`, `other OPCODE N`, `forget N K`, and `forgets N K ..` for a batch of forgets;
+//! `entry M KIND PERM SIZE NLINK`, `opened ..`, `attr ..`, `done` and `error ERRNO`.
+//!
+//! A request or an answer is the last of a call's words. What reads it ends the reading.
+ghost use Rattle.std.specs.Prelude.{IfOk};
+ghost use Rattle.fuse_wire.specs.Request.{IsSendable};
+
+use crate::fault::Fault;
+use crate::told::Told;
+use crate::words::Words;
+use eden_base::{Attr, Errno, Kind, Name, NameFault, Number, Perm, cut};
+use fuse_wire::{Answer, Batch, Item, Items, Request, WireFault};
+use std::alloc::Global;
+
+static ERRNOS: [Errno; 13] = [
+    Errno::ENOENT,
+    Errno::EIO,
+    Errno::ENOMEM,
+    Errno::EEXIST,
+    Errno::ENOTDIR,
+    Errno::EISDIR,
+    Errno::EINVAL,
+    Errno::ENOSPC,
+    Errno::ENAMETOOLONG,
+    Errno::ENOSYS,
+    Errno::ENOTEMPTY,
+    Errno::EOVERFLOW,
+    Errno::ESTALE,
+];
+
+/// Returns how the fault of bytes that are no name is spelled.
+pub fn name_fault(fault: NameFault) -> &'static str {
+    match fault {
+        NameFault::Empty => "Empty",
+        NameFault::TooLong => "TooLong",
+        NameFault::BadByte => "BadByte",
+        NameFault::Dots => "Dots",
+        NameFault::NoMemory => "NoMemory",
+    }
+}
+
+/// Writes the fault of bytes that are no message. That of a name has `BadName` before it.
+pub fn tell_wire_fault(told: &mut Told, fault: WireFault) {
+    match fault {
+        WireFault::Short => told.word("Short"),
+        WireFault::BadLength => told.word("BadLength"),
+        WireFault::BadBody => told.word("BadBody"),
+        WireFault::BadCount => told.word("BadCount"),
+        WireFault::NoMemory => told.word("NoMemory"),
+        WireFault::BadName(fault) => {
+            told.word("BadName");
+            told.word(name_fault(fault));
+        }
+    }
+}
+
+/// Makes the name of `bytes`.
+pub fn name_of(alloc: Global, bytes: &[u8]) -> Result<Name, Fault> {
+    match Name::parse(alloc, bytes) {
+        Ok(name) => Ok(name),
+        Err(NameFault::NoMemory) => Err(Fault::NoMemory),
+        Err(_) => Err(Fault::BadRow),
+    }
+}
+
+/// Returns the number that octal digits write, if it fits 16 bits.
+pub fn octal(digits: &[u8]) -> Option<u16> {
+    let mut value: u16 = 0;
+    for byte in digits {
+        let digit = byte.checked_sub(b'0')?;
+        if digit > 7 {
+            return None;
+        }
+        value = value.checked_mul(8)?.checked_add(u16::from(digit))?;
+    }
+    Some(value)
+}
+
+/// Reads the next word as permissions in octal digits.
+pub fn read_perm(words: &mut Words<'_>) -> Perm {
+    match octal(words.word()).and_then(Perm::of) {
+        Some(perm) => perm,
+        None => {
+            words.refuse();
+            Perm::DIRECTORY
+        }
+    }
+}
+
+/// Reads the next word as `file` or `dir`.
+pub fn read_kind(words: &mut Words<'_>) -> Kind {
+    match words.word() {
+        b"file" => Kind::File,
+        b"dir" => Kind::Dir,
+        _ => {
+            words.refuse();
+            Kind::File
+        }
+    }
+}
+
+/// Reads the next word as a number of 32 bits.
+pub fn read_u32(words: &mut Words<'_>) -> u32 {
+    match u32::try_from(words.number()) {
+        Ok(number) => number,
+        Err(_) => {
+            words.refuse();
+            0
+        }
+    }
+}
+
+/// Reads the next word as an error.
+pub fn read_errno(words: &mut Words<'_>) -> Errno {
+    let word = words.word();
+    for errno in &ERRNOS {
+        if errno.name().as_bytes() == word {
+            return *errno;
+        }
+    }
+    words.refuse();
+    Errno::EIO
+}
+
+/// Reads attributes: `KIND PERM SIZE NLINK`.
+pub fn read_attr(words: &mut Words<'_>) -> Attr {
+    let kind = read_kind(words);
+    let perm = read_perm(words);
+    let size = words.number();
+    let nlink = read_u32(words);
+    Attr {
+        kind,
+        perm,
+        size,
+        nlink,
+    }
+}
+
+/// Reads the words that are left as an answer.
+pub fn read_answer(words: &mut Words<'_>) -> Result<Answer, Fault> {
+    let kind = words.word();
+    let answer = match kind {
+        b"done" => Answer::Done,
+        b"error" => Answer::Error(read_errno(words)),
+        _ => {
+            let number = Number(words.number());
+            let attr = read_attr(words);
+            match kind {
+                b"entry" => Answer::Entry { number, attr },
+                b"opened" => Answer::Opened { number, attr },
+                b"attr" => Answer::Attrs { number, attr },
+                _ => return Err(Fault::BadRow),
+            }
+        }
+    };
+    words.end()?;
+    Ok(answer)
+}
+
+/// Reads the words behind `getattr`, `other` or `forget`, which is `kind`.
+#[tactic(auto, unfolding(fuse_wire::specs::Request::opcode_of))]
+fn read_of_number(kind: &[u8], words: &mut Words<'_>) -> Result<Request, Fault>
+    ensures sendable { IfOk result IsSendable }
+{
+    let first = words.number();
+    if kind == b"getattr".as_slice() {
+        words.end()?;
+        return Ok(Request::Getattr {
+            node: Number(first),
+        });
+    }
+    let second = words.number();
+    words.end()?;
+    if kind == b"forget".as_slice() {
+        return Ok(Request::Forget(Item {
+            node: Number(first),
+            k: second,
+        }));
+    }
+    let opcode = u32::try_from(first).ok().ok_or(Fault::BadRow)?;
+    Request::other(opcode, Number(second)).ok_or(Fault::BadRow)
+}
+
+/// Reads an item, a number and a count, and adds it to `items`.
+fn read_item(words: &mut Words<'_>, items: &mut Items) {
+    let node = Number(words.number());
+    let k = words.number();
+    if items.len() < Items::MAX_LEN {
+        items.push(Item { node, k });
+    } else {
+        words.refuse();
+    }
+}
+
+/// Reads the words that are left as items.
+pub fn read_items(words: &mut Words<'_>) -> Result<Items, Fault> {
+    let mut items = Items::new();
+    for _item in 0..=Items::MAX_LEN {
+        if !words.has_more() {
+            break;
+        }
+        read_item(words, &mut items);
+    }
+    words.end()?;
+    Ok(items)
+}
+
+/// Reads the words behind `forgets`.
+fn read_forgets(alloc: Global, words: &mut Words<'_>) -> Result<Request, Fault>
+    ensures sendable { IfOk result IsSendable }
+{
+    let items = read_items(words)?;
+    Ok(Request::BatchForget(Batch::of(alloc, items.as_slice())?))
+}
+
+/// Reads the words behind `lookup`, `unlink` or `rmdir`, which is `kind`.
+fn read_named(alloc: Global, kind: &[u8], words: &mut Words<'_>) -> Result<Request, Fault>
+    ensures sendable { IfOk result IsSendable }
+{
+    let dir = Number(words.number());
+    let bytes = words.bytes();
+    words.end()?;
+    let name = name_of(alloc, bytes.as_slice())?;
+    match kind {
+        b"lookup" => Ok(Request::Lookup { dir, name }),
+        b"unlink" => Ok(Request::Unlink { dir, name }),
+        b"rmdir" => Ok(Request::Rmdir { dir, name }),
+        _ => Err(Fault::BadRow),
+    }
+}
+
+/// Reads the words behind `create`, or else behind `mkdir`.
+fn read_made(alloc: Global, is_create: bool, words: &mut Words<'_>) -> Result<Request, Fault>
+    ensures sendable { IfOk result IsSendable }
+{
+    let dir = Number(words.number());
+    let perm = read_perm(words);
+    let bytes = words.bytes();
+    words.end()?;
+    let name = name_of(alloc, bytes.as_slice())?;
+    if is_create {
+        Ok(Request::Create { dir, name, perm })
+    } else {
+        Ok(Request::Mkdir { dir, name, perm })
+    }
+}
+
+/// Reads the words behind `rename`.
+fn read_move(alloc: Global, words: &mut Words<'_>) -> Result<Request, Fault>
+    ensures sendable { IfOk result IsSendable }
+{
+    let dir = Number(words.number());
+    let to_dir = Number(words.number());
+    let bytes = words.bytes();
+    words.end()?;
+    let (old, new) = cut(bytes.as_slice(), b'/').ok_or(Fault::BadRow)?;
+    let name = name_of(alloc, old)?;
+    let to_name = name_of(alloc, new)?;
+    Ok(Request::Rename {
+        dir,
+        name,
+        to_dir,
+        to_name,
+    })
+}
+
+/// Reads the words that are left as a request.
+pub fn read_request(alloc: Global, words: &mut Words<'_>) -> Result<Request, Fault>
+    ensures sendable { IfOk result IsSendable }
+{
+    let kind = words.word();
+    match kind {
+        b"getattr" | b"other" | b"forget" => read_of_number(kind, words),
+        b"forgets" => read_forgets(alloc, words),
+        b"rename" => read_move(alloc, words),
+        b"create" => read_made(alloc, true, words),
+        b"mkdir" => read_made(alloc, false, words),
+        _ => read_named(alloc, kind, words),
+    }
+}
+
+/// Writes attributes.
+pub fn tell_attr(told: &mut Told, attr: &Attr) {
+    told.word(attr.kind.name());
+    told.octal(attr.perm.bits());
+    told.number(attr.size);
+    told.number(u64::from(attr.nlink));
+}
+
+/// Writes `word`, a number, and the attributes of its file.
+fn tell_file(told: &mut Told, word: &str, number: Number, attr: &Attr) {
+    told.word(word);
+    told.number(number.0);
+    tell_attr(told, attr);
+}
+
+/// Writes an answer.
+pub fn tell_answer(told: &mut Told, answer: &Answer) {
+    match answer {
+        Answer::Entry { number, attr } => tell_file(told, "entry", *number, attr),
+        Answer::Opened { number, attr } => tell_file(told, "opened", *number, attr),
+        Answer::Attrs { number, attr } => tell_file(told, "attr", *number, attr),
+        Answer::Done => told.word("done"),
+        Answer::Error(errno) => {
+            told.word("error");
+            told.word(errno.name());
+        }
+    }
+}
+
+/// Writes the number and the count of each item.
+pub fn tell_items(told: &mut Told, items: &[Item]) {
+    for item in items {
+        told.number(item.node.0);
+        told.number(item.k);
+    }
+}
+
+/// Writes `word`, a directory's number, and a name in it.
+fn tell_named(told: &mut Told, word: &str, dir: Number, name: &Name) {
+    told.word(word);
+    told.number(dir.0);
+    told.bytes(name.bytes());
+}
+
+/// Writes `word`, a directory's number, permissions, and a name in it.
+fn tell_made(told: &mut Told, word: &str, dir: Number, perm: Perm, name: &Name) {
+    told.word(word);
+    told.number(dir.0);
+    told.octal(perm.bits());
+    told.bytes(name.bytes());
+}
+
+/// Writes a request.
+pub fn tell_request(told: &mut Told, request: &Request) {
+    match request {
+        Request::Lookup { dir, name } => tell_named(told, "lookup", *dir, name),
+        Request::Unlink { dir, name } => tell_named(told, "unlink", *dir, name),
+        Request::Rmdir { dir, name } => tell_named(told, "rmdir", *dir, name),
+        Request::Create { dir, name, perm } => tell_made(told, "create", *dir, *perm, name),
+        Request::Mkdir { dir, name, perm } => tell_made(told, "mkdir", *dir, *perm, name),
+        Request::Rename {
+            dir,
+            name,
+            to_dir,
+            to_name,
+        } => {
+            told.word("rename");
+            told.number(dir.0);
+            told.number(to_dir.0);
+            told.bytes(name.bytes());
+            told.behind_slash(to_name.bytes());
+        }
+        _ => tell_of_number(told, request),
+    }
+}
+
+/// Writes a request that has no name.
+fn tell_of_number(told: &mut Told, request: &Request) {
+    match request {
+        Request::Getattr { node } => {
+            told.word("getattr");
+            told.number(node.0);
+        }
+        Request::Other { opcode, node } => {
+            told.word("other");
+            told.number(u64::from(*opcode));
+            told.number(node.0);
+        }
+        Request::BatchForget(batch) => {
+            told.word("forgets");
+            tell_items(told, batch.as_slice());
+        }
+        _ => {
+            told.word("forget");
+            tell_items(told, request.items());
+        }
+    }
+}
