@@ -1,0 +1,184 @@
+//! Arenas of numbers. A row names a slot by its place in a list of slots.
+//!
+//! `arena new CAPACITY`: the capacity; `arena add PLACE N`: adds N, and puts its slot at PLACE, or `back N`;
+//! `arena touch PLACE`, `arena set PLACE N`, `arena remove PLACE`: `none` if the slot isn't held;
+//! `arena is_held PLACE`, `arena is_oldest PLACE`, `arena same PLACE PLACE`; `arena take_oldest`: removes the oldest;
+//! `arena order`: all values, the oldest first; `arena agree PLACE ..`: the values there, the last place first, then how
+//! many there are, and whether the last place is the oldest; `arena len`.
+use node_arena::{Nodes, Slot};
+use row_words::{Fault, Told, Words};
+
+/// How many places a row may have.
+const MOST_PLACES: usize = 64;
+
+/// An arena, and the slots that rows name.
+#[derive(Drop)]
+pub(crate) struct Arena {
+    nodes: Nodes<u64>,
+    slots: Vec<Slot>,
+}
+
+/// Puts `slot` at `place`, which has one already or is the next one.
+fn put_slot(slots: &mut Vec<Slot>, place: u64, slot: Slot) -> Result<(), Fault> {
+    match slots.get_mut(place as usize) {
+        Some(old) => *old = slot,
+        None => slots.push(slot)?,
+    }
+    Ok(())
+}
+
+impl Arena {
+    /// Makes an arena.
+    fn make(words: &mut Words<'_>, told: &mut Told) -> Result<Arena, Fault> {
+        let capacity = words.number() as usize;
+        if capacity < 1 || capacity > 65_536 {
+            return Err(Fault::BadRow);
+        }
+        let nodes = Nodes::new(words.alloc(), capacity)?;
+        told.number(nodes.capacity() as u64);
+        Ok(Arena {
+            nodes,
+            slots: Vec::new(words.alloc()),
+        })
+    }
+
+    /// Adds a value, and puts its slot at a place.
+    fn add(&mut self, words: &mut Words<'_>, told: &mut Told) -> Result<(), Fault> {
+        let place = words.number();
+        let value = words.number();
+        self.slots.reserve(1)?;
+        match self.nodes.add(value) {
+            Ok(slot) => {
+                put_slot(&mut self.slots, place, slot)?;
+                told.word("ok");
+            }
+            Err(value) => {
+                told.word("back");
+                told.number(value);
+            }
+        }
+        Ok(())
+    }
+
+    /// Removes the value at `slot`, if it is held, and writes it.
+    fn remove(&mut self, slot: Slot, told: &mut Told) {
+        if !self.nodes.is_held(slot) {
+            told.word("none");
+            return;
+        }
+        told.number(self.nodes.remove(slot));
+        if self.nodes.is_held(slot) {
+            told.word("held");
+        }
+    }
+
+    /// Writes the value at `slot`, or `none` if it isn't held.
+    fn get(&self, slot: Slot, told: &mut Told) {
+        if self.nodes.is_held(slot) {
+            told.number(*self.nodes.get(slot));
+        } else {
+            told.word("none");
+        }
+    }
+
+    /// Puts `value` at `slot`, or touches it where there is none, if it is held.
+    fn change(&mut self, slot: Slot, value: Option<u64>, told: &mut Told) {
+        if !self.nodes.is_held(slot) {
+            told.word("none");
+            return;
+        }
+        match value {
+            Some(value) => *self.nodes.get_mut(slot) = value,
+            None => self.nodes.touch(slot),
+        }
+        told.word("ok");
+    }
+
+    /// Writes all values, the oldest first. Touches each once, so the order stays.
+    fn tell_order(&mut self, told: &mut Told) {
+        for _value in 0..self.nodes.len() {
+            let Some(slot) = self.nodes.oldest() else {
+                return;
+            };
+            told.number(*self.nodes.get(slot));
+            self.nodes.touch(slot);
+        }
+    }
+
+    /// Removes the oldest value, if there is one, and writes it.
+    fn take_oldest(&mut self, told: &mut Told) {
+        match self.nodes.oldest() {
+            Some(slot) => self.remove(slot, told),
+            None => told.word("none"),
+        }
+    }
+
+    /// Returns the slot at the place that the next word tells.
+    fn slot(&self, words: &mut Words<'_>) -> Slot {
+        match self.slots.get(words.number() as usize) {
+            Some(slot) => *slot,
+            None => {
+                words.refuse();
+                Slot { index: 0 }
+            }
+        }
+    }
+
+    /// Writes the values at the places that `words` tell, how many there are, and whether the last place is the oldest.
+    fn agree(&self, words: &mut Words<'_>, told: &mut Told) {
+        let mut last = None;
+        for _place in 0..MOST_PLACES {
+            if !words.has_more() {
+                break;
+            }
+            let slot = self.slot(words);
+            self.get(slot, told);
+            last = Some(slot);
+        }
+        told.number(self.nodes.len() as u64);
+        told.flag(self.nodes.oldest() == last);
+    }
+
+    /// Makes a call of a slot.
+    fn call_slot(&mut self, call: &[u8], words: &mut Words<'_>, told: &mut Told) {
+        let slot = self.slot(words);
+        match call {
+            b"touch" => self.change(slot, None, told),
+            b"set" => self.change(slot, Some(words.number()), told),
+            b"remove" => self.remove(slot, told),
+            b"is_held" => told.flag(self.nodes.is_held(slot)),
+            b"is_oldest" => told.flag(self.nodes.oldest() == Some(slot)),
+            b"same" => told.flag(self.slot(words) == slot),
+            _ => words.refuse(),
+        }
+    }
+
+    /// Makes a call.
+    fn call(&mut self, words: &mut Words<'_>, told: &mut Told) -> Result<(), Fault> {
+        match words.word() {
+            b"add" => self.add(words, told)?,
+            b"len" => told.number(self.nodes.len() as u64),
+            b"order" => self.tell_order(told),
+            b"take_oldest" => self.take_oldest(told),
+            b"agree" => self.agree(words, told),
+            call => self.call_slot(call, words, told),
+        }
+        words.end()
+    }
+}
+
+/// Makes a call of an arena, if there is one, or else makes one.
+pub(crate) fn call_arena(
+    arena: &mut Option<Arena>,
+    words: &mut Words<'_>,
+    told: &mut Told,
+) -> Result<(), Fault> {
+    match arena {
+        Some(arena) => arena.call(words, told),
+        None if words.word() == b"new".as_slice() => {
+            *arena = Some(Arena::make(words, told)?);
+            Ok(())
+        }
+        None => Err(Fault::BadRow),
+    }
+}

@@ -1,0 +1,96 @@
+//! Fields that are written and read with their highest byte first.
+//!
+//! `codec put BYTE TWO FOUR EIGHT LETTERS`: the bytes of numbers of one, two, four and eight bytes, and of letters;
+//! `codec take BYTES`: the same fields, with three letters, at the front of BYTES, and what is behind them, or `Short`;
+//! `codec number BYTES`: the number in two, four or eight BYTES; `codec bytes BYTES`: the same, as `Bytes` show them and
+//! give them back; `codec equal BYTES BYTES`.
+ghost use Rattle.std.specs.Prelude.{◌+◌, length};
+ghost use Rattle.byte_codec.specs.Writing.{HasRoom};
+
+use byte_codec::{
+    Bytes, byte_at, bytes_at, put_byte, put_slice, put_u16, put_u32, put_u64, u16_at, u16_in,
+    u32_at, u32_in, u64_at, u64_in,
+};
+use row_words::{Fault, Told, Words};
+
+/// Says that a field is cut off.
+#[derive(Clone, Copy)]
+struct Short;
+
+/// Appends fields to `out`.
+#[tactic(auto, using(byte_codec::proofs::WriteLemmas::fields_written))]
+fn put_fields(out: &mut Vec<u8>, numbers: [u64; 4], letters: &[u8])
+    requires room { HasRoom out.old (15 + length letters.now) }
+{
+    put_byte(out, (numbers[0] % 256) as u8);
+    put_u16(out, (numbers[1] % 65_536) as u16);
+    put_u32(out, (numbers[2] % 4_294_967_296) as u32);
+    put_u64(out, numbers[3]);
+    put_slice(out, letters);
+}
+
+/// Writes the fields that `words` tell.
+fn put(words: &mut Words<'_>, told: &mut Told) -> Result<(), Fault> {
+    let byte = words.number();
+    let two = words.number();
+    let four = words.number();
+    let numbers = [byte, two, four, words.number()];
+    let letters = words.bytes();
+    let mut out = Vec::new(words.alloc());
+    out.reserve(letters.len().saturating_add(15))?;
+    put_fields(&mut out, numbers, letters.as_slice());
+    told.bytes(out.as_slice());
+    Ok(())
+}
+
+/// Writes the fields at the front of `bytes`.
+fn tell_fields(bytes: &[u8], told: &mut Told) -> Result<(), Short> {
+    let (byte, rest) = byte_at(bytes, Short)?;
+    let (two, rest) = u16_at(rest, Short)?;
+    let (four, rest) = u32_at(rest, Short)?;
+    let (eight, rest) = u64_at(rest, Short)?;
+    let (letters, rest) = bytes_at(rest, 3, Short)?;
+    told.number(u64::from(byte));
+    told.number(u64::from(two));
+    told.number(u64::from(four));
+    told.number(eight);
+    told.bytes(letters);
+    told.bytes(rest);
+    Ok(())
+}
+
+/// Writes the number that all of `field` tells.
+fn tell_number(field: &[u8], told: &mut Told) {
+    match field.len() {
+        2 => told.number(u64::from(u16_in(field))),
+        4 => told.number(u64::from(u32_in(field))),
+        8 => told.number(u64_in(field)),
+        _ => told.word("none"),
+    }
+}
+
+/// Writes the fields at the front of `bytes`, or `Short`.
+fn take(bytes: &[u8], told: &mut Told) {
+    if tell_fields(bytes, told).is_err() {
+        told.word("Short");
+    }
+}
+
+/// Writes `bytes` as they are shown, and as they are given back.
+fn tell_bytes(bytes: Bytes, told: &mut Told) {
+    told.bytes(bytes.as_slice());
+    told.bytes(bytes.into_vec().as_slice());
+}
+
+/// Makes a call of fields.
+pub(crate) fn call_codec(words: &mut Words<'_>, told: &mut Told) -> Result<(), Fault> {
+    match words.word() {
+        b"put" => put(words, told)?,
+        b"take" => take(words.bytes().as_slice(), told),
+        b"number" => tell_number(words.bytes().as_slice(), told),
+        b"equal" => told.flag(Bytes::of(words.bytes()) == Bytes::of(words.bytes())),
+        b"bytes" => tell_bytes(Bytes::of(words.bytes()), told),
+        _ => return Err(Fault::BadRow),
+    }
+    words.end()
+}

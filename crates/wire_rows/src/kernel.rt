@@ -1,0 +1,193 @@
+//! Messages of a kernel, and what it is told.
+//!
+//! `kernel header BYTES`: OPCODE UNIQUE; `kernel owner OPCODE`; `kernel offer BYTES`: UNIQUE MAJOR MINOR READAHEAD FLAGS;
+//! `kernel agree BYTES`: MINOR READAHEAD FLAGS of what is agreed to that offer, or `MajorAlone`;
+//! `kernel init BYTES`: the bytes of the reply to it; `kernel statfs UNIQUE`: the bytes of the reply;
+//! `kernel items BYTES`: the items of a batch of forgets, each as the 16 bytes that it has there;
+//! `kernel read BYTES`: what becomes of a message: `asked UNIQUE REQUEST`, `forgot N K`, `forgot_many`, `ignored`, or the
+//! bytes of a reply; `kernel error UNIQUE ERRNO`, `kernel tell UNIQUE SECONDS NANOSECONDS ANSWER`: the bytes of that reply.
+use mount_wire::{
+    Agreement, BatchReader, Message, MountFault, MountTime, Offer, Owner, RequestHeader, agree,
+    answer_init, answer_statfs, owner_of, read_header, read_message, read_offer, tell_answer,
+    tell_error,
+};
+use row_words::{Fault, Told, Words, read_answer, read_errno, read_u32, tell_items, tell_request};
+use std::alloc::Global;
+
+/// How many items a message may have.
+const MOST_ITEMS: usize = 1 << 16;
+
+/// The field of a reply that says ENOMEM.
+const NO_MEMORY: [u8; 4] = [0xf4, 0xff, 0xff, 0xff];
+
+/// Returns how a fault is spelled.
+fn fault_name(fault: MountFault) -> &'static str {
+    match fault {
+        MountFault::Short => "Short",
+        MountFault::BadLength => "BadLength",
+        MountFault::BadOpcode => "BadOpcode",
+        MountFault::BadBody => "BadBody",
+        MountFault::BadCount => "BadCount",
+        MountFault::TooOld => "TooOld",
+    }
+}
+
+/// Returns how an owner is spelled.
+fn owner_name(owner: Owner) -> &'static str {
+    match owner {
+        Owner::Init => "Init",
+        Owner::Statfs => "Statfs",
+        Owner::Allowed => "Allowed",
+        Owner::Refused => "Refused",
+        Owner::Nobody => "Nobody",
+        Owner::Daemon => "Daemon",
+    }
+}
+
+/// Writes an offer.
+fn tell_offer(offer: &Offer, told: &mut Told) {
+    told.number(offer.unique);
+    told.number(u64::from(offer.major));
+    told.number(u64::from(offer.minor));
+    told.number(u64::from(offer.max_readahead));
+    told.number(u64::from(offer.flags));
+}
+
+/// Writes what is agreed to an offer.
+fn tell_agreement(offer: &Offer, told: &mut Told) {
+    match agree(offer) {
+        Ok(
+            Agreement::Version {
+                minor,
+                max_readahead,
+                flags,
+            },
+        ) => {
+            told.number(u64::from(minor));
+            told.number(u64::from(max_readahead));
+            told.number(u64::from(flags));
+        }
+        Ok(Agreement::MajorAlone) => told.word("MajorAlone"),
+        Err(fault) => told.word(fault_name(fault)),
+    }
+}
+
+/// Reads the offer in `bytes`, and writes it, what is agreed to it, or the reply to it.
+fn call_offer(call: &[u8], bytes: &[u8], told: &mut Told) {
+    match read_offer(bytes) {
+        Ok(offer) => match call {
+            b"offer" => tell_offer(&offer, told),
+            b"agree" => tell_agreement(&offer, told),
+            _ => told.bytes(answer_init(&offer).as_slice()),
+        },
+        Err(fault) => told.word(fault_name(fault)),
+    }
+}
+
+/// Reads the header in `bytes`.
+fn call_header(bytes: &[u8], told: &mut Told) {
+    match read_header(bytes) {
+        Ok(RequestHeader { opcode, unique }) => {
+            told.number(u64::from(opcode));
+            told.number(unique);
+        }
+        Err(fault) => told.word(fault_name(fault)),
+    }
+}
+
+/// Appends the items that are left of `reader`, and goes one step further.
+fn put_items(reader: &mut BatchReader<'_>, out: &mut Vec<u8>) -> Result<(), Fault> {
+    for _item in 0..MOST_ITEMS {
+        let Some(item) = reader.first() else {
+            break;
+        };
+        out.extend_from_slice(&item.node.0.to_le_bytes())?;
+        out.extend_from_slice(&item.k.to_le_bytes())?;
+        reader.skip_first();
+    }
+    reader.skip_first();
+    if reader.first().is_some() {
+        return Err(Fault::BadRow);
+    }
+    Ok(())
+}
+
+/// Reads the items of a batch.
+fn call_items(alloc: Global, bytes: &[u8], told: &mut Told) -> Result<(), Fault> {
+    match BatchReader::of(bytes) {
+        Ok(mut reader) => {
+            let mut out = Vec::new(alloc);
+            put_items(&mut reader, &mut out)?;
+            told.bytes(out.as_slice());
+        }
+        Err(fault) => told.word(fault_name(fault)),
+    }
+    Ok(())
+}
+
+/// Reads the message in `bytes`. A message that is answered ENOMEM was refused memory.
+fn call_read(alloc: Global, bytes: &[u8], told: &mut Told) -> Result<(), Fault> {
+    match read_message(alloc, bytes) {
+        Message::Answered(reply) => {
+            if reply.as_slice().get(4..8) == Some(NO_MEMORY.as_slice()) {
+                return Err(Fault::NoMemory);
+            }
+            told.bytes(reply.as_slice());
+        }
+        Message::Asked(ask) => {
+            told.word("asked");
+            told.number(ask.unique);
+            tell_request(told, &ask.what);
+        }
+        Message::Forgot(item) => {
+            told.word("forgot");
+            tell_items(told, &[item]);
+        }
+        Message::ForgotMany(_) => told.word("forgot_many"),
+        Message::Ignored => told.word("ignored"),
+    }
+    Ok(())
+}
+
+/// Makes the call of `bytes` that `call` tells.
+fn call_bytes(alloc: Global, call: &[u8], bytes: &[u8], told: &mut Told) -> Result<(), Fault> {
+    match call {
+        b"read" => call_read(alloc, bytes, told)?,
+        b"items" => call_items(alloc, bytes, told)?,
+        b"header" => call_header(bytes, told),
+        _ => call_offer(call, bytes, told),
+    }
+    Ok(())
+}
+
+/// Tells an answer.
+fn call_tell(words: &mut Words<'_>, told: &mut Told) -> Result<(), Fault> {
+    let unique = words.number();
+    let seconds = words.number();
+    let nanoseconds = read_u32(words);
+    let answer = read_answer(words)?;
+    let since = MountTime {
+        seconds,
+        nanoseconds,
+    };
+    told.bytes(tell_answer(unique, &answer, &since).as_slice());
+    Ok(())
+}
+
+/// Makes a call of a kernel's messages.
+pub(crate) fn call_kernel(words: &mut Words<'_>, told: &mut Told) -> Result<(), Fault> {
+    match words.word() {
+        b"owner" => told.word(owner_name(owner_of(read_u32(words)))),
+        b"statfs" => told.bytes(answer_statfs(words.number()).as_slice()),
+        b"error" => {
+            let unique = words.number();
+            told.bytes(tell_error(unique, read_errno(words)).as_slice());
+        }
+        b"tell" => call_tell(words, told)?,
+        call => {
+            let bytes = words.bytes();
+            call_bytes(words.alloc(), call, bytes.as_slice(), told)?;
+        }
+    }
+    words.end()
+}

@@ -1,0 +1,117 @@
+//! Queues in blocks, of numbers.
+//!
+//! `queue reserve N`; `queue push N`; `queue fill COUNT STEP`: appends 0, STEP, 2 * STEP and so on; `queue len`;
+//! `queue runs COUNT STEP`: whether a run of at least one member begins at each index below COUNT, none at COUNT, and all
+//! members are those of `fill`; `queue remove I ..`: the members at these indexes, each as `get` shows it before it is
+//! removed, or `none`.
+ghost use Rattle.std.specs.Prelude.{◌≤◌, OnOk};
+
+use block_queue::BlockQueue;
+use row_words::{Fault, Told, Words};
+use std::alloc::AllocError;
+
+/// How many indexes a row may have.
+const MOST_INDEXES: usize = 10_000;
+
+/// Makes room for one more member, and asks once more if memory was refused.
+fn make_room(queue: &mut BlockQueue<u64>) -> Result<(), AllocError>
+    ensures room { OnOk result (1 ≤ queue.new.room) }
+{
+    match queue.reserve(1) {
+        Ok(()) => Ok(()),
+        Err(AllocError) => queue.reserve(1),
+    }
+}
+
+/// Appends `count` members: 0, `step`, and so on.
+fn fill(queue: &mut BlockQueue<u64>, count: u64, step: u64) -> Result<(), AllocError> {
+    for index in 0..count {
+        make_room(queue)?;
+        queue.push_reserved(index.wrapping_mul(step));
+    }
+    Ok(())
+}
+
+/// Returns whether `run` is not empty, and its members are those of `fill` from `index` on.
+fn is_run(run: &[u64], index: u64, step: u64) -> bool {
+    let mut at = index;
+    for member in run {
+        if *member != at.wrapping_mul(step) {
+            return false;
+        }
+        at = at.wrapping_add(1);
+    }
+    !run.is_empty()
+}
+
+/// Returns whether a run of members begins at each index below `count`, and none at `count`.
+fn has_runs(queue: &BlockQueue<u64>, count: u64, step: u64) -> bool {
+    for index in 0..count {
+        if !is_run(queue.run_from(index as usize), index, step) {
+            return false;
+        }
+    }
+    queue.run_from(count as usize).is_empty()
+}
+
+/// Removes the member at `index`, and writes it.
+fn remove(queue: &mut BlockQueue<u64>, index: u64, told: &mut Told) {
+    let shown = queue.get(index as usize).copied();
+    let removed = queue.remove(index as usize);
+    match removed {
+        Some(member) if shown == removed => told.number(member),
+        None if shown.is_none() => told.word("none"),
+        _ => told.word("differs"),
+    }
+}
+
+/// Removes the members at the indexes that are left of `words`.
+fn remove_each(queue: &mut BlockQueue<u64>, words: &mut Words<'_>, told: &mut Told) {
+    for _index in 0..MOST_INDEXES {
+        if !words.has_more() {
+            break;
+        }
+        remove(queue, words.number(), told);
+    }
+}
+
+/// Makes a call that has a number.
+fn call_number(
+    queue: &mut BlockQueue<u64>,
+    call: &[u8],
+    words: &mut Words<'_>,
+    told: &mut Told,
+) -> Result<(), Fault> {
+    let number = words.number();
+    let step = if words.has_more() { words.number() } else { 1 };
+    words.end()?;
+    match call {
+        b"reserve" => queue.reserve(number as usize)?,
+        b"push" => {
+            queue.reserve(1)?;
+            queue.push_reserved(number);
+        }
+        b"fill" => fill(queue, number, step)?,
+        b"runs" => {
+            told.flag(has_runs(queue, number, step));
+            return Ok(());
+        }
+        _ => return Err(Fault::BadRow),
+    }
+    told.word("ok");
+    Ok(())
+}
+
+/// Makes a call of a queue.
+pub(crate) fn call_queue(
+    queue: &mut BlockQueue<u64>,
+    words: &mut Words<'_>,
+    told: &mut Told,
+) -> Result<(), Fault> {
+    match words.word() {
+        b"len" => told.number(queue.len() as u64),
+        b"remove" => remove_each(queue, words, told),
+        call => call_number(queue, call, words, told)?,
+    }
+    words.end()
+}
