@@ -1,0 +1,257 @@
+//! Calls of `broker_core`. The first one of a case makes the broker. D is a daemon, G a generation, U the unique of an ask,
+//! N a number; requests and answers are those of `spelled`.
+//!
+//! - `broker seat`: generation and daemon, or none
+//! - `broker mount-refusal`, `broker take-refusal D G`: the fault, or none
+//! - `broker mount D`, `broker try-mount D`, `broker claim D G`: the generation, or the fault
+//! - `broker issue REQUEST`: the unique, or none for a forget, or the fault
+//! - `broker take D G`: unique and request, or the fault; `broker take-many D G`: how many items were taken
+//! - `broker post D G U ANSWER`: ok, or the fault
+//! - `broker deliver`: unique and answer, or the fault
+//! - `broker rounds K N STEP`: how many of K rounds go so, up to the first that does not. In a round the root is looked up,
+//!   and daemon 1 at generation 1 answers by an entry of N, of N + STEP in the second round, and so on
+//! - `broker gone D`: ok
+//! - `broker held N`: how often; `broker held-after N`: the number, or none
+//! - `broker stand N`: how often N is held; how many posted replies give it out, as told and as counted one by one; how
+//!   often waiting items take it back, as told and as counted
+use crate::{Called, tell_fault, tell_number, tell_printed};
+use broker_core::{Broker, DeliverFault, IssueFault};
+use eden_base::{Attr, DaemonId, Kind, Number, Perm};
+use fuse_wire::{Answer, Reply, Request};
+use row_words::{
+    Fault, Told, Words, name_of, read_answer, read_request, tell_answer, tell_request,
+};
+use std::alloc::Global;
+use std::fmt::Debug;
+
+const FILE: Attr = Attr {
+    kind: Kind::File,
+    perm: Perm { bits: 0o644 },
+    size: 3,
+    nlink: 1,
+};
+
+/// Writes a fault, or none.
+fn tell_refusal<F: Debug + Copy>(told: &mut Told, fault: Option<F>) {
+    match fault {
+        Some(fault) => tell_fault(told, fault),
+        None => told.word("none"),
+    }
+}
+
+/// Returns the broker in `place`, and makes one if there is none.
+fn broker_in(alloc: Global, place: &mut Option<Broker>) -> Result<&mut Broker, Fault> {
+    if place.is_none() {
+        *place = Some(Broker::new(alloc)?);
+    }
+    place.as_mut().ok_or(Fault::BadRow)
+}
+
+/// Writes the result of an issue.
+pub(crate) fn tell_issued(told: &mut Told, issued: Result<Option<u64>, IssueFault>) -> Called {
+    match issued {
+        Ok(unique) => tell_number(told, unique),
+        Err(IssueFault::NoMemory) => return Err(Fault::NoMemory),
+        Err(fault) => tell_fault(told, fault),
+    }
+    Ok(())
+}
+
+/// Writes a reply.
+pub(crate) fn tell_reply(told: &mut Told, reply: &Reply) {
+    told.number(reply.unique);
+    tell_answer(told, &reply.answer);
+}
+
+/// Writes the result of a delivery.
+pub(crate) fn tell_delivered(told: &mut Told, delivered: Result<Reply, DeliverFault>) -> Called {
+    match delivered {
+        Ok(reply) => tell_reply(told, &reply),
+        Err(DeliverFault::NoMemory) => return Err(Fault::NoMemory),
+        Err(fault) => tell_fault(told, fault),
+    }
+    Ok(())
+}
+
+/// Takes what waits first, and writes it, or only how many items it has where `is_many`.
+fn take(broker: &mut Broker, is_many: bool, words: &mut Words<'_>, told: &mut Told) {
+    let daemon = DaemonId(words.number());
+    match broker.take(daemon, words.number()) {
+        Ok(ask) if is_many => told.number(ask.what.items().len() as u64),
+        Ok(ask) => {
+            told.number(ask.unique);
+            tell_request(told, &ask.what);
+        }
+        Err(fault) => tell_fault(told, fault),
+    }
+}
+
+/// Posts an answer.
+fn post(broker: &mut Broker, words: &mut Words<'_>, told: &mut Told) -> Called {
+    let daemon = DaemonId(words.number());
+    let generation = words.number();
+    let unique = words.number();
+    let answer = read_answer(words)?;
+    match broker.post(daemon, generation, Reply { unique, answer }) {
+        Ok(()) => told.word("ok"),
+        Err(fault) => tell_fault(told, fault),
+    }
+    Ok(())
+}
+
+/// Has daemon 1 answer `request` by an entry of `number`. Returns whether the answer comes to the kernel.
+fn is_answered(broker: &mut Broker, request: &Request, number: u64) -> bool {
+    let Ok(Some(unique)) = broker.issue(request) else {
+        return false;
+    };
+    let is_taken = match broker.take(DaemonId(1), 1) {
+        Ok(ask) => ask.unique == unique,
+        Err(_) => false,
+    };
+    let number = Number(number);
+    let answer = Answer::Entry { number, attr: FILE };
+    let reply = Reply { unique, answer };
+    is_taken && broker.post(DaemonId(1), 1, reply).is_ok() && broker.deliver() == Ok(reply)
+}
+
+/// Returns how many of `count` rounds are answered, up to the first that is not.
+fn count_answered(
+    broker: &mut Broker,
+    request: &Request,
+    count: u64,
+    number: u64,
+    step: u64,
+) -> u64 {
+    let mut number = number;
+    for round in 0..count {
+        if !is_answered(broker, request, number) {
+            return round;
+        }
+        number = number.wrapping_add(step);
+    }
+    count
+}
+
+/// Makes rounds.
+fn rounds(alloc: Global, broker: &mut Broker, words: &mut Words<'_>, told: &mut Told) -> Called {
+    let count = words.number();
+    let number = words.number();
+    let step = words.number();
+    words.end()?;
+    let request = Request::Lookup {
+        dir: Number::ROOT,
+        name: name_of(alloc, b"name")?,
+    };
+    told.number(count_answered(broker, &request, count, number, step));
+    Ok(())
+}
+
+/// Counts the posted replies that give `number` out.
+fn given_out(broker: &Broker, number: Number) -> u64 {
+    let mut count = 0u64;
+    for reply in broker.replies().iter() {
+        if reply.answer.given_out() == Some(number) {
+            count = count.wrapping_add(1);
+        }
+    }
+    count
+}
+
+/// Counts how often the waiting items take `number` back.
+fn taken_back(broker: &Broker, number: Number) -> u64 {
+    let mut sum = 0u64;
+    for item in broker.items().iter() {
+        if item.node == number {
+            sum = sum.wrapping_add(item.k);
+        }
+    }
+    sum
+}
+
+/// Writes how `number` stands.
+fn tell_stand(broker: &Broker, number: Number, told: &mut Told) {
+    told.number(broker.held(number));
+    told.number(broker.entries_posted(number));
+    told.number(given_out(broker, number));
+    told.number(broker.forgets_waiting(number));
+    told.number(taken_back(broker, number));
+}
+
+/// Makes a call of numbers alone that changes nothing.
+fn look(broker: &Broker, word: &[u8], words: &mut Words<'_>, told: &mut Told) -> Called {
+    match word {
+        b"held" => told.number(broker.held(Number(words.number()))),
+        b"held-after" => {
+            let after = broker.held_after(Number(words.number()));
+            tell_number(told, after.map(|number| number.0));
+        }
+        b"stand" => tell_stand(broker, Number(words.number()), told),
+        b"take-refusal" => {
+            let daemon = DaemonId(words.number());
+            tell_refusal(told, broker.take_refusal(daemon, words.number()));
+        }
+        b"mount-refusal" => tell_refusal(told, broker.mount_refusal()),
+        b"seat" => match broker.seat() {
+            Some(seat) => {
+                told.number(seat.generation);
+                told.number(seat.daemon.0);
+            }
+            None => told.word("none"),
+        },
+        _ => return Err(Fault::BadRow),
+    }
+    words.end()
+}
+
+/// Makes a call of numbers alone.
+fn call_numbers(
+    broker: &mut Broker,
+    word: &[u8],
+    words: &mut Words<'_>,
+    told: &mut Told,
+) -> Called {
+    match word {
+        b"try-mount" => match broker.try_mount(DaemonId(words.number())) {
+            Ok(generation) => told.number(generation),
+            Err(fault) => tell_fault(told, fault),
+        },
+        b"mount" if broker.mount_refusal().is_none() => {
+            told.number(broker.mount(DaemonId(words.number())));
+        }
+        b"gone" => {
+            broker.gone(DaemonId(words.number()));
+            told.word("ok");
+        }
+        b"claim" => {
+            let daemon = DaemonId(words.number());
+            match broker.claim(daemon, words.number()) {
+                Ok(next) => told.number(next),
+                Err(fault) => tell_printed(told, fault),
+            }
+        }
+        b"take" => take(broker, false, words, told),
+        b"take-many" => take(broker, true, words, told),
+        b"deliver" => tell_delivered(told, broker.deliver())?,
+        _ => return look(broker, word, words, told),
+    }
+    words.end()
+}
+
+/// Makes a call of the broker in `place`.
+pub(crate) fn call_broker(
+    alloc: Global,
+    place: &mut Option<Broker>,
+    words: &mut Words<'_>,
+    told: &mut Told,
+) -> Called {
+    let broker = broker_in(alloc, place)?;
+    match words.word() {
+        b"issue" => {
+            let request = read_request(alloc, words)?;
+            tell_issued(told, broker.issue(&request))
+        }
+        b"post" => post(broker, words, told),
+        b"rounds" => rounds(alloc, broker, words, told),
+        word => call_numbers(broker, word, words, told),
+    }
+}

@@ -1,0 +1,258 @@
+//! Calls of `broker_desk` and `mount_desk`. The first one of a case makes the desk, and a kernel at it. C is one of four
+//! connections, 0 to 3, at which nobody is known at first; U is a unique, N a number, K a count; frames are those of
+//! `frame_calls`.
+//!
+//! - `desk on C FRAME`: the frame that answers, an ask by its unique and request; or `closes`
+//! - `desk post C G U ANSWER`: the same, for a Post at generation G of the answer to the ask of U
+//! - `desk connect C`: ok. Nobody is known at the connection
+//! - `desk leave C`: ok. The connection ends
+//! - `desk close`: ok
+//! - `desk running`: how many daemons run; `desk held N`: how often the kernel holds the number
+//! - `desk issue REQUEST`: the unique, or none for a forget, or the fault
+//! - `desk deliver`: unique and answer, or the fault
+//! - `mount ask U REQUEST`: what becomes of the kernel's ask, by a unique of its own
+//! - `mount deliver`: unique and answer; or `unasked` and the answer; or Nothing
+//! - `mount forget N K`, `mount take-back ANSWER`: what becomes of the forget
+//! - `mount hear BYTES`: `done`, `answers BYTES`, `leaves ask U`, `leaves K` for K forgets, or NotMounted
+use crate::Called;
+use crate::broker_calls::{tell_delivered, tell_issued, tell_reply};
+use crate::frame_calls::{read_frame, tell_frame};
+use broker_desk::{Desk, Peer, Response};
+use byte_codec::Bytes;
+use eden_base::Number;
+use frames::Frame;
+use fuse_wire::{Ask, Item, MAX_REPLY_LEN, Reply, write_reply};
+use mount_desk::{Delivered, Forgot, Heard, Kernel, Progress, forget, take_back};
+use mount_wire::{BatchReader, Message, read_message};
+use row_words::{
+    Fault, Told, Words, read_answer, read_request, tell_answer, tell_request, tell_wire_fault,
+};
+use std::alloc::Global;
+
+/// A desk, the kernel at it, and who is at each connection.
+#[derive(Drop)]
+pub(crate) struct Mount {
+    desk: Desk,
+    kernel: Kernel,
+    peers: [Peer; 4],
+}
+
+/// Returns the mount in `place`, and makes one if there is none.
+pub(crate) fn mount_in(alloc: Global, place: &mut Option<Mount>) -> Result<&mut Mount, Fault> {
+    if place.is_none() {
+        *place = Some(Mount {
+            desk: Desk::new(alloc)?,
+            kernel: Kernel::new(alloc)?,
+            peers: [Peer::Stranger; 4],
+        });
+    }
+    place.as_mut().ok_or(Fault::BadRow)
+}
+
+/// Writes the request that `bytes` are.
+fn tell_asked(alloc: Global, told: &mut Told, bytes: &[u8]) {
+    match fuse_wire::read_request(alloc, bytes) {
+        Ok(ask) => {
+            told.word("ask");
+            told.number(ask.unique);
+            tell_request(told, &ask.what);
+        }
+        Err(fault) => tell_wire_fault(told, fault),
+    }
+}
+
+/// Writes an answer of the desk.
+fn tell_response(alloc: Global, told: &mut Told, response: &Response) {
+    match response {
+        Response::Closes => told.word("closes"),
+        Response::Tells(Frame::Ask(request)) => tell_asked(alloc, told, request.as_slice()),
+        Response::Tells(frame) => tell_frame(told, frame),
+    }
+}
+
+/// Reads a Post of an answer.
+fn read_post(alloc: Global, words: &mut Words<'_>) -> Result<Frame, Fault> {
+    let generation = words.number();
+    let unique = words.number();
+    let answer = read_answer(words)?;
+    let mut bytes = [0; MAX_REPLY_LEN];
+    let len = write_reply(&Reply { unique, answer }, &mut bytes);
+    let reply = Bytes::of(Vec::from_slice(alloc, &bytes[..len])?);
+    Ok(Frame::Post { generation, reply })
+}
+
+/// Makes a call of the peer at a connection.
+fn call_peer(
+    alloc: Global,
+    mount: &mut Mount,
+    word: &[u8],
+    words: &mut Words<'_>,
+    told: &mut Told,
+) -> Called {
+    let index = usize::try_from(words.number()).ok().ok_or(Fault::BadRow)?;
+    let peer = mount.peers.get_mut(index).ok_or(Fault::BadRow)?;
+    let frame = match word {
+        b"on" => read_frame(words)?,
+        b"post" => read_post(alloc, words)?,
+        _ => {
+            if word == b"leave".as_slice() {
+                mount.desk.leave(*peer);
+            } else {
+                *peer = Peer::Stranger;
+            }
+            told.word("ok");
+            return words.end();
+        }
+    };
+    words.end()?;
+    let response = mount.desk.answer(peer, &frame);
+    drop(frame);
+    tell_response(alloc, told, &response);
+    Ok(())
+}
+
+/// Makes a call of the desk of `mount`.
+pub(crate) fn call_desk(
+    alloc: Global,
+    mount: &mut Mount,
+    words: &mut Words<'_>,
+    told: &mut Told,
+) -> Called {
+    let word = words.word();
+    match word {
+        b"on" | b"post" | b"connect" | b"leave" => {
+            return call_peer(alloc, mount, word, words, told);
+        }
+        b"issue" => {
+            let request = read_request(alloc, words)?;
+            return tell_issued(told, mount.desk.issue(&request));
+        }
+        b"deliver" => return tell_delivered(told, mount.desk.deliver()),
+        b"close" => {
+            mount.desk.close();
+            told.word("ok");
+        }
+        b"running" => told.number(mount.desk.running() as u64),
+        b"held" => told.number(mount.desk.broker().held(Number(words.number()))),
+        _ => return Err(Fault::BadRow),
+    }
+    words.end()
+}
+
+/// Writes what became of an ask.
+fn tell_heard(told: &mut Told, heard: Heard) -> Called {
+    told.word(match heard {
+        Heard::Waits => "Waits",
+        Heard::Full => "Full",
+        Heard::NoMemory => return Err(Fault::NoMemory),
+        Heard::NotHeld => "NotHeld",
+        Heard::NotMounted => "NotMounted",
+    });
+    Ok(())
+}
+
+/// Writes what became of a forget.
+fn tell_forgot(told: &mut Told, forgot: Forgot) -> Called {
+    told.word(match forgot {
+        Forgot::Waits => "Waits",
+        Forgot::Full => "Full",
+        Forgot::NoMemory => return Err(Fault::NoMemory),
+        Forgot::Bad => "Bad",
+        Forgot::NotMounted => "NotMounted",
+    });
+    Ok(())
+}
+
+/// Writes what was delivered.
+fn tell_brought(told: &mut Told, delivered: Delivered) -> Called {
+    match delivered {
+        Delivered::Reply(reply) => tell_reply(told, &reply),
+        Delivered::Unasked(answer) => {
+            told.word("unasked");
+            tell_answer(told, &answer);
+        }
+        Delivered::Nothing => told.word("Nothing"),
+        Delivered::NoMemory => return Err(Fault::NoMemory),
+    }
+    Ok(())
+}
+
+/// Counts items, up to 5,000.
+fn count(items: BatchReader<'_>) -> u64 {
+    let mut items = items;
+    for counted in 0..5000 {
+        if items.first().is_none() {
+            return counted;
+        }
+        items.skip_first();
+    }
+    5000
+}
+
+/// Writes what is left of a message.
+fn tell_left(told: &mut Told, message: Message<'_>) {
+    told.word("leaves");
+    match message {
+        Message::Asked(ask) => {
+            told.word("ask");
+            told.number(ask.unique);
+        }
+        Message::Forgot(_item) => told.number(1),
+        Message::ForgotMany(items) => told.number(count(items)),
+        _ => told.word("nothing"),
+    }
+}
+
+/// Has the desk hear a message.
+fn hear(alloc: Global, mount: &mut Mount, words: &mut Words<'_>, told: &mut Told) -> Called {
+    let bytes = words.bytes();
+    words.end()?;
+    let message = read_message(alloc, bytes.as_slice());
+    match mount.kernel.hear(&mut mount.desk, message) {
+        Progress::Done => told.word("done"),
+        Progress::Answers(reply) => {
+            told.word("answers");
+            told.hex(reply.as_slice());
+        }
+        Progress::Leaves(message) => tell_left(told, message),
+        Progress::NotMounted => told.word("NotMounted"),
+    }
+    Ok(())
+}
+
+/// Has the kernel ask.
+fn ask(alloc: Global, mount: &mut Mount, words: &mut Words<'_>, told: &mut Told) -> Called {
+    let unique = words.number();
+    let what = read_request(alloc, words)?;
+    if !what.is_ask() {
+        return Err(Fault::BadRow);
+    }
+    let ask = Ask { unique, what };
+    let heard = mount.kernel.ask(&mut mount.desk, &ask);
+    drop(ask);
+    tell_heard(told, heard)
+}
+
+/// Makes a call of the kernel of `mount`.
+pub(crate) fn call_mount(
+    alloc: Global,
+    mount: &mut Mount,
+    words: &mut Words<'_>,
+    told: &mut Told,
+) -> Called {
+    match words.word() {
+        b"ask" => ask(alloc, mount, words, told),
+        b"hear" => hear(alloc, mount, words, told),
+        b"forget" => {
+            let node = Number(words.number());
+            let k = words.number();
+            tell_forgot(told, forget(&mut mount.desk, Item { node, k }))
+        }
+        b"take-back" => {
+            let answer = read_answer(words)?;
+            tell_forgot(told, take_back(&mut mount.desk, &answer))
+        }
+        b"deliver" => tell_brought(told, mount.kernel.deliver(&mut mount.desk)),
+        _ => Err(Fault::BadRow),
+    }
+}
