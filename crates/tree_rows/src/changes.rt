@@ -1,0 +1,109 @@
+//! The changes of a tree as words: `next FILE`, `made FILE KIND PERM` for each made file, and then `name DIR NAME FILE`
+//! for each changed name, with `none` where it gives no file.
+use crate::{Done, file_of, file_or_none, kind_of, perm_of, put_file};
+use checkout::{Changes, LinkList, Made, MadeList, Tree};
+use manifest::LinkChange;
+use row_words::{Fault, Told, Words};
+use std::alloc::Global;
+
+/// How many changes a row may have.
+const MOST_CHANGES: u64 = 1 << 16;
+
+/// The changes that words have told.
+#[derive(Drop)]
+struct Lists {
+    made: Vec<Made>,
+    links: Vec<LinkChange>,
+}
+
+/// Reads a made file.
+fn made_of(words: &mut Words<'_>) -> Made {
+    let file = file_of(words);
+    let kind = kind_of(words);
+    let perm = perm_of(words);
+    Made { file, kind, perm }
+}
+
+/// Reads a changed name, and appends it to `links`.
+fn push_link(links: &mut Vec<LinkChange>, words: &mut Words<'_>) -> Done {
+    let dir = file_of(words);
+    let name = words.name();
+    let target = file_or_none(words);
+    if let Some(name) = name {
+        links.push(LinkChange { dir, name, target })?;
+    }
+    Ok(())
+}
+
+/// Reads all changes that the words tell.
+fn push_changes(lists: &mut Lists, words: &mut Words<'_>) -> Done {
+    for _change in 0..MOST_CHANGES {
+        if !words.has_more() {
+            break;
+        }
+        match words.word() {
+            b"made" => lists.made.push(made_of(words))?,
+            b"name" => push_link(&mut lists.links, words)?,
+            _ => words.refuse(),
+        }
+    }
+    words.end()
+}
+
+/// Reads changes.
+pub(crate) fn changes_of(alloc: Global, words: &mut Words<'_>) -> Result<Changes, Fault> {
+    if words.word() != b"next".as_slice() {
+        words.refuse();
+    }
+    let next_file = file_of(words);
+    let mut lists = Lists {
+        made: Vec::new(alloc),
+        links: Vec::new(alloc),
+    };
+    push_changes(&mut lists, words)?;
+    let Lists { made, links } = lists;
+    Ok(Changes {
+        made: MadeList::of(made),
+        links: LinkList::of(links),
+        next_file,
+    })
+}
+
+/// Writes made files.
+fn put_made(made: &[Made], told: &mut Told) {
+    for made in made {
+        told.word("made");
+        told.number(made.file.0);
+        told.word(made.kind.name());
+        told.octal(made.perm.bits());
+    }
+}
+
+/// Writes changed names.
+fn put_names(links: &[LinkChange], told: &mut Told) {
+    for link in links {
+        told.word("name");
+        told.number(link.dir.0);
+        told.bytes(link.name.bytes());
+        put_file(told, link.target);
+    }
+}
+
+/// Writes the changes of `tree`: how many files were made if `word` is `made`, else all or the changed names alone.
+pub(crate) fn put_changes(tree: &Tree, word: &[u8], told: &mut Told) -> Done {
+    let changes = tree.changes()?;
+    match word {
+        b"made" => told.number(changes.made.as_slice().len() as u64),
+        b"names" | b"names_again" => {
+            told.number(changes.links.as_slice().len() as u64);
+            put_names(changes.links.as_slice(), told);
+        }
+        _ => {
+            told.word("next");
+            told.number(changes.next_file.0);
+            put_made(changes.made.as_slice(), told);
+            put_names(changes.links.as_slice(), told);
+        }
+    }
+    Ok(())
+}

@@ -1,0 +1,74 @@
+//! `keys new`: makes an empty map. `keys new NUMBERS`: makes one with buckets for so many numbers.
+//! `keys insert COUNT STEP`: puts I + 1 at the key I * STEP, wrapped, for each I below COUNT whose key has no number.
+//! Tells how many numbers it put. `keys remove_odd COUNT STEP`: removes those of odd I, and tells how many.
+//! `keys right COUNT STEP`: how many keys have their number.
+//! `keys right_even COUNT STEP`: how many keys have their number if I is even, and none if I is odd.
+//! `keys key NUMBER BYTES`: the key of a number and of bytes, in hexadecimal digits.
+use crate::{Done, Trees};
+use key_map::{KeyMap, key_of};
+use row_words::{Fault, Told, Words};
+use std::alloc::Global;
+
+/// Makes an empty map, with buckets for numbers if the words tell how many.
+fn new(trees: &mut Trees, words: &mut Words<'_>, told: &mut Told) -> Done {
+    let map = if words.has_more() {
+        KeyMap::for_numbers(trees.alloc, words.number() as usize)
+    } else {
+        KeyMap::new(trees.alloc)
+    };
+    words.end()?;
+    trees.keys = Some(map);
+    told.word("ok");
+    Ok(())
+}
+
+/// Goes over the keys, as `word` tells. Returns how many were put or removed, or are right.
+fn gone_over(alloc: Global, map: &mut KeyMap, word: &[u8], count: u64, step: u64) -> u64 {
+    let mut found = 0u64;
+    for i in 0..count {
+        let key = i.wrapping_mul(step);
+        let number = map.get(key);
+        let is_own = number == Some(i.wrapping_add(1));
+        let is_counted = match word {
+            b"insert" => number.is_none() && map.insert(alloc, key, i.wrapping_add(1)).is_ok(),
+            b"remove_odd" if i % 2 == 1 => {
+                map.remove(key);
+                is_own
+            }
+            b"right" => is_own,
+            b"right_even" if i % 2 == 1 => number.is_none(),
+            b"right_even" => is_own,
+            _ => false,
+        };
+        found = found.wrapping_add(u64::from(is_counted));
+    }
+    found
+}
+
+/// Tells the key of a number and bytes.
+fn key(words: &mut Words<'_>, told: &mut Told) -> Done {
+    let number = words.number();
+    let bytes = words.bytes();
+    words.end()?;
+    told.hex(&key_of(number, bytes.as_slice()).to_be_bytes());
+    Ok(())
+}
+
+/// Makes a call with a count and a step.
+fn go_over(trees: &mut Trees, word: &[u8], words: &mut Words<'_>, told: &mut Told) -> Done {
+    let count = words.number();
+    let step = words.number();
+    words.end()?;
+    let map = trees.keys.as_mut().ok_or(Fault::BadRow)?;
+    told.number(gone_over(trees.alloc, map, word, count, step));
+    Ok(())
+}
+
+/// Makes a call of keys.
+pub(crate) fn call(trees: &mut Trees, words: &mut Words<'_>, told: &mut Told) -> Done {
+    match words.word() {
+        b"new" => new(trees, words, told),
+        b"key" => key(words, told),
+        word => go_over(trees, word, words, told),
+    }
+}

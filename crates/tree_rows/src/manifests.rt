@@ -1,0 +1,110 @@
+//! `manifest read BYTES`: reads a manifest, or tells the first fault of bytes that are none.
+//! `manifest with BYTES LINE`: does so with LINE, up to the end of the call, and a line feed behind BYTES.
+//! `manifest share`: shares the manifest; the shared one is asked from then on.
+//! `manifest commit`: the commit, in hexadecimal digits. `manifest lines`: how many lines there are behind it.
+//! `manifest line FILE`: the directory, the name, the kind, the permissions and the size of a file.
+//! `manifest child DIR BYTES`: the file that a name gives.
+//! `manifest backing FILE`: the permissions and the size that the backing has for a file, and its count of failures.
+use crate::{Done, Trees, file_of, put_file};
+use checkout::{Backing, ManifestBacking};
+use eden_base::FileId;
+use manifest::{Manifest, ManifestFaultKind};
+use row_words::{Fault, Told, Words};
+
+/// Reads the manifest in `text`.
+fn read_text(trees: &mut Trees, text: &[u8], told: &mut Told) -> Done {
+    match Manifest::read(trees.alloc, text) {
+        Ok(manifest) => {
+            trees.manifest = Some(manifest);
+            told.word("ok");
+        }
+        Err(fault) if fault.kind == ManifestFaultKind::NoMemory => return Err(Fault::NoMemory),
+        Err(fault) => told.word(format!(in trees.alloc; "{fault}")?.as_str()),
+    }
+    Ok(())
+}
+
+/// Reads a manifest.
+fn read(trees: &mut Trees, words: &mut Words<'_>, told: &mut Told) -> Done {
+    let text = words.bytes();
+    words.end()?;
+    read_text(trees, text.as_slice(), told)
+}
+
+/// Reads a manifest with one more line.
+fn read_with(trees: &mut Trees, words: &mut Words<'_>, told: &mut Told) -> Done {
+    let mut text = words.bytes();
+    let line = words.line();
+    words.end()?;
+    text.extend_from_slice(line)?;
+    text.push(b'\n')?;
+    read_text(trees, text.as_slice(), told)
+}
+
+/// Shares the manifest.
+fn share(trees: &mut Trees, told: &mut Told) -> Done {
+    let shared = trees.manifest.as_ref().ok_or(Fault::BadRow)?.share()?;
+    trees.manifest = Some(shared);
+    told.word("ok");
+    Ok(())
+}
+
+/// Tells the line of a file.
+fn line(manifest: &Manifest, file: FileId, told: &mut Told) -> Done {
+    let place = file.0.checked_sub(2).ok_or(Fault::BadRow)?;
+    let line = manifest.lines().get(place as usize).ok_or(Fault::BadRow)?;
+    told.number(line.dir.0);
+    told.bytes(line.name.bytes());
+    told.word(line.kind.name());
+    told.octal(line.perm.bits());
+    told.number(line.size);
+    Ok(())
+}
+
+/// Tells the file that a name gives.
+fn child(manifest: &Manifest, words: &mut Words<'_>, told: &mut Told) -> Done {
+    let dir = file_of(words);
+    let name = words.bytes();
+    words.end()?;
+    put_file(told, manifest.child(dir, name.as_slice()));
+    Ok(())
+}
+
+/// Tells what the backing has for a file.
+fn backing(manifest: &Manifest, file: FileId, told: &mut Told) -> Done {
+    if manifest.content(file).is_none() {
+        return Err(Fault::BadRow);
+    }
+    let mut backing = ManifestBacking::of(manifest);
+    let content = backing.attr(file).ok().ok_or(Fault::BadRow)?;
+    told.octal(content.perm.bits());
+    told.number(content.size);
+    told.number(backing.failures());
+    Ok(())
+}
+
+/// Makes a call on a manifest.
+fn ask(manifest: &Manifest, word: &[u8], words: &mut Words<'_>, told: &mut Told) -> Done {
+    match word {
+        b"commit" => told.hex(&manifest.commit()),
+        b"lines" => told.number(manifest.lines().len() as u64),
+        b"line" => line(manifest, file_of(words), told)?,
+        b"child" => child(manifest, words, told)?,
+        b"backing" => backing(manifest, file_of(words), told)?,
+        _ => words.refuse(),
+    }
+    words.end()
+}
+
+/// Makes a call of manifests.
+pub(crate) fn call(trees: &mut Trees, words: &mut Words<'_>, told: &mut Told) -> Done {
+    match words.word() {
+        b"read" => read(trees, words, told),
+        b"with" => read_with(trees, words, told),
+        b"share" => share(trees, told),
+        word => match trees.manifest.as_ref() {
+            Some(manifest) => ask(manifest, word, words, told),
+            None => Err(Fault::BadRow),
+        },
+    }
+}

@@ -1,0 +1,200 @@
+//! `map new LIMIT`: makes an empty map that may keep so many attributes loaded.
+//! `map one NUMBER COUNT PLACE`: makes a map of one entry, at `named NAME` in the root or at `mark FILE`.
+//! `map give PARENT NAME`: gives a number to a name, and tells it. `map find PARENT NAME`: the number of a name.
+//! `map give_ready PARENT NAME`: makes room first, and gives a number in it. `map reserve`: makes room.
+//! `map forget NUMBER COUNT`: forgets, and tells what that came to. `map foresee NUMBER COUNT`: what it would come to.
+//! `map move NUMBER PARENT NAME FILE`: makes room, and moves a number; FILE stands there, or `none`.
+//! `map unlink NUMBER FILE`: takes the name of a number, which names FILE from then on.
+//! `map load NUMBER`: loads attributes for a number, with the number as their size.
+//! These three tell `refused` where a condition of the call does not hold, and then make no call.
+//! `map attr NUMBER`: the loaded attributes of a number. `map unload`: unloads the oldest, if there are any.
+//! `map place NUMBER`: the directory and the name of a number, or `mark` and a file. `map count NUMBER`: its count.
+//! `map after NUMBER`: the next number that has an entry. `map know NUMBER`: whether a number is known.
+//! `map at`: the next number, and how many forgets were bad. `map kept`: how many entries there are.
+//! `map entries`: how many entries there are, and the number, the place and the count of each, with a slash before it.
+//! `map list`: what `map at` tells, and the entries in that way, as each is asked by itself. `lost` stands behind an entry
+//! whose name does not lead to its number.
+//! `map locate NUMBER`: the file that a number names in the tree.
+use crate::numbers::{given_ready, loaded, move_to, new, one, put_made, tell_given, unlinked};
+use crate::{Done, Trees, ended, file_of, put, put_attr, put_file};
+use eden_base::{FileId, Number, Place};
+use inode_map::{InodeMap, Kept};
+use row_words::{Fault, Told, Words};
+use std::alloc::Global;
+
+/// How many entries a list may have.
+const MOST_ENTRIES: u64 = 1 << 20;
+
+/// Writes where a number stands.
+fn put_place(told: &mut Told, place: Option<&Place>) {
+    match place {
+        Some(Place::Linked { parent, name }) => {
+            told.number(parent.0);
+            told.bytes(name.bytes());
+        }
+        Some(Place::Unlinked { file }) => {
+            told.word("mark");
+            told.number(file.0);
+        }
+        None => told.word("none"),
+    }
+}
+
+/// Writes entries.
+fn put_entries(told: &mut Told, entries: &[Kept]) {
+    for entry in entries {
+        told.word("/");
+        told.number(entry.number.0);
+        put_place(told, Some(&entry.place));
+        told.number(entry.count);
+    }
+}
+
+/// Writes the entry of a number.
+fn put_entry(told: &mut Told, map: &InodeMap, number: Number) {
+    told.word("/");
+    told.number(number.0);
+    put_place(told, map.entry(number));
+    told.number(map.count(number));
+    if let Some(Place::Linked { parent, name }) = map.entry(number) {
+        if map.number_for(*parent, name) != Some(number) {
+            told.word("lost");
+        }
+    }
+}
+
+/// Writes each entry as it is asked by itself.
+fn put_each(told: &mut Told, map: &InodeMap) {
+    let mut last = Number::ROOT;
+    for _entry in 0..MOST_ENTRIES {
+        let Some(number) = map.after(last) else {
+            return;
+        };
+        put_entry(told, map, number);
+        last = number;
+    }
+}
+
+/// Gives a number to a name.
+fn give(alloc: Global, map: &mut InodeMap, words: &mut Words<'_>, told: &mut Told) -> Done {
+    let parent = Number(words.number());
+    let name = words.name();
+    let name = ended(words, name)?;
+    tell_given(map.give(alloc, parent, &name), told)
+}
+
+/// Gives a number to a name in room that is made first.
+fn give_ready(alloc: Global, map: &mut InodeMap, words: &mut Words<'_>, told: &mut Told) -> Done {
+    let parent = Number(words.number());
+    let name = words.name();
+    let name = ended(words, name)?;
+    map.reserve(alloc)?;
+    tell_given(given_ready(map, parent, name), told)
+}
+
+/// Tells the number of a name.
+fn find(map: &InodeMap, words: &mut Words<'_>, told: &mut Told) -> Done {
+    let parent = Number(words.number());
+    let name = words.name();
+    let name = ended(words, name)?;
+    put(told, map.number_for(parent, &name).map(|number| number.0));
+    Ok(())
+}
+
+/// Tells the file that a number names in the tree.
+fn locate(trees: &mut Trees, words: &mut Words<'_>, told: &mut Told) -> Done {
+    let number = Number(words.number());
+    words.end()?;
+    let tree = trees.tree.as_ref().ok_or(Fault::BadRow)?;
+    let map = trees.map.as_mut().ok_or(Fault::BadRow)?;
+    put_file(told, map.locate(tree, number));
+    Ok(())
+}
+
+/// Makes a call with a number and another one.
+fn call_two(map: &mut InodeMap, word: &[u8], words: &mut Words<'_>, told: &mut Told) -> Done {
+    let number = Number(words.number());
+    let other = words.number();
+    words.end()?;
+    match word {
+        b"forget" => told.word(map.forget(number, other).name()),
+        b"foresee" => told.word(map.forgot(number, other).name()),
+        _ => put_made(told, unlinked(map, number, FileId(other))),
+    }
+    Ok(())
+}
+
+/// Makes a call with a number.
+fn call_number(map: &mut InodeMap, word: &[u8], words: &mut Words<'_>, told: &mut Told) -> Done {
+    let number = Number(words.number());
+    words.end()?;
+    match word {
+        b"load" => put_made(told, loaded(map, number)),
+        b"attr" => put_attr(told, map.attr(number)),
+        b"place" => put_place(told, map.entry(number)),
+        b"count" => told.number(map.count(number)),
+        b"after" => put(told, map.after(number).map(|number| number.0)),
+        b"know" => told.flag(map.known(number)),
+        _ => return Err(Fault::BadRow),
+    }
+    Ok(())
+}
+
+/// Makes a call that has no word more.
+fn call_all(alloc: Global, map: &mut InodeMap, word: &[u8], told: &mut Told) -> Done {
+    match word {
+        b"reserve" => {
+            map.reserve(alloc)?;
+            told.word("ok");
+        }
+        b"unload" => told.flag(map.unload_oldest()),
+        b"kept" | b"entries" => {
+            let entries = map.to_entries(alloc)?;
+            told.number(entries.len() as u64);
+            if word == b"entries".as_slice() {
+                put_entries(told, entries.as_slice());
+            }
+        }
+        b"at" | b"list" => {
+            told.number(map.next());
+            told.number(map.bad_items());
+            if word == b"list".as_slice() {
+                put_each(told, map);
+            }
+        }
+        _ => return Err(Fault::BadRow),
+    }
+    Ok(())
+}
+
+/// Makes a call on a map.
+fn call_on(
+    alloc: Global,
+    map: &mut InodeMap,
+    word: &[u8],
+    words: &mut Words<'_>,
+    told: &mut Told,
+) -> Done {
+    match word {
+        b"give" => give(alloc, map, words, told),
+        b"give_ready" => give_ready(alloc, map, words, told),
+        b"find" => find(map, words, told),
+        b"move" => move_to(alloc, map, words, told),
+        b"forget" | b"foresee" | b"unlink" => call_two(map, word, words, told),
+        _ if words.has_more() => call_number(map, word, words, told),
+        _ => call_all(alloc, map, word, told),
+    }
+}
+
+/// Makes a call of maps.
+pub(crate) fn call(trees: &mut Trees, words: &mut Words<'_>, told: &mut Told) -> Done {
+    match words.word() {
+        b"new" => new(trees, words, told),
+        b"one" => one(trees, words, told),
+        b"locate" => locate(trees, words, told),
+        word => match trees.map.as_mut() {
+            Some(map) => call_on(trees.alloc, map, word, words, told),
+            None => Err(Fault::BadRow),
+        },
+    }
+}
