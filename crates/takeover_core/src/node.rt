@@ -362,6 +362,4 @@ impl Node {
 }
 
 #[cfg(test)]
-mod table_tests;
-#[cfg(test)]
 mod tests;
