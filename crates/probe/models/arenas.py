@@ -2,7 +2,7 @@
 """Prints data/arenas_chance.rows: calls by chance of an arena of six values, with what a plain list gives."""
 
 CAPACITY = 6
-CALLS = 2_500
+CALLS = 20_000
 
 
 def numbers_by_chance():
