@@ -24,7 +24,6 @@ const MOST: usize = 1 << 62;
 /// Members, first in first out, of which each is also reached and removed by its index. They stand in rings, and rings in
 /// groups. A search goes over groups, then over the rings of one group. What stands behind a removed member moves in one
 /// ring alone. A short queue is one ring, the back.
-#[derive(Drop)]
 pub struct BlockQueue<T> {
     alloc: Global,
     /// The first ring.
@@ -37,6 +36,19 @@ pub struct BlockQueue<T> {
     back: VecDeque<T>,
     /// How many members can be appended without memory.
     room: usize,
+}
+
+impl<T: Drop> Drop for BlockQueue<T> {
+    fn drop(self) {
+        let BlockQueue {
+            alloc: _,
+            front: _,
+            groups: _,
+            rings: _,
+            back: _,
+            room: _,
+        } = self;
+    }
 }
 
 impl<T> Model for BlockQueue<T> {

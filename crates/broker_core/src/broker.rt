@@ -45,13 +45,24 @@ pub enum IssueFault {
 }
 
 /// What the kernel holds, who serves the mount, and what is under way between them. Contracts see a `BrokerState`.
-#[derive(Drop)]
 pub struct Broker {
     seat: Option<Seat>,
     last: u64,
     held: Held,
     next_unique: u64,
     traffic: Traffic,
+}
+
+impl Drop for Broker {
+    fn drop(self) {
+        let Broker {
+            seat: _,
+            last: _,
+            held: _,
+            next_unique: _,
+            traffic: _,
+        } = self;
+    }
 }
 
 impl Model for Broker {

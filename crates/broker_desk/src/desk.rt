@@ -22,12 +22,22 @@ use std::marker::Model;
 pub const MAX_DAEMONS: usize = 1024;
 
 /// The broker, the daemons that attached to it, and whether the desk is closed for all. Contracts see a `DeskState`.
-#[derive(Drop)]
 pub struct Desk {
     alloc: Global,
     broker: Broker,
     daemons: Vec<Standing>,
     is_closed: bool,
+}
+
+impl Drop for Desk {
+    fn drop(self) {
+        let Desk {
+            alloc: _,
+            broker: _,
+            daemons: _,
+            is_closed: _,
+        } = self;
+    }
 }
 
 impl Model for Desk {

@@ -5,9 +5,14 @@ use std::marker::Model;
 
 /// Any bytes, for example a FUSE message or an image. `Bytes` are made of a `Vec`, and turned back into one, without
 /// taking memory.
-#[derive(Drop)]
 pub struct Bytes {
     bytes: Vec<u8>,
+}
+
+impl Drop for Bytes {
+    fn drop(self) {
+        let Bytes { bytes: _ } = self;
+    }
 }
 
 impl Model for Bytes {
@@ -37,7 +42,8 @@ impl Bytes {
     pub fn into_vec(self) -> Vec<u8>
         ensures bytes { result.items ≡ self }
     {
-        self.bytes
+        let Bytes { bytes } = self;
+        bytes
     }
 }
 

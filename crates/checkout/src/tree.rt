@@ -30,7 +30,6 @@ use std::marker::Model;
 /// from the manifest, or did before a file came back to its name: the made files, the added links, the manifest's files
 /// that lost their link, and how many links each directory lost. The room for losses is taken at once, so that every
 /// name can be removed without memory.
-#[derive(Drop)]
 pub struct Tree {
     alloc: Global,
     manifest: Manifest,
@@ -39,6 +38,20 @@ pub struct Tree {
     gone: UnlinkedFiles,
     lost: Tally,
     next_file: u64,
+}
+
+impl Drop for Tree {
+    fn drop(self) {
+        let Tree {
+            alloc: _,
+            manifest: _,
+            made: _,
+            added: _,
+            gone: _,
+            lost: _,
+            next_file: _,
+        } = self;
+    }
 }
 
 impl Model for Tree {

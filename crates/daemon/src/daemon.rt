@@ -28,11 +28,20 @@ use takeover_core::{DrainFault, Heard, Message, Node, Phase, Versions};
 
 /// A daemon. `node` is its part in takeovers, and `server` is what it serves, if it serves. `reading` has the parts of
 /// an image that it read, while it waits for another part. Clauses see a daemon as a `DaemonState`.
-#[derive(Drop)]
 pub struct Daemon {
     node: Node,
     server: Option<Server>,
     reading: Option<PartReader>,
+}
+
+impl Drop for Daemon {
+    fn drop(self) {
+        let Daemon {
+            node: _,
+            server: _,
+            reading: _,
+        } = self;
+    }
 }
 
 impl Model for Daemon {

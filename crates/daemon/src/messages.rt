@@ -6,9 +6,14 @@ use std::marker::Model;
 use takeover_core::Message;
 
 /// Messages in the order in which they are said. Clauses see them as a list.
-#[derive(Drop)]
 pub struct Messages {
     list: Option<VecDeque<Message>>,
+}
+
+impl Drop for Messages {
+    fn drop(self) {
+        let Messages { list: _ } = self;
+    }
 }
 
 impl Model for Messages {
@@ -65,7 +70,8 @@ impl Messages {
         requires room { vec_len others.old + length self ≤ vec_capacity others.old }
         ensures appended { others.new.items ≡ others.old.items ++ self }
     {
-        if let Some(list) = self.list {
+        let Messages { list } = self;
+        if let Some(list) = list {
             put_behind(others, list.into_vec());
         }
     }

@@ -22,7 +22,6 @@ use std::marker::Model;
 
 /// What a daemon serves. `hand` has what the daemon took and did not work yet, `unposted` the replies that it did not
 /// post yet. Clauses see a server as a `ServerState`.
-#[derive(Drop)]
 pub struct Server {
     alloc: Global,
     generation: u64,
@@ -32,6 +31,20 @@ pub struct Server {
     /// Room for the ask that is taken next, from a take's reservation on. What stands in it means nothing.
     ask_room: Option<Box<Ask>>,
     unposted: BlockQueue<Reply>,
+}
+
+impl Drop for Server {
+    fn drop(self) {
+        let Server {
+            alloc: _,
+            generation: _,
+            manifest: _,
+            served: _,
+            hand: _,
+            ask_room: _,
+            unposted: _,
+        } = self;
+    }
 }
 
 impl Model for Server {
@@ -78,10 +91,13 @@ impl Server {
         ensures served { result.served ≡ self.served }
     {
         let Server {
+            alloc: _,
             generation,
             manifest,
             served,
-            ..
+            hand: _,
+            ask_room: _,
+            unposted: _,
         } = self;
         Lease {
             generation,

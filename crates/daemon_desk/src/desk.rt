@@ -32,7 +32,6 @@ struct Prepared {
 
 /// A daemon, the manifest of its checkout, what it prepared for a mount, and whether workers have its lease. Contracts
 /// see it as a `DeskState`.
-#[derive(Drop)]
 pub struct DaemonDesk {
     alloc: Global,
     daemon: Daemon,
@@ -40,6 +39,19 @@ pub struct DaemonDesk {
     limit: usize,
     prepared: Option<Prepared>,
     is_lent: bool,
+}
+
+impl Drop for DaemonDesk {
+    fn drop(self) {
+        let DaemonDesk {
+            alloc: _,
+            daemon: _,
+            manifest: _,
+            limit: _,
+            prepared: _,
+            is_lent: _,
+        } = self;
+    }
 }
 
 impl Model for DaemonDesk {

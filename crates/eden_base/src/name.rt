@@ -20,9 +20,14 @@ use thiserror::Error;
 const SHORT: usize = 16;
 
 /// The name of a directory entry, as `path_resolution(7)` defines it. Its bytes need not be UTF-8.
-#[derive(Drop)]
 pub struct Name {
     bytes: SmallVec<u8, SHORT>,
+}
+
+impl Drop for Name {
+    fn drop(self) {
+        let Name { bytes: _ } = self;
+    }
 }
 
 impl Model for Name {

@@ -31,7 +31,6 @@ pub(crate) type Slot = (u64, Option<Entry>);
 /// `is_reserved`, there is room for the slot of the next number. `way` has room for a walk past all entries. `near` is
 /// the index of the slot that was added or lowered last, if no empty slot was dropped since: calls for one number mostly
 /// follow one another.
-#[derive(Drop)]
 pub struct Table {
     slots: Vec<Slot>,
     index: Index,
@@ -39,6 +38,19 @@ pub struct Table {
     is_reserved: bool,
     way: Vec<Number>,
     near: usize,
+}
+
+impl Drop for Table {
+    fn drop(self) {
+        let Table {
+            slots: _,
+            index: _,
+            next: _,
+            is_reserved: _,
+            way: _,
+            near: _,
+        } = self;
+    }
 }
 
 impl Model for Table {

@@ -10,12 +10,22 @@ use std::marker::Model;
 
 /// The bytes of a stream that were fed and not read yet, and the fault that was met, if any. Contracts see a
 /// `ReaderState`.
-#[derive(Drop)]
 pub struct FrameReader {
     alloc: Global,
     bytes: Vec<u8>,
     read: usize,
     fault: Option<FrameFault>,
+}
+
+impl Drop for FrameReader {
+    fn drop(self) {
+        let FrameReader {
+            alloc: _,
+            bytes: _,
+            read: _,
+            fault: _,
+        } = self;
+    }
 }
 
 impl Model for FrameReader {

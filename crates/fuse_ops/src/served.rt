@@ -27,10 +27,15 @@ use std::alloc::Global;
 use std::marker::Model;
 
 /// The numbers that a daemon gave, over the tree of its checkout.
-#[derive(Drop)]
 pub struct Served {
     map: InodeMap,
     tree: Tree,
+}
+
+impl Drop for Served {
+    fn drop(self) {
+        let Served { map: _, tree: _ } = self;
+    }
 }
 
 impl Model for Served {

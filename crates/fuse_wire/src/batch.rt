@@ -10,9 +10,14 @@ use std::marker::Model;
 
 /// The items of a batch, at most 256, in order. They stand in separate memory, so that a `Request` has at most 80
 /// bytes. With 256 items inside, a `Request` would have 4,112 bytes, which are moved at every step.
-#[derive(Drop)]
 pub struct Batch {
     items: Vec<Item>,
+}
+
+impl Drop for Batch {
+    fn drop(self) {
+        let Batch { items: _ } = self;
+    }
 }
 
 impl Model for Batch {

@@ -64,11 +64,20 @@ pub enum GiveFault {
 }
 
 /// The entries, the next number, how many bad forgets came, and the loaded attributes. Contracts see a `MapState`.
-#[derive(Drop)]
 pub struct InodeMap {
     table: Table,
     bad_items: u64,
     loaded: Nodes<LoadedAttr>,
+}
+
+impl Drop for InodeMap {
+    fn drop(self) {
+        let InodeMap {
+            table: _,
+            bad_items: _,
+            loaded: _,
+        } = self;
+    }
 }
 
 impl Model for InodeMap {

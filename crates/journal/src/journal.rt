@@ -15,10 +15,18 @@ pub struct Record {
 
 /// The records of a round, in the order of its turns. Contracts see a `JournalState`: the records, and how many more
 /// there is room for.
-#[derive(Drop)]
 pub struct Journal {
     records: Vec<Record>,
     room: usize,
+}
+
+impl Drop for Journal {
+    fn drop(self) {
+        let Journal {
+            records: _,
+            room: _,
+        } = self;
+    }
 }
 
 impl Model for Journal {

@@ -27,12 +27,22 @@ struct CopyRoom {
 /// The receipts of a worker in the order of its turns, with memory for more. One spare room, of some 4.6 kB, is there
 /// for the copy of a request if memory is refused. A room for each turn would cost more than the turn. Contracts see a
 /// `ReceiptsState`: the receipts, the count of free places, and whether the spare room is there.
-#[derive(Drop)]
 pub struct Receipts {
     alloc: Global,
     receipts: Vec<Receipt>,
     places: usize,
     spare: Option<CopyRoom>,
+}
+
+impl Drop for Receipts {
+    fn drop(self) {
+        let Receipts {
+            alloc: _,
+            receipts: _,
+            places: _,
+            spare: _,
+        } = self;
+    }
 }
 
 impl Model for Receipts {

@@ -13,11 +13,16 @@ const CELLS: usize = 4;
 /// Numbers by keys. A key's number stands in the first tier in which the key's bucket had an empty cell, and in a tree
 /// if none had. Of 64,000 keys of names none stands in the tree, and a search for one looks at 1.2 buckets. However
 /// keys are chosen, a search looks at three buckets and goes one way down the tree.
-#[derive(Drop)]
 pub struct KeyMap {
     tiers: Tier<Tier<Tier<Tree>>>,
     /// How many numbers there are.
     held: usize,
+}
+
+impl Drop for KeyMap {
+    fn drop(self) {
+        let KeyMap { tiers: _, held: _ } = self;
+    }
 }
 
 impl KeyMap {

@@ -16,10 +16,18 @@ use std::sync::Arc;
 
 /// The files of a checkout at a commit, each directory before what it holds. Every daemon of a mount gets the same
 /// manifest.
-#[derive(Drop)]
 pub struct Manifest {
     commit: [u8; 20],
     lines: Arc<Lines>,
+}
+
+impl Drop for Manifest {
+    fn drop(self) {
+        let Manifest {
+            commit: _,
+            lines: _,
+        } = self;
+    }
 }
 
 impl Model for Manifest {

@@ -18,12 +18,22 @@ use std::marker::Model;
 
 /// Reads an image whose bytes come in pieces. What is whole of the bytes is kept as lists, and what is cut off waits
 /// for the next piece. Contracts see the bytes that the reader took.
-#[derive(Drop)]
 pub struct ImageReader {
     taken: Taken,
     reading: Reading,
     tail: Vec<u8>,
     fault: Option<ImageFault>,
+}
+
+impl Drop for ImageReader {
+    fn drop(self) {
+        let ImageReader {
+            taken: _,
+            reading: _,
+            tail: _,
+            fault: _,
+        } = self;
+    }
 }
 
 impl Model for ImageReader {
@@ -98,10 +108,10 @@ impl ImageReader {
         ensures exact { Tells (λ image. image) result (image_of_bytes self) }
     {
         let ImageReader {
+            taken: _,
             reading,
             tail,
             fault,
-            ..
         } = self;
         if let Some(fault) = fault {
             return Err(fault);

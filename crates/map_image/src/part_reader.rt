@@ -15,12 +15,22 @@ use std::marker::Model;
 /// Takes the parts of an image and finds their first fault. A part is kept as its bytes, which take less memory than
 /// what is read of them. What was read is dropped but for the last member of each list, which the next one has to
 /// follow. Contracts see the bytes that the reader took.
-#[derive(Drop)]
 pub struct PartReader {
     parts: Vec<Bytes>,
     reading: Reading,
     tail: Vec<u8>,
     fault: Option<ImageFault>,
+}
+
+impl Drop for PartReader {
+    fn drop(self) {
+        let PartReader {
+            parts: _,
+            reading: _,
+            tail: _,
+            fault: _,
+        } = self;
+    }
 }
 
 impl Model for PartReader {

@@ -16,9 +16,14 @@ use std::marker::Model;
 pub const MAX_ASKS: usize = 1024;
 
 /// The asks of a real kernel that a desk took and whose replies were not delivered. Contracts see a list of pairs.
-#[derive(Drop)]
 pub struct Kernel {
     pairs: Vec<Pair>,
+}
+
+impl Drop for Kernel {
+    fn drop(self) {
+        let Kernel { pairs: _ } = self;
+    }
 }
 
 impl Model for Kernel {

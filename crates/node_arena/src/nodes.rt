@@ -14,13 +14,23 @@ use std::marker::Model;
 const START: usize = 0;
 
 /// At most `capacity` values, each in its own node with a slot, in the order of their last use.
-#[derive(Drop)]
 pub struct Nodes<T> {
     region: Region<T>,
     /// Leads to the first spare node, if there is one. Each spare node leads on to the next.
     spare: Link,
     capacity: u32,
     len: u32,
+}
+
+impl<T: Drop> Drop for Nodes<T> {
+    fn drop(self) {
+        let Nodes {
+            region: _,
+            spare: _,
+            capacity: _,
+            len: _,
+        } = self;
+    }
 }
 
 impl<T> Model for Nodes<T> {

@@ -23,7 +23,6 @@ use takeover_core::{Message, Versions};
 
 /// All daemons in the order of their start, the kernel's side, and every message that a daemon said. No message is
 /// removed: any daemon may hear it, any number of times or never.
-#[derive(Drop)]
 pub struct World {
     alloc: Global,
     manifest: Manifest,
@@ -31,6 +30,19 @@ pub struct World {
     broker: Broker,
     daemons: Vec<Daemon>,
     messages: Vec<Message>,
+}
+
+impl Drop for World {
+    fn drop(self) {
+        let World {
+            alloc: _,
+            manifest: _,
+            limit: _,
+            broker: _,
+            daemons: _,
+            messages: _,
+        } = self;
+    }
 }
 
 impl Model for World {

@@ -8,7 +8,7 @@ use Rattle.checkout.proofs.AddedNames.{adds-at, alike-AreNamesOf}
 use Rattle.checkout.proofs.AddedPlaces.{no_place}
 use Rattle.checkout.proofs.added.Added.insert.Goals as goal
 
-kept-in_err-raise : (c : goal.Joined-own-2) → AreLinks (links_of c.self.inside.places.entries) (place_of_file c.reserve.new.self) c.self.inside.names (counted c.raise.new.counts)
+kept-in_err-raise : (c : goal.After-drop-own-in_err-raise) → AreLinks (links_of c.self.inside.places.entries) (place_of_file c.reserve.new.self) c.self.inside.names (counted c.raise.new.counts)
 kept-in_err-raise c =
     let i = c.self.inside in
     alike-AreLinks (links_of i.places.entries) (place_of_file i.places) i.names (counted i.counts) c.self.invariant.1 (place_of_file c.reserve.new.self) i.names (counted c.raise.new.counts) c.in_ok-reserve.ensures.entries.2 c.self.invariant.1.are_names (λ d. let now = c.in_err-raise.ensures d in omega arith)
@@ -21,7 +21,7 @@ returns-in_err-raise-clause-err c =
     let is = (shown-AreLinks c.reserve.new.self.entries c.in_ok-reserve.ensures.unique _ _ _ (kept-in_err-raise c)).0 ∙ c.self.view_is in
     grind (arith, is, c.from_residual-in_err-raise.ensures)
 
-kept-in_default : (c : goal.Joined-own-3) → AreLinks (links_of c.self.inside.places.entries) (place_of_file c.reserve.new.self) c.add.new.self (counted c.lower.new.counts)
+kept-in_default : (c : goal.After-drop-own-in_default) → AreLinks (links_of c.self.inside.places.entries) (place_of_file c.reserve.new.self) c.add.new.self (counted c.lower.new.counts)
 kept-in_default c =
     let i = c.self.inside in
     alike-AreLinks (links_of i.places.entries) (place_of_file i.places) i.names (counted i.counts) c.self.invariant.1 (place_of_file c.reserve.new.self) c.add.new.self (counted c.lower.new.counts) c.in_ok-reserve.ensures.entries.2
