@@ -8,6 +8,7 @@ HERE = os.path.dirname(os.path.abspath(__file__))
 BYTE = re.compile(r"%([0-9A-Fa-f]{2})")
 PLACE = re.compile(r"\{(\w+)((?:[-+*]\d+)*)(?::(\d+))?\}")
 STEP = re.compile(r"([-+*])(\d+)")
+COPIES = re.compile(r"\{([^{}^]+)\^(\d+)\}")
 
 
 class Case:
@@ -38,7 +39,7 @@ def plain(text):
 
 
 def filled(text, counts):
-    """Returns a text with the numbers of the `each` around it."""
+    """Returns a text with the numbers of the `each` around it, and with its copies."""
 
     def number(found):
         if found[1] not in counts:
@@ -48,7 +49,9 @@ def filled(text, counts):
             count = count * int(by) if sign == "*" else count + int(sign + by)
         return str(count).zfill(int(found[3] or 0))
 
-    return PLACE.sub(number, text) if counts and "{" in text else text
+    if "{" not in text:
+        return text
+    return COPIES.sub(lambda found: found[1] * int(found[2]), PLACE.sub(number, text) if counts else text)
 
 
 def end_of(rows, at, file):
