@@ -498,3 +498,27 @@ class World:
         else:
             daemon.phase = "Holding" if daemon.phase == "Handed" else "Serving"
         return "heard"
+
+
+# ---- rows
+
+
+class Script:
+    """A case whose rows are printed as a plain world makes its events."""
+
+    def __init__(self, title, name, manifest):
+        self.world = World(manifest)
+        print(f"\ncase {title}\nmanifest @{name}")
+
+    def play(self, *lines):
+        """Prints the rows of events, and returns what the last one prints first."""
+        for line in lines:
+            told = self.world.play(line)
+            print("\n= ".join([f"{line} = {told[0]}", *told[1:]]))
+        return told[0]
+
+
+def print_text(name, lines):
+    """Prints the rows of a text."""
+    for line in lines:
+        print(f"|{name} {line}")
