@@ -1,4 +1,5 @@
 """The cases of a rows file: the script of each, and the lines that it prints. tests/scripts says what a row is."""
+import io
 import os
 import re
 import subprocess
@@ -21,7 +22,11 @@ class Case:
 
     def script(self):
         """Returns the bytes of the script."""
-        return b"".join([*(line + b"\n" for line in self.manifest), b"--\n", *(line + b"\n" for _, line in self.events)])
+        return plain("".join(f"{line}\n" for line in [*self.manifest, "--", *self.events]))
+
+    def output(self):
+        """Returns the bytes that the script prints."""
+        return plain("".join(f"{text}\n" for _, text in self.printed))
 
     def wanted_status(self):
         return int(self.fault) if self.status is None else self.status
@@ -49,79 +54,69 @@ def filled(text, counts):
             count = count * int(by) if sign == "*" else count + int(sign + by)
         return str(count).zfill(int(found[3] or 0))
 
-    if "{" not in text:
-        return text
     return COPIES.sub(lambda found: found[1] * int(found[2]), PLACE.sub(number, text) if counts else text)
 
 
-def end_of(rows, at, file):
-    """Returns the index of the `end` of the `each` at an index."""
-    depth = 0
-    for index in range(at, len(rows)):
-        depth += rows[index][1].startswith("each ") - (rows[index][1] == "end")
+def to_the_end(rows, file, line):
+    """Returns the rows up to the `end` of an `each`."""
+    inner, depth = [], 1
+    for at, row in rows:
+        depth += row.startswith("each ") - (row == "end")
         if depth == 0:
-            return index
-    return wrong(file, rows[at][0], "no end")
+            return inner
+        inner.append((at, row))
+    return wrong(file, line, "no end")
 
 
 def expanded(rows, counts, file):
-    """Tells each row as often as the `each` around it say."""
-    at = 0
-    while at < len(rows):
-        line, row = rows[at]
+    """Tells each row as often as the `each` around it say, but for comments."""
+    for line, row in rows:
         if row.startswith("each "):
-            words, end = filled(row, counts).split(" "), end_of(rows, at, file)
+            words, inner = filled(row, counts).split(" "), to_the_end(rows, file, line)
             if len(words) != 4:
                 wrong(file, line, "each NAME FIRST LAST")
             for count in range(int(words[2]), int(words[3]) + 1):
-                yield from expanded(rows[at + 1 : end], {**counts, words[1]: count}, file)
-            at = end
-        else:
-            yield line, filled(row, counts)
-        at += 1
-
-
-def text_of(texts, word, file, line):
-    """Returns the lines of the text that a word @NAME names."""
-    if not word.startswith("@") or word[1:] not in texts:
-        wrong(file, line, "no such text")
-    return texts[word[1:]]
+                yield from expanded(iter(inner), {**counts, words[1]: count}, file)
+        elif row and row[0] != "#":
+            yield line, filled(row, counts) if "{" in row else row
 
 
 def put(case, line, row):
     """Adds a row to its case."""
     word, _, rest = row.partition(" ")
     if word == "manifest":
-        case.manifest = text_of(case.texts, rest, case.file, line)
+        if rest[1:] not in case.texts:
+            wrong(case.file, line, "no such text")
+        case.manifest = case.texts[rest[1:]]
     elif word == "words" and not case.events:
         case.words = rest.split(" ")
     elif word == "fault:":
-        case.printed.append((line, plain(row)))
+        case.printed.append((line, row))
         case.fault = True
     elif word == "status":
         case.status = int(rest)
     elif word == "=":
-        case.printed.append((line, plain(rest)))
+        case.printed.append((line, rest))
     else:
         event, sign, printed = row.partition(" = ")
-        case.events.append((line, plain(event)))
+        case.events.append(event)
         if sign:
-            case.printed.append((line, plain(printed)))
+            case.printed.append((line, printed))
 
 
-def cases_in(file, text):
-    """Tells the cases of a file with this text."""
-    rows = [(at, row) for at, row in enumerate(text.decode("latin-1").split("\n"), 1) if row and not row.startswith("#")]
+def cases_in(file, lines):
+    """Tells the cases of a file with these lines."""
+    rows = ((at, line.removesuffix("\n")) for at, line in enumerate(lines, 1))
     texts, case = {}, None
     for line, row in expanded(rows, {}, file):
         if row.startswith("case "):
             if case:
                 yield case
             case = Case(file, line, row.removeprefix("case "), texts)
-        elif row.startswith("|"):
+        elif row[0] == "|":
             name, _, rest = row[1:].partition(" ")
             known = case.texts if case else texts
-            known[name] = [*known.get(name, []), plain(rest)]
+            known[name] = [*known.get(name, []), rest]
         elif case:
             put(case, line, row)
         else:
@@ -139,14 +134,22 @@ def files():
     return [*(f"{HERE}/{name}" for name in names), *(f"{HERE}/models/{name}" for name in models)]
 
 
+def lines_of(path):
+    """Tells the lines of a file, or of what a model prints."""
+    how = {"encoding": "latin-1", "newline": "\n"}
+    if not path.endswith(".py"):
+        with open(path, **how) as file:
+            yield from file
+        return
+    with subprocess.Popen([sys.executable, path], stdout=subprocess.PIPE) as model:
+        yield from io.TextIOWrapper(model.stdout, **how)
+    if model.returncode != 0:
+        sys.exit(f"{path}: status {model.returncode}")
+
+
 def cases_of(path):
     """Tells the cases of a file of rows, or of the rows that a model prints."""
-    if path.endswith(".py"):
-        text = subprocess.run([sys.executable, path], stdout=subprocess.PIPE, check=True).stdout
-    else:
-        with open(path, "rb") as file:
-            text = file.read()
-    for case in cases_in(os.path.relpath(path), text):
+    for case in cases_in(os.path.relpath(path), lines_of(path)):
         if case.manifest is None:
             wrong(case.file, case.line, "no manifest")
         yield case

@@ -10,7 +10,8 @@ class Refused(Exception):
 
 
 class Served:
-    """What one daemon serves: a tree of files, and the numbers that it gave with their counts."""
+    """What one daemon serves: a tree of files, and the numbers that it gave with their counts. A copy is changed, never what
+    others share."""
 
     def __init__(self, manifest):
         self.files, self.links, self.made = {1: ("dir", "0755", 0)}, {}, []
@@ -237,9 +238,8 @@ class Daemon:
         self.generation = self.session = self.version = self.next_part = self.parts = None
 
     def copy(self):
-        other = Daemon(self.versions)
+        other = Daemon.__new__(Daemon)
         vars(other).update(vars(self))
-        other.served = self.served and self.served.copy()
         other.hand, other.unposted = list(self.hand), list(self.unposted)
         return other
 
@@ -256,7 +256,7 @@ class World:
         self.asks, self.forgets, self.posted = [], [], []
 
     def copy(self):
-        other = World(self.manifest)
+        other = World.__new__(World)
         vars(other).update(vars(self))
         other.daemons, other.messages = [it.copy() for it in self.daemons], list(self.messages)
         other.held, other.asks, other.forgets = dict(self.held), list(self.asks), list(self.forgets)
@@ -318,6 +318,7 @@ class World:
         if not 1 <= position <= len(daemon.hand):
             raise Refused("NoSuch")
         unique, what = daemon.hand.pop(position - 1)
+        daemon.served = daemon.served.copy()
         if unique is None:
             return f"forgot {daemon.served.forget(*what)}"
         daemon.unposted.append((unique, answered(daemon.served, what)))
@@ -463,7 +464,7 @@ class World:
         if daemon.phase != "Pinged" or daemon.session != session:
             return None
         length, generation = daemon.served.image_length(daemon.version), daemon.generation
-        daemon.phase, image = "Handed", daemon.served.copy()
+        daemon.phase, image = "Handed", daemon.served
         if daemon.version == 1:
             told = self.say("data", session, generation, length)
             self.messages[-1] = ("data", session, generation, image)
@@ -475,7 +476,7 @@ class World:
     def hear_data(self, daemon, session, generation, image):
         if daemon.phase != "Chosen" or daemon.session != session or daemon.version != 1:
             return None
-        daemon.phase, daemon.generation, daemon.served = "Holding", generation, image.copy()
+        daemon.phase, daemon.generation, daemon.served = "Holding", generation, image
         return "heard"
 
     def hear_part(self, daemon, session, generation, part, parts, image):
@@ -487,7 +488,7 @@ class World:
             return None
         daemon.phase, daemon.next_part = "Reading", part + 1
         if part == parts:
-            daemon.phase, daemon.served = "Holding", image.copy()
+            daemon.phase, daemon.served = "Holding", image
         return "heard"
 
     def hear_failed(self, daemon, session):

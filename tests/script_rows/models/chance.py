@@ -86,15 +86,15 @@ def main():
     for turn in range(TAKEOVERS):
         for _ in range(REQUESTS):
             dice = (dice * 6364136223846793005 + 1442695040888963407) % 2**64
-            served = script.world.daemons[script.world.seat - 1].served
-            before = dict(served.links)
-            script.play(f"do {Chooser(served).request(dice // 2**31)}", "show")
-            moves += any(served.links.get(place) in before.values() and before.get(place) != file
-                         for place, file in served.links.items())
-            replaced += any(place in before and before[place] != file for place, file in served.links.items())
+            daemon = script.world.daemons[script.world.seat - 1]
+            before = daemon.served.links
+            script.play(f"do {Chooser(daemon.served).request(dice // 2**31)}", "show")
+            new = [(place, file) for place, file in daemon.served.links.items() if before.get(place) != file]
+            moves += any(file in before.values() for _, file in new)
+            replaced += any(place in before for place, _ in new)
         hand_on(script, VERSIONS[turn % 3])
         script.play("show")
-    assert served.next_number > 200 and moves > 200 and replaced > 20
+    assert daemon.served.next_number > 200 and moves > 200 and replaced > 20
 
 
 if __name__ == "__main__":
