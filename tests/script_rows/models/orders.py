@@ -14,7 +14,7 @@ from plain_world import World, print_text  # noqa: E402
 
 SMALL = ["commit 0123456789abcdef0123456789abcdef01234567", "dir src", "file 0644 12 src/a", "file 0755 0 src/b",
          "file 0644 7 README"]
-LONG, IN_A_SCRIPT = 13, 1000
+IN_A_SCRIPT = 1000
 ONWARD = ("take {d}", "work {d} 1", "work {d} 2", "work {d} 3", "post {d} 1", "post {d} 2", "deliver")
 MOVE_OVER, HELD = "rename 2 1 a/README", ("lookup 1 src", "lookup 2 a", "lookup 1 README")
 
@@ -46,7 +46,7 @@ def played(world, line):
 
 
 def open_events(world, issued, left):
-    """Tells the events that may come next."""
+    """Tells the events that may come next, each with the index of the request that it issues, or none."""
     daemon = world.daemons[0]
     for index, (request, _) in enumerate(issued):
         if left[index]:
@@ -69,26 +69,41 @@ def ended(world, ends, numbers):
     return rows + "".join(played(world, f"do {request}") for request in ends) + "crash {d} = crashed\n"
 
 
-def orders(world, rows, issued, left, ends, numbers, length):
+def put_state(graph, world, left, table):
+    """Puts into the graph the rows and the state behind each event that may come next, or the end. Returns the state's name:
+    many orders lead to one state."""
+    daemon, (_, _, issued, ends, numbers, _) = world.daemons[0], table
+    parts = vars(world), vars(daemon), vars(daemon.served)
+    name = repr((left, [{key: it for key, it in part.items() if key not in ("daemons", "served")} for part in parts]))
+    if name not in graph:
+        graph[name] = behind = []
+        for event, index in open_events(world, issued, left):
+            after, still = world.copy(), [count - (at == index) for at, count in enumerate(left)]
+            rows = played(after, event)
+            behind.append((rows, put_state(graph, after, still, table)))
+        if not behind:
+            behind.append((ended(world, ends, numbers), world.unique - 1))
+    return name
+
+
+def orders(graph, name, rows):
     """Tells the rows of each order that begins with some rows, and how many uniques it takes."""
-    if length == LONG:
-        rows += ended(world, ends, numbers)
-        yield rows, world.unique - 1
-        return
-    for event, index in open_events(world, issued, left):
-        after = world.copy()
-        told = played(after, event)
-        still = [count - (at == index) for at, count in enumerate(left)]
-        yield from orders(after, rows + told, issued, still, ends, numbers, length + 1)
+    for told, after in graph[name]:
+        if isinstance(after, int):
+            yield rows + told, after
+        else:
+            yield from orders(graph, after, rows + told)
 
 
 def main():
     print_text("small", SMALL)
-    for what, before, issued, ends, numbers, wanted in TABLES:
-        world, rows, count, unique = World(SMALL), "", 0, 1
+    for table in TABLES:
+        what, before, issued, _, _, wanted = table
+        world, graph, begun, count, unique = World(SMALL), {}, "", 0, 1
         for line in ("start", "mount {d}", *(f"do {request}" for request in before)):
-            rows += played(world, line)
-        for order, uniques in orders(world, rows, issued, [times for _, times in issued], ends, numbers, 0):
+            begun += played(world, line)
+        name = put_state(graph, world, [times for _, times in issued], table)
+        for order, uniques in orders(graph, name, begun):
             if count % IN_A_SCRIPT == 0:
                 print(f"case {what} in every order, from order {count + 1} on\nmanifest @small")
                 unique = 1

@@ -60,8 +60,11 @@ class Stopped(Script):
             self.claim_in_vain(daemon)
 
     def is_served(self):
-        """Asks, and once more where a forget came first."""
-        assert any(self.play("do getattr 1").startswith("answer ") for _ in range(2))
+        """Asks, and once more where a forget came first. An older ask may be answered instead."""
+        told = self.play("do getattr 1")
+        if not told.startswith("answer "):
+            told = self.play("do getattr 1")
+        assert told.startswith("answer ") and " error " not in told
 
     def mount_again(self):
         self.play("start 1 2")
