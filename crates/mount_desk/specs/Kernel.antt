@@ -1,6 +1,6 @@
 -- The asks of a real kernel at the broker's desk. The kernel numbers its requests itself (linux/fuse.h: unique), and the
 -- desk numbers asks anew, so each ask under way has a pair of uniques. (The pairs are this project's own.)
-use Rattle.std.specs.Prelude.{◌≡◌, ℕ, ◌≤◌, ◌⊎◌, Bool, ◌==◌, List, [], ◌∷◌, ◌++◌, length, remove, slice_get, Some, None}
+use Rattle.std.specs.Prelude.{◌≡◌, ℕ, ◌≤◌, ◌⊎◌, Bool, false, ◌==◌, List, [], ◌∷◌, ◌++◌, length, remove, slice_get, Some, None, is_none}
 use Rattle.std.specs.List.{position_from}
 use Rattle.fuse_wire.specs.declared.reply.Answer.{Answer}
 use Rattle.fuse_wire.specs.declared.reply.Reply.{Reply}
@@ -28,10 +28,12 @@ pub record IsTaken (old : DeskState) (pairs : List Pair) (ask : Ask) (new : Desk
   pub desk : new ≡ record old { broker = issued old.broker ask.what }
   pub noted : after ≡ pairs ++ pair_of old ask.unique ∷ []
 
--- why an ask is refused: the desk refuses it, or all pairs are in use
+-- why an ask is refused: the desk refuses it, or a daemon has the seat and all pairs are in use. Without a daemon that is
+-- told first: no pair ever comes free then.
 abbrev pub IsRefusal : DeskState → List Pair → Ask → Heard → Type 0
 IsRefusal desk pairs ask heard.Waits = ⊥
-IsRefusal desk pairs ask heard.Full = (1024 ≤ length pairs) ⊎ IsIssueRefusal desk.broker ask.what issue.Full
+IsRefusal desk pairs ask heard.Full =
+    ((is_none desk.broker.seat ≡ false) × (1024 ≤ length pairs)) ⊎ IsIssueRefusal desk.broker ask.what issue.Full
 IsRefusal desk pairs ask heard.NoMemory = IsIssueRefusal desk.broker ask.what issue.NoMemory
 IsRefusal desk pairs ask heard.NotHeld = IsIssueRefusal desk.broker ask.what issue.NotHeld
 IsRefusal desk pairs ask heard.NotMounted = IsIssueRefusal desk.broker ask.what issue.NotMounted

@@ -87,6 +87,9 @@ impl Kernel {
         requires sendable { IsSendable ask.now.what }
         ensures hears { Hears desk.old self.old ask.now result desk.new self.new }
     {
+        if desk.broker().seat().is_none() {
+            return Heard::NotMounted;
+        }
         if self.pairs.len() >= MAX_ASKS {
             return Heard::Full;
         }
@@ -102,8 +105,7 @@ impl Kernel {
             Err(IssueFault::Full) => Heard::Full,
             Err(IssueFault::NoMemory) => Heard::NoMemory,
             Err(IssueFault::NotHeld) => Heard::NotHeld,
-            Err(IssueFault::NotMounted) => Heard::NotMounted,
-            Err(IssueFault::BadForget) => unreachable!(),
+            Err(IssueFault::NotMounted | IssueFault::BadForget) => unreachable!(),
         }
     }
 
