@@ -207,3 +207,14 @@ def forgets_are_not_lost_for_want_of_memory(room):
     # The frame's own bytes come first, and the next Take's last: a channel that can't have those is broken.
     if not outcomes[1:-1] or outcomes != [False, *[True] * len(outcomes[1:-1]), False]:
         raise AssertionError(f"with each allocation refused it served on: {outcomes}")
+
+
+@row
+def folders_that_killed_processes_left(room):
+    """Sixty-four folders beside a socket's place, each with a socket that nobody listens at any more, are removed."""
+    for number in range(1, 65):
+        os.mkdir(f"{room.path}/broker.sock.{number}")
+        with socket.socket(socket.AF_UNIX, socket.SOCK_STREAM) as left:
+            left.bind(f"{room.path}/broker.sock.{number}/s")
+    room.broker("seat 1")
+    same([it for it in os.listdir(room.path) if it.startswith("broker.sock")], ["broker.sock"])

@@ -1,6 +1,8 @@
 """Rows: mounts that can't be made."""
 import os
 import shutil
+import signal
+import socket
 
 from process_rows.checks import row, same
 from process_rows.mounts import Mount, mounts_below
@@ -8,28 +10,63 @@ from process_rows.rooms import run_to_end
 
 
 def fails_to_mount(room, broker, path):
-    """Shows that a broker can't mount once a daemon comes, and that the daemon ends."""
-    room.await_socket(room.broker_at)
-    daemon = room.run("daemon", "--mount", "broker.sock", "t0", "m")
+    """Shows that a broker says that it can't mount, and made no socket."""
     broker.ends(["fault: cannot mount"], 1, path)
-    same(daemon.ending()[0] in ("fault: broken", "ended"), True)
     same(mounts_below(room.path), [])
     same(os.path.exists(room.broker_at), False)
 
 
 @row
 def a_mountpoint_that_is_not_there(room):
-    """A broker can't mount where nothing is: it says so when a daemon comes, and both end."""
+    """A broker can't mount where nothing is: it says so before it listens."""
     fails_to_mount(room, room.mount_broker(mountpoint="none"), "none")
 
 
 @row
 def a_mountpoint_that_is_a_file(room):
-    """A broker can't mount on a file: it says so when a daemon comes, and both end."""
+    """A broker can't mount on a file: it says so before it listens."""
     room.write("file", b"kept")
     fails_to_mount(room, room.mount_broker(mountpoint="file"), "file")
     with open(f"{room.path}/file", "rb") as file:
         same(file.read(), b"kept")
+
+
+@row
+def a_second_broker_at_a_mountpoint(room):
+    """A broker doesn't mount over what another broker serves, also while the daemon there stands still; that serves on."""
+    mount = Mount(room)
+    room.mount_broker(socket="other.sock").ends(["fault: cannot mount"], 1, "mnt")
+    os.kill(mount.daemon.pid, signal.SIGSTOP)
+    room.mount_broker(socket="other.sock").ends(["fault: cannot mount"], 1, "mnt")
+    os.kill(mount.daemon.pid, signal.SIGCONT)
+    same(os.path.exists(f"{room.path}/other.sock"), False)
+    mount.take_over()
+    same(mounts_below(room.path), [mount.path])
+    mount.unmount()
+
+
+@row
+def a_second_broker_at_a_socket(room):
+    """A broker doesn't take the socket at which another broker listens; that serves on, and daemons reach it."""
+    mount = Mount(room)
+    os.mkdir(f"{room.path}/other")
+    room.mount_broker(mountpoint="other").ends(["fault: cannot listen"], 1, "broker.sock")
+    mount.take_over()
+    same(mounts_below(room.path), [mount.path])
+    mount.unmount()
+
+
+@row
+def a_socket_that_another_process_put_in_place(room):
+    """A broker removes its own socket at its end, and not one that came to stand there since."""
+    mount = Mount(room)
+    os.unlink(room.broker_at)
+    with socket.socket(socket.AF_UNIX, socket.SOCK_STREAM) as other:
+        other.bind(room.broker_at)
+        same(run_to_end(["umount", mount.path])[0], 0)
+        same(mount.daemon.ending(), ("ended", 0))
+        same(mount.broker.ending(), ("ended", 0))
+        same(os.path.exists(room.broker_at), True)
 
 
 @row
@@ -50,61 +87,10 @@ def a_log_that_cannot_be_made(room):
 
 @row
 def a_device_that_is_not_there(room):
-    """A broker whose /dev has no fuse says so when a daemon comes, and both end."""
+    """A broker whose /dev has no fuse says so before it listens."""
     script = 'mount -t tmpfs tmpfs /dev; exec "$0" mount mnt broker.sock'
     program, room.program = room.program, shutil.which("unshare")
     broker = room.run("--mount", "sh", "-c", script, program)
     room.program = program
-    room.await_socket(room.broker_at)
-    daemon = room.run("daemon", "--mount", "broker.sock", "t0", "m")
     broker.ends(["fault: no device"], 1, "/dev/fuse")
-    same(daemon.ending()[0] in ("fault: broken", "ended"), True)
-
-
-@row
-def a_line_that_cannot_be_written(room):
-    """A broker whose lines can't be written says so, and the mount ends with it."""
-    with open("/dev/full", "wb") as full:
-        broker = room.mount_broker(stdout=full)
-    room.await_socket(room.broker_at)
-    daemon = room.run("daemon", "--mount", "broker.sock", "t0", "m")
-    same(broker.child.wait(20), 1)
-    same("standard output" in broker.said(), True)
-    same(daemon.ending()[0] in ("fault: broken", "ended"), True)
-
-
-@row
-def a_second_daemon_that_mounts(room):
-    """A daemon that mounts while another one serves is told that there is one, and the mount serves on."""
-    mount = Mount(room)
-    room.run("daemon", "--mount", "broker.sock", "t9", "m").ends(["fault: seated"], 1)
-    same(len(os.stat(mount.at("d1"))) > 0, True)
-    mount.take_over()
-    mount.unmount()
-
-
-@row
-def words_that_are_refused(room):
-    """Words that no mount has are refused with status 2, and help is shown with status 0."""
-    for words in (("mount",), ("mount", "mnt"), ("mount", "mnt", "s", "more"), ("mount", "mnt", "s", "--held")):
-        room.run(*words).ends([], 2)
-    help_of = room.run("mount", "--help")
-    same(help_of.ending()[1], 0)
-    same(any("MOUNTPOINT" in line for line in help_of.lines), True)
-
-
-@row
-def two_mounts_at_two_places(room):
-    """Two brokers mount at two places, and neither knows of the other."""
-    inner = room.inner()
-    try:
-        first, second = Mount(room), Mount(inner)
-        os.mkdir(first.at("only_here"))
-        same((os.path.exists(first.at("only_here")), os.path.exists(second.at("only_here"))), (True, False))
-        second.take_over()
-        second.unmount()
-        first.take_over()
-        first.unmount()
-        same(run_to_end(["ls", first.path, second.path], stdout=-3)[0], 0)
-    finally:
-        inner.clear()
+    same(os.path.exists(room.broker_at), False)

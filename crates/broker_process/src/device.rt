@@ -5,7 +5,7 @@ ghost use Rattle.broker_process.specs.Device.{Gives, Takes, taken_by};
 use std::alloc::Global;
 use std::fs::{self, File, OpenOptions};
 use std::io::{self, ErrorKind, Read, Write};
-use std::process::{Command, Processes};
+use std::process::{Command, Processes, Stdio};
 use std::rt::Files;
 
 /// The file by which a kernel and a file system talk.
@@ -14,12 +14,10 @@ pub const DEVICE: &str = "/dev/fuse";
 /// The length of the buffer into which requests are read, in bytes. The longest request is a batch of forgets.
 pub(crate) const BUFFER_LEN: usize = 128 * 1024;
 
-/// The name that the mount has in the system's table.
-const SOURCE: &str = "edend";
-
 /// The options of the mount: the device is the command's standard input, and the root is a directory of root's that
-/// every user may look at.
-const OPTIONS: &str = "fd=0,rootmode=40000,user_id=0,group_id=0,allow_other";
+/// every user may look at. The kernel checks modes, and neither set-uid files nor device files have an effect.
+const OPTIONS: &str =
+    "fd=0,rootmode=40000,user_id=0,group_id=0,allow_other,default_permissions,nosuid,nodev";
 
 /// The error number of a device whose mount is gone.
 const ENODEV: i32 = 19;
@@ -50,21 +48,49 @@ pub(crate) fn open_device<R: Files<File = File>>(rt: &R) -> io::Result<File> {
     OpenOptions::new().read(true).write(true).open(rt, DEVICE)
 }
 
-/// Mounts at `mountpoint` what `device` serves. The command that mounts says on standard error why it can't.
+/// Mounts at `mountpoint` what `device` serves, by the name `source`. The command that mounts says on standard error why
+/// it can't.
 pub(crate) fn mount<R: Processes>(
     rt: &R,
     alloc: Global,
     device: &File,
+    source: &str,
     mountpoint: &str,
 ) -> io::Result<()> {
     let input = device.try_clone()?;
     let mut command = Command::new(alloc, "mount")?;
-    command.args(["-i", "-t", "fuse", "-o", OPTIONS, SOURCE, mountpoint])?;
+    command.args(["-i", "-t", "fuse", "-o", OPTIONS, source, mountpoint])?;
     let status = command.stdin(input).status(rt)?;
     if status.success() {
         return Ok(());
     }
     Err(io::Error::from(ErrorKind::Other))
+}
+
+/// What finds a mount at a path that another broker of this program serves: the process whose number is in the mount's
+/// source still runs. The path's last name is not looked at, since that look may wait for a daemon.
+const FIND_LIVING: &str = "cd -P -- \"$(dirname -- \"$1\")\" || exit 0
+! findmnt -cno SOURCE -M \"$PWD/$(basename -- \"$1\")\" | sed -n 's/^ *edend-\\([0-9]*\\)-.*/\\1/p' |
+while read -r number; do kill -0 \"$number\" && echo \"$number\"; done | grep -q .";
+
+/// Checks that a mount can be made at `mountpoint`: it is a directory, and none of this program's mounts stands there
+/// that lives. What is dead there is unmounted.
+pub(crate) fn check_place<R: Processes + Files>(
+    rt: &R,
+    alloc: Global,
+    mountpoint: &str,
+) -> io::Result<()> {
+    let mut command = Command::new(alloc, "sh")?;
+    command.args(["-c", FIND_LIVING, "sh", mountpoint])?;
+    command.stderr(Stdio::null());
+    if !command.status(rt)?.success() {
+        return Err(io::Error::from(ErrorKind::ResourceBusy));
+    }
+    clear_dead_mount(rt, alloc, mountpoint)?;
+    if fs::metadata(rt, mountpoint)?.is_dir() {
+        return Ok(());
+    }
+    Err(io::Error::from(ErrorKind::NotADirectory))
 }
 
 /// Unmounts what is dead at `mountpoint`, if something is. A mount that lives is left alone.

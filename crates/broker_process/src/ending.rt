@@ -9,15 +9,15 @@ use crate::reception::receive_all;
 use crate::script::play;
 use broker_script::BrokerLine;
 use eden_base::NoMemory;
-use sockets::{Closer, listen_at};
+use sockets::{Closer, changed_at, listen_alone_at, remove_unchanged};
 use std::alloc::Global;
 use std::io::Write;
 use std::net::Net;
 use std::os::unix::net::UnixListener;
 use std::rt::{Clock, Files};
 use std::sync::Wait;
+use std::thread;
 use std::thread::{Scope, Threads};
-use std::{fs, thread};
 
 /// How a broker ran, with the writer of its lines.
 #[derive(Drop)]
@@ -42,16 +42,17 @@ pub fn run_broker<R: Threads + Wait + Clock + Files + Net + Sync, W: Write + Dro
         Ok(hall) => hall,
         Err(NoMemory) => return fails(out, BrokerFault::NoMemory),
     };
-    let listener = match listen_at(rt, alloc, socket) {
+    let listener = match listen_alone_at(rt, alloc, socket) {
         Ok(listener) => listener,
         Err(error) => return fails(out, BrokerFault::CannotListen(error)),
     };
+    let made = changed_at(rt, socket);
     let closer = match Closer::of(&listener) {
         Ok(closer) => closer,
         Err(error) => return fails(out, BrokerFault::CannotListen(error)),
     };
     let ran = open(rt, alloc, &hall, &listener, &closer, script, out);
-    let _removed = fs::remove_file(rt, socket);
+    remove_unchanged(rt, socket, made);
     ran
 }
 

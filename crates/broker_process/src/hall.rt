@@ -1,5 +1,5 @@
 //! What the connections of a broker share with who plays the kernel.
-ghost use Rattle.std.specs.Prelude.{◌≡◌, ◌↔◌, false, IsTrue, OnOk};
+ghost use Rattle.std.specs.Prelude.{◌≡◌, ◌↔◌, ◌&&◌, false, is_none, IsTrue, OnOk};
 ghost use Rattle.std.specs.Option.{option_map_or};
 ghost use Rattle.broker_desk.specs.Desk.{told_by};
 ghost use Rattle.broker_core.specs.Broker.{BrokerState};
@@ -129,7 +129,9 @@ impl State {
 
     /// Returns whether a kernel still has the mount of a daemon that is gone. Until that ends no daemon may mount, since
     /// the kernel would take the next daemon's numbers for those of the last one.
-    fn has_dead_mount(&self) -> bool {
+    fn has_dead_mount(&self) -> bool
+        ensures dead { result ≡ (self.now.is_mounted && is_none self.now.desk.broker.seat) }
+    {
         self.is_mounted && self.desk.broker().seat().is_none()
     }
 

@@ -1,6 +1,7 @@
 //! The broker as a process: a desk behind a Unix socket, and who plays the kernel, a script or a real mount.
 #![tactic(auto)]
 
+mod control;
 mod device;
 mod ending;
 mod fault;
@@ -9,6 +10,7 @@ mod mount;
 mod reception;
 mod script;
 mod service;
+mod unmounter;
 mod visitors;
 
 pub use device::DEVICE;

@@ -3,16 +3,18 @@ ghost use Rattle.std.specs.Prelude.{◌≡◌, Err, OnOk};
 ghost use Rattle.std.specs.Io.KnownBytes.{Appends};
 ghost use Rattle.broker_process.specs.Mounting.{PrintsMount, RunsMount, mounted_line};
 
-use crate::device::{clear_dead_mount, mount, open_device};
+use crate::control::Control;
+use crate::device::{check_place, clear_dead_mount, mount, open_device};
 use crate::fault::MountFault;
 use crate::hall::Hall;
 use crate::reception::receive_all;
-use crate::service::{MountEnd, serve};
+use crate::service::{MountEnd, Mounted, serve};
+use crate::unmounter::{MountPoint, Unmounter};
 use eden_base::NoMemory;
 use mount_wire::MountTime;
-use sockets::{Closer, listen_at};
+use sockets::{Closer, changed_at, listen_alone_at, remove_unchanged};
 use std::alloc::Global;
-use std::fs::{self, File};
+use std::fs::File;
 use std::io::{self, BufWriter, Write};
 use std::net::Net;
 use std::os::unix::net::UnixListener;
@@ -48,25 +50,45 @@ pub fn run_mount<
 >(rt: &R, alloc: Global, place: &Place<'_>, out: W) -> MountRun<W>
     ensures runs { RunsMount result.ended (W.contents out) (W.contents result.out) }
 {
-    let log = match open_log(rt, alloc, place.log) {
-        Ok(log) => log,
+    let hall = match make_hall(rt, alloc, place) {
+        Ok(hall) => hall,
         Err(fault) => return fails(out, fault),
     };
-    let hall = match Hall::new(alloc, log) {
-        Ok(hall) => hall,
-        Err(NoMemory) => return fails(out, MountFault::NoMemory),
+    let unmounter = match Unmounter::start(rt, alloc) {
+        Ok(unmounter) => unmounter,
+        Err(error) => return fails(out, MountFault::CannotMount(error)),
     };
-    let listener = match listen_at(rt, alloc, place.socket) {
+    let listener = match listen_alone_at(rt, alloc, place.socket) {
         Ok(listener) => listener,
         Err(error) => return fails(out, MountFault::CannotListen(error)),
     };
+    let made = changed_at(rt, place.socket);
     let closer = match Closer::of(&listener) {
         Ok(closer) => closer,
         Err(error) => return fails(out, MountFault::CannotListen(error)),
     };
-    let ran = open(rt, alloc, &hall, &listener, &closer, place, out);
-    let _removed = fs::remove_file(rt, place.socket);
+    let point = MountPoint {
+        path: place.mountpoint,
+        unmounter: unmounter.number(),
+    };
+    let ran = open(rt, alloc, &hall, &listener, &closer, &point, out);
+    remove_unchanged(rt, place.socket, made);
     ran
+}
+
+/// Makes the hall, once the file of what the kernel holds is made, and device and mountpoint are as a mount wants them.
+fn make_hall<R: Files<File = File> + Processes>(
+    rt: &R,
+    alloc: Global,
+    place: &Place<'_>,
+) -> Result<Hall, MountFault> {
+    let log = open_log(rt, alloc, place.log)?;
+    let _device = open_device(rt).map_err(MountFault::NoDevice)?;
+    check_place(rt, alloc, place.mountpoint).map_err(MountFault::CannotMount)?;
+    match Hall::new(alloc, log) {
+        Ok(hall) => Ok(hall),
+        Err(NoMemory) => Err(MountFault::NoMemory),
+    }
 }
 
 /// Opens the file in which it is noted what the kernel holds, unless `path` is empty.
@@ -102,7 +124,7 @@ fn open<R: Threads + Wait + Clock + Files<File = File> + Processes + Sync, W: Wr
     hall: &Hall,
     listener: &UnixListener,
     closer: &Closer,
-    place: &Place<'_>,
+    point: &MountPoint<'_>,
     out: W,
 ) -> MountRun<W>
     ensures runs { RunsMount result.ended (W.contents out) (W.contents result.out) }
@@ -112,7 +134,7 @@ fn open<R: Threads + Wait + Clock + Files<File = File> + Processes + Sync, W: Wr
         rt,
         move |scope| -> MountRun<W>
             ensures { RunsMount result.ended (W.contents out) (W.contents result.out) }
-        { open_within(scope, rt, alloc, hall, listener, closer, place, out) },
+        { open_within(scope, rt, alloc, hall, listener, closer, point, out) },
     )
 }
 
@@ -129,7 +151,7 @@ fn open_within<
     hall: &'e Hall,
     listener: &'e UnixListener,
     closer: &Closer,
-    place: &Place<'_>,
+    point: &MountPoint<'_>,
     out: W,
 ) -> MountRun<W>
     ensures runs { RunsMount result.ended (W.contents out) (W.contents result.out) }
@@ -141,7 +163,7 @@ fn open_within<
         return fails(out, MountFault::NoThread);
     }
     let mut out = out;
-    let ended = serve_mounts(rt, alloc, hall, place.mountpoint, &mut out);
+    let ended = serve_mounts(rt, alloc, hall, point, &mut out);
     hall.close(rt);
     if ended.is_ok() {
         hall.wait_for_all(rt);
@@ -156,14 +178,14 @@ fn serve_mounts<R: Threads + Wait + Clock + Files<File = File> + Processes + Syn
     rt: &R,
     alloc: Global,
     hall: &Hall,
-    mountpoint: &str,
+    point: &MountPoint<'_>,
     out: &mut W,
 ) -> Result<(), MountFault>
     ensures runs { RunsMount result (W.contents out.old) (W.contents out.new) }
 {
     for _ in rt.forever() {
         let generation = hall.begin_mount(rt);
-        let ended = serve_mount(rt, alloc, hall, mountpoint, generation, out);
+        let ended = serve_mount(rt, alloc, hall, point, generation, out);
         hall.end_mount(rt);
         let end = match ended {
             Ok(end) => end,
@@ -184,32 +206,35 @@ fn serve_mount<R: Threads + Wait + Clock + Files<File = File> + Processes + Sync
     rt: &R,
     alloc: Global,
     hall: &Hall,
-    mountpoint: &str,
+    point: &MountPoint<'_>,
     generation: u64,
     out: &mut W,
 ) -> Result<MountEnd, MountFault>
     ensures prints { PrintsMount generation result (W.contents out.old) (W.contents out.new) }
 {
-    let device = match make_mount(rt, alloc, mountpoint) {
-        Ok(device) => device,
+    let mounted = match make_mount(rt, alloc, point, generation) {
+        Ok(mounted) => mounted,
         Err(fault) => return Err(fault),
     };
     if let Err(error) = print_mounted(out, generation) {
         return Err(MountFault::CannotWrite(error));
     }
-    serve(rt, alloc, hall, device, mountpoint, &now(rt))
+    serve(rt, alloc, hall, mounted, point.path, &now(rt))
 }
 
-/// Mounts at `mountpoint`, and returns the device by which the kernel and the mount talk.
+/// Mounts at `point` for the daemon that has the seat at `generation`.
 fn make_mount<R: Files<File = File> + Processes>(
     rt: &R,
     alloc: Global,
-    mountpoint: &str,
-) -> Result<File, MountFault> {
-    clear_dead_mount(rt, alloc, mountpoint).map_err(MountFault::CannotMount)?;
+    point: &MountPoint<'_>,
+    generation: u64,
+) -> Result<Mounted, MountFault> {
+    clear_dead_mount(rt, alloc, point.path).map_err(MountFault::CannotMount)?;
+    let source = point.source(alloc, generation)?;
     let device = open_device(rt).map_err(MountFault::NoDevice)?;
-    mount(rt, alloc, &device, mountpoint).map_err(MountFault::CannotMount)?;
-    Ok(device)
+    mount(rt, alloc, &device, source.as_str(), point.path).map_err(MountFault::CannotMount)?;
+    let control = Control::open(rt, alloc, source.as_str());
+    Ok(Mounted { device, control })
 }
 
 /// Prints at once that a mount began at `generation`.

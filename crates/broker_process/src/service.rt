@@ -4,6 +4,7 @@ ghost use Rattle.mount_wire.specs.Message.{IsForDaemons};
 ghost use Rattle.broker_process.specs.Mounting.{end_line};
 ghost use Rattle.broker_process.specs.Serving.{Handles, IsHeardToTheEnd, ServesMount};
 
+use crate::control::Control;
 use crate::device::{BUFFER_LEN, Taken, give, take};
 use crate::fault::MountFault;
 use crate::hall::{Hall, Next};
@@ -11,9 +12,10 @@ use fuse_wire::Answer;
 use mount_desk::{Forgot, Progress};
 use mount_wire::{Message, MountTime, read_message, tell_answer};
 use std::alloc::Global;
-use std::fs::{self, File};
+use std::fs::File;
 use std::io::{Read, Write};
-use std::rt::{Clock, Files};
+use std::process::Processes;
+use std::rt::Clock;
 use std::sync::Wait;
 use std::thread::{self, Scope, Threads};
 use std::time::Duration;
@@ -30,6 +32,14 @@ pub(crate) enum MountEnd {
     Dead,
 }
 
+/// A mount of the kernel.
+#[derive(Drop)]
+pub(crate) struct Mounted {
+    /// The device by which the kernel and the mount talk.
+    pub device: File,
+    pub control: Control,
+}
+
 impl MountEnd {
     /// Returns the line that tells of this end.
     pub(crate) fn line(self) -> &'static str
@@ -43,40 +53,47 @@ impl MountEnd {
 }
 
 /// Serves a mount: reads in a thread what the kernel asks by `device`, and writes replies in this one.
-pub(crate) fn serve<R: Threads + Wait + Clock + Files<File = File> + Sync>(
+pub(crate) fn serve<R: Threads + Wait + Clock + Processes + Sync>(
     rt: &R,
     alloc: Global,
     hall: &Hall,
-    device: File,
+    mounted: Mounted,
     mountpoint: &str,
     since: &MountTime,
 ) -> Result<MountEnd, MountFault> {
     thread::scope(thread::scope_env(), rt, move |scope| {
-        serve_within(scope, rt, alloc, hall, device, mountpoint, since)
+        serve_within(scope, rt, alloc, hall, mounted, mountpoint, since)
     })
 }
 
 /// Serves a mount, with a thread of a scope that reads what the kernel asks.
-fn serve_within<'s, 'e: 's, R: Threads + Wait + Clock + Files<File = File> + Sync + 's>(
+fn serve_within<'s, 'e: 's, R: Threads + Wait + Clock + Processes + Sync + 's>(
     scope: &Scope<'s, &'e ()>,
     rt: &'e R,
     alloc: Global,
     hall: &'e Hall,
-    device: File,
+    mounted: Mounted,
     mountpoint: &str,
     since: &MountTime,
 ) -> Result<MountEnd, MountFault> {
+    let Mounted {
+        device,
+        mut control,
+    } = mounted;
     let writer = device.try_clone().map_err(MountFault::Broken)?;
     let answers = device.try_clone().map_err(MountFault::Broken)?;
     let Ok(reading) = scope.spawn(move || read_to_the_end(rt, alloc, hall, device, answers)) else {
         return Err(MountFault::NoThread);
     };
-    deliver_all(rt, hall, writer, mountpoint, since);
+    if deliver_all(rt, hall, writer, since) {
+        control.end(rt, alloc, mountpoint);
+    }
     reading.join(rt)
 }
 
 /// Reads what the kernel asks by `device` until the mount ends, and writes this program's own answers by `answers`. Where
-/// no daemon died, the daemons hear that the mount is over, so that who writes replies sees the end too.
+/// no daemon died, the daemons hear that the mount is over, so that who writes replies sees the end too. A device also
+/// says that the mount is gone where a daemon died, since the connection is ended then.
 fn read_to_the_end<R: Wait + Clock>(
     rt: &R,
     alloc: Global,
@@ -88,26 +105,25 @@ fn read_to_the_end<R: Wait + Clock>(
     let ended = read_all(rt, alloc, hall, &mut device, &mut answers);
     drop(device);
     drop(answers);
-    if !matches!(ended, Ok(MountEnd::Dead)) {
-        hall.close(rt);
+    match ended {
+        Ok(MountEnd::Unmounted) => Ok(hall.end_of_mount(rt)),
+        Ok(MountEnd::Dead) => ended,
+        Err(_) => {
+            hall.close(rt);
+            ended
+        }
     }
-    ended
 }
 
-/// Writes each posted reply to the kernel, until no daemon has the seat. Then a look at the mount has the kernel ask for
-/// something, so that its reader sees the end too.
-fn deliver_all<R: Wait + Clock + Files<File = File>>(
-    rt: &R,
-    hall: &Hall,
-    device: File,
-    mountpoint: &str,
-    since: &MountTime,
-) {
+/// Writes each posted reply to the kernel, until no daemon has the seat. Returns whether that is so since the daemon is
+/// gone, and not since the mount is over.
+fn deliver_all<R: Wait + Clock>(rt: &R, hall: &Hall, device: File, since: &MountTime) -> bool {
     let mut device = device;
     for _ in rt.forever() {
         match hall.next(rt) {
             Next::Nothing | Next::NoMemory => {}
-            Next::Over => break,
+            Next::Over => return false,
+            Next::Gone => return true,
             Next::Unasked(answer) => take_back(rt, hall, &answer),
             Next::Reply(reply) => {
                 let bytes = tell_answer(reply.unique, &reply.answer, since);
@@ -117,8 +133,7 @@ fn deliver_all<R: Wait + Clock + Files<File = File>>(
             }
         }
     }
-    drop(device);
-    let _looked = fs::metadata(rt, mountpoint);
+    unreachable!()
 }
 
 /// Forgets at once the number of an answer that the kernel did not take.

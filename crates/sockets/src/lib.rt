@@ -11,5 +11,5 @@ mod timed;
 pub use closer::Closer;
 pub use connection::{Connection, connect};
 pub use deadline::{Deadline, Left};
-pub use listening::{Hidden, listen_at};
+pub use listening::{Hidden, changed_at, listen_alone_at, listen_at, remove_unchanged};
 pub use timed::Timed;

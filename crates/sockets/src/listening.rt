@@ -4,10 +4,11 @@ use std::fs::{self, DirBuilder, Permissions};
 use std::io::{self, ErrorKind};
 use std::net::Net;
 use std::os::unix::fs::{DirBuilderExt, FileTypeExt, PermissionsExt};
-use std::os::unix::net::UnixListener;
+use std::os::unix::net::{UnixListener, UnixStream};
 use std::rt::Files;
+use std::time::SystemTime;
 
-/// How many folders that earlier runs left may stand beside a socket.
+/// How many folders of other processes may stand beside a socket.
 const MOST_FOLDERS: usize = 64;
 
 /// A socket that listens in a folder of its own, where nobody finds it yet.
@@ -22,6 +23,30 @@ pub struct Hidden {
 /// file at `path` is left alone, and is an error.
 pub fn listen_at<R: Files + Net>(rt: &R, alloc: Global, path: &str) -> io::Result<UnixListener> {
     Hidden::beside(rt, alloc, path)?.show(rt, path)
+}
+
+/// Listens at `path` as `listen_at` does, unless another process listens there: that is an error.
+pub fn listen_alone_at<R: Files + Net>(
+    rt: &R,
+    alloc: Global,
+    path: &str,
+) -> io::Result<UnixListener> {
+    if UnixStream::connect(rt, path).is_ok() {
+        return Err(io::Error::from(ErrorKind::AddrInUse));
+    }
+    listen_at(rt, alloc, path)
+}
+
+/// Returns when the file at `path` was last changed. A socket that stands there is told from another one by that.
+pub fn changed_at<R: Files>(rt: &R, path: &str) -> Option<SystemTime> {
+    rt.symlink_metadata(path).ok()?.modified().ok()
+}
+
+/// Removes the socket at `path`, unless it is another one than that which was last changed at `changed`.
+pub fn remove_unchanged<R: Files>(rt: &R, path: &str, changed: Option<SystemTime>) {
+    if changed.is_some() && changed_at(rt, path) == changed {
+        let _removed = fs::remove_file(rt, path);
+    }
 }
 
 /// Checks that there is a socket or nothing at `path`, else returns an error.
@@ -47,6 +72,28 @@ fn make_folder<R: Files>(rt: &R, alloc: Global, path: &str) -> io::Result<String
     Err(io::Error::from(ErrorKind::AlreadyExists))
 }
 
+/// Removes the folders beside `path` that processes left which are gone.
+fn clear_folders<R: Files + Net>(rt: &R, alloc: Global, path: &str) -> io::Result<()> {
+    for number in 1..=MOST_FOLDERS {
+        let folder = format!(in alloc; "{path}.{number}")?;
+        clear_left(rt, alloc, folder.as_str())?;
+    }
+    Ok(())
+}
+
+/// Removes `folder` if a process left it that is gone: nobody listens any more at the socket in it.
+fn clear_left<R: Files + Net>(rt: &R, alloc: Global, folder: &str) -> io::Result<()> {
+    let name = format!(in alloc; "{folder}/s")?;
+    match UnixStream::connect(rt, name.as_str()) {
+        Err(error) if error.kind() == ErrorKind::ConnectionRefused => {
+            let _removed = fs::remove_file(rt, name.as_str());
+            let _removed = fs::remove_dir(rt, folder);
+        }
+        _ => {}
+    }
+    Ok(())
+}
+
 /// Listens at `name`, for this user alone.
 fn bind_private<R: Files + Net>(rt: &R, name: &str) -> io::Result<UnixListener> {
     let listener = UnixListener::bind(rt, name)?;
@@ -58,6 +105,7 @@ impl Hidden {
     /// Listens in a new folder beside `path`. So a failure to listen comes before anyone can find the socket.
     pub fn beside<R: Files + Net>(rt: &R, alloc: Global, path: &str) -> io::Result<Hidden> {
         check_place(rt, path)?;
+        clear_folders(rt, alloc, path)?;
         let folder = make_folder(rt, alloc, path)?;
         match Hidden::within(rt, alloc, folder.as_str()) {
             Ok((name, listener)) => Ok(Hidden {

@@ -1,9 +1,13 @@
 //! What a real kernel's mount asks of the hall.
+ghost use Rattle.std.specs.Prelude.{◌≡◌, ◌&&◌, is_none, if◌then◌else◌};
 ghost use Rattle.mount_desk.specs.Hearing.{LeavesForDaemons};
 ghost use Rattle.mount_wire.specs.Message.{IsForDaemons};
 ghost use Rattle.broker_process.specs.Serving.{IsHeard};
+ghost use Rattle.broker_process.specs.declared.hall.mounted.Next.TheVariants.{Gone, Nothing, Over};
+ghost use Rattle.broker_process.specs.declared.service.MountEnd.TheVariants.{Dead, Unmounted};
 
 use super::{Hall, LONGEST_SLEEP, PAUSE, State, Waiting};
+use crate::service::MountEnd;
 use fuse_wire::{Answer, Reply};
 use mount_desk::{Delivered, Forgot, Progress, take_back};
 use mount_wire::Message;
@@ -22,8 +26,10 @@ pub(crate) enum Next {
     Nothing,
     /// Nothing yet, since memory was refused.
     NoMemory,
-    /// Nothing any more: no daemon has the seat.
+    /// Nothing any more: the mount is over.
     Over,
+    /// Nothing any more: the daemon of the seat is gone, and its mount with it.
+    Gone,
 }
 
 impl Next {
@@ -32,7 +38,7 @@ impl Next {
         match self {
             Next::Nothing => Some(LONGEST_SLEEP),
             Next::NoMemory => Some(PAUSE),
-            Next::Reply(_) | Next::Unasked(_) | Next::Over => None,
+            Next::Reply(_) | Next::Unasked(_) | Next::Over | Next::Gone => None,
         }
     }
 }
@@ -53,10 +59,37 @@ impl State {
         match self.kernel.deliver(&mut self.desk) {
             Delivered::Reply(reply) => Next::Reply(reply),
             Delivered::Unasked(answer) => Next::Unasked(answer),
-            Delivered::Nothing if self.desk.broker().seat().is_none() => Next::Over,
-            Delivered::Nothing => Next::Nothing,
+            Delivered::Nothing => self.next_of_none(),
             Delivered::NoMemory => Next::NoMemory,
         }
+    }
+
+    /// Returns what the kernel is told next where no reply was posted.
+    fn next_of_none(&self) -> Next
+        ensures next { result ≡ (if is_none self.now.desk.broker.seat
+            then (if self.now.is_mounted then Gone else Over) else Nothing) }
+    {
+        if self.has_dead_mount() {
+            Next::Gone
+        } else if self.desk.broker().seat().is_none() {
+            Next::Over
+        } else {
+            Next::Nothing
+        }
+    }
+
+    /// Returns how a mount ended that the kernel let go of: dead where the daemon of the seat is gone. Else somebody
+    /// unmounted, and daemons hear from now on that the mount is over.
+    fn end_of_mount(&mut self) -> MountEnd
+        ensures end { result ≡ (if self.old.is_mounted && is_none self.old.desk.broker.seat
+            then Dead else Unmounted) }
+    {
+        if self.has_dead_mount() {
+            return MountEnd::Dead;
+        }
+        self.desk.close();
+        self.is_mounted = false;
+        MountEnd::Unmounted
     }
 }
 
@@ -80,6 +113,15 @@ impl Hall {
         let mut state = self.state.lock(rt);
         state.is_mounted = false;
         state.kernel.clear();
+    }
+
+    /// Returns how a mount ended that the kernel let go of. Where somebody unmounted, daemons hear from now on that the
+    /// mount is over.
+    pub(crate) fn end_of_mount<R: Wait>(&self, rt: &R) -> MountEnd {
+        let end = self.state.lock(rt).end_of_mount();
+        self.asks.notify_all();
+        self.events.notify_all();
+        end
     }
 
     /// Hears a `message` of the kernel at the desk, as far as it can be heard now.
