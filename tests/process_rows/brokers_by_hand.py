@@ -1,7 +1,7 @@
 """Rows: a daemon whose broker is a peer that speaks frames by hand."""
 import time
 
-from process_rows.checks import WAIT, TooSlow, row, same, took_between
+from process_rows.checks import TooSlow, row, same, took_between
 from process_rows.daemons import mounted_by_hand
 from process_rows.frames import drip, frame, request, u64
 
@@ -114,10 +114,15 @@ def breaks_after_five_seconds(daemon, began):
 
 
 @row
-def a_broker_may_not_answer_a_take(room):
-    """A daemon whose Take isn't answered for five seconds is broken."""
-    daemon, _first, _worker = mounted_by_hand(room)
-    breaks_after_five_seconds(daemon, time.monotonic())
+def a_broker_may_be_slow_to_answer_a_take(room):
+    """A daemon whose Take isn't answered for seven seconds waits, and goes on with the answer."""
+    daemon, _first, worker = mounted_by_hand(room)
+    time.sleep(7)
+    same(daemon.lines, ["serving 1"])
+    worker.send("Empty")
+    same(worker.read(), ("Take", u64(1)))
+    worker.send("Ended")
+    daemon.ends(["serving 1", "ended"])
 
 
 @row
@@ -127,20 +132,6 @@ def a_broker_may_answer_a_part(room):
     time.sleep(1)
     began = time.monotonic()
     drip(worker.end, frame("Ask", bytes(40)))
-    breaks_after_five_seconds(daemon, began)
-
-
-@row
-def a_broker_may_not_read(room):
-    """A daemon whose broker answers and doesn't read is broken where a write waits for five seconds."""
-    daemon, _first, worker = mounted_by_hand(room)
-    worker.end.settimeout(0.1)
-    began = time.monotonic()
-    while daemon.child.poll() is None and time.monotonic() - began < WAIT:
-        try:
-            worker.end.sendall(frame("Empty"))
-        except OSError:
-            pass
     breaks_after_five_seconds(daemon, began)
 
 

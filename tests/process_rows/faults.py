@@ -218,3 +218,17 @@ def folders_that_killed_processes_left(room):
             left.bind(f"{room.path}/broker.sock.{number}/s")
     room.broker("seat 1")
     same([it for it in os.listdir(room.path) if it.startswith("broker.sock")], ["broker.sock"])
+
+
+@row
+def too_few_descriptors(room):
+    """A daemon that can't open all that it needs says so before it has the seat, which the next daemon gets."""
+    room.broker("seat 1")
+    room.write("m", MANIFEST)
+    words = ["daemon", "--mount", "--workers", "16", "broker.sock", "takeover.sock", "m"]
+    for limit in range(24, 96, 8):
+        program, room.program = room.program, "/bin/sh"
+        daemon = room.run("-c", f'ulimit -n {limit}; exec "$0" "$@"', program, *words)
+        room.program = program
+        daemon.ends(["fault: no broker"], 1, "Too many open files")
+    room.mount("--workers", "16").printed("serving 1")

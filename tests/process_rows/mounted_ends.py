@@ -3,6 +3,7 @@ import errno
 import os
 import signal
 import subprocess
+import threading
 import time
 
 from process_rows.checks import WAIT, row, same
@@ -73,30 +74,110 @@ def a_daemon_that_is_killed_while_nobody_looks(room):
 
 
 @row
-def a_killed_broker_leaves_a_dead_mount(room):
-    """The broker is killed: its daemon ends, programs are told that the mount is dead, and a new broker mounts there."""
-    mount = Mount(room)
-    program = room.program_in(STAT)
-    program.works_on()
-    mount.broker.kill()
-    program.fails()
-    same(mount.daemon.ending(), ("fault: broken", 1))
-    same(error_of(mount.path), errno.ENOTCONN)
+def a_broker_that_ends_leaves_no_mount(room):
+    """The broker is ended by each signal that ends processes: its daemon ends, programs are told that the mount is over,
+    no mount is left behind, and a new broker mounts there."""
+    for number in (signal.SIGKILL, signal.SIGTERM, signal.SIGINT, signal.SIGHUP):
+        mount = Mount(room)
+        program = room.program_in(STAT)
+        program.works_on()
+        os.kill(mount.broker.pid, number)
+        program.fails()
+        same(mount.daemon.ending(), ("fault: broken", 1))
+        until(lambda: mounts_below(room.path) == [], "a place without a mount")
+        same(os.listdir(mount.path), [])
     other = Mount(room)
     same(os.stat(other.at("d5/f5")).st_size, size_of(5, 5))
-    same(mounts_below(room.path), [mount.path])
+    same(mounts_below(room.path), [other.path])
     other.unmount()
 
 
 @row
-def a_silent_broker_leaves_a_dead_mount(room):
-    """The broker is stopped: its daemon ends after five seconds, and once the broker goes on the next daemon mounts."""
+def a_dead_mount_ends_with_its_broker(room):
+    """The daemon is killed, and then the broker: the dead mount is not left behind."""
     mount = Mount(room)
-    os.kill(mount.broker.pid, signal.SIGSTOP)
-    same(mount.daemon.ending(), ("fault: broken", 1))
-    os.kill(mount.broker.pid, signal.SIGCONT)
+    mount.daemon.kill()
     mount.broker.printed("dead")
+    same(error_of(mount.path), errno.ENOTCONN)
+    mount.broker.kill()
+    until(lambda: mounts_below(room.path) == [], "a place without a mount")
+
+
+@row
+def a_daemon_is_killed_while_as_many_ask_as_may(room):
+    """More programs ask than may be under way at once, the daemon is stopped and killed: each of them is told so."""
+    mount = Mount(room)
+    os.kill(mount.daemon.pid, signal.SIGSTOP)
+    threads = [threading.Thread(target=error_of, args=(mount.at(f"d{number % 40}/f{number % 50}"),)) for number in range(1100)]
+    for it in threads:
+        it.start()
+    time.sleep(2)
+    mount.daemon.kill()
+    mount.broker.printed("dead")
+    for it in threads:
+        it.join(WAIT)
+    same(sum(it.is_alive() for it in threads), 0)
     mounts_anew(room, mount)
+    mount.unmount()
+
+
+@row
+def a_daemon_is_killed_below_a_covered_mount(room):
+    """A mount is covered by another one, and its daemon is killed: a program in it is told so, and the next daemon mounts
+    over both."""
+    mount = Mount(room)
+    program = room.program_in(STAT)
+    program.works_on()
+    same(run_to_end(["mount", "-t", "tmpfs", "tmpfs", mount.path])[0], 0)
+    mount.daemon.kill()
+    mount.broker.printed("dead")
+    program.fails()
+    mount.daemon = room.run("daemon", "--mount", "broker.sock", "t0", "m", *mount.options)
+    mount.daemon.printed("serving 2")
+    mount.broker.printed("mounted 2")
+    same(os.stat(mount.at("d5/f5")).st_size, size_of(5, 5))
+    same(len(mounts_below(room.path)), 3)
+
+
+@row
+def a_daemon_is_killed_behind_a_mount_that_was_moved(room):
+    """A mount is moved elsewhere, or unmounted lazily while a program is in it, and its daemon is killed: the program is
+    told so, and the next daemon mounts at the old place."""
+    for words in (["mount", "--move", "MOUNT", f"{room.path}/elsewhere"], ["umount", "-l", "MOUNT"]):
+        inner = room.inner()
+        os.makedirs(f"{room.path}/elsewhere", exist_ok=True)
+        try:
+            mount = Mount(inner)
+            program = inner.program_in(STAT)
+            program.works_on()
+            same(run_to_end([mount.path if it == "MOUNT" else it for it in words])[0], 0)
+            mount.daemon.kill()
+            mount.broker.printed("dead")
+            program.fails()
+            mounts_anew(inner, mount)
+            mount.unmount()
+        finally:
+            inner.clear()
+
+
+@row
+def a_mount_that_stood_still(room):
+    """The broker, the daemon or both are stopped for seven seconds below a program, and go on then: no call of it fails,
+    and the next daemon takes over."""
+    mount = Mount(room)
+    program = room.program_in(STAT)
+    for whose in (("broker",), ("daemon",), ("broker", "daemon")):
+        program.works_on()
+        pids = [getattr(mount, it).pid for it in whose]
+        for pid in pids:
+            os.kill(pid, signal.SIGSTOP)
+        time.sleep(7)
+        for pid in pids:
+            os.kill(pid, signal.SIGCONT)
+        program.works_on()
+        mount.take_over()
+    program.ends()
+    mount.counts_what_is_held()
     mount.unmount()
 
 

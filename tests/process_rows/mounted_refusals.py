@@ -1,4 +1,4 @@
-"""Rows: mounts that can't be made."""
+"""Rows: mounts that can't be made, and where a broker listens that mounts."""
 import os
 import shutil
 import signal
@@ -94,3 +94,18 @@ def a_device_that_is_not_there(room):
     room.program = program
     broker.ends(["fault: no device"], 1, "/dev/fuse")
     same(os.path.exists(room.broker_at), False)
+
+
+@row
+def a_mount_listens_where_its_words_say(room):
+    """A mount listens at the socket that its words name, and empties the file of --held where they have one."""
+    for options, held in (((), []), (("--held", "h"), ["h"])):
+        inner = room.inner()
+        for file in held:
+            inner.write(file, b"seat 1\n")
+        it = inner.mount_broker(*options, socket="s")
+        inner.await_socket(f"{inner.path}/s")
+        same(sorted(os.listdir(inner.path)), [*held, "m", "mnt", "s"])
+        same([os.path.getsize(f"{inner.path}/{file}") for file in held], [0] * len(held))
+        same((it.is_running(), it.lines), (True, []))
+        inner.clear()

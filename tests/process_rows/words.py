@@ -95,18 +95,3 @@ def a_manifest_from_standard_input_is_served(room):
     given(daemon, MANIFEST)
     broker.ends(["seat 1", "answer 1 entry 2 dir 0755 0 2", f"answer 2 {ATTR_1}", "ended"])
     daemon.ends(["serving 1", "ended"])
-
-
-@row
-def a_mount_listens_where_its_words_say(room):
-    """A mount listens at the socket that its words name, and empties the file of --held where they have one."""
-    for words, files in ((("mount", "co", "s"), ["s"]), (("mount", "co", "s", "--held", "h"), ["h", "s"])):
-        inner = room.inner()
-        for file in files[:-1]:
-            inner.write(file, b"seat 1\n")
-        it = inner.run(*words)
-        inner.await_socket(f"{inner.path}/s")
-        same(sorted(os.listdir(inner.path)), [*files[:-1], "m", "s"])
-        same([os.path.getsize(f"{inner.path}/{file}") for file in files[:-1]], [0] * len(files[:-1]))
-        same((it.is_running(), it.lines), (True, []))
-        inner.clear()

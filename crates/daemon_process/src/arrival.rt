@@ -16,15 +16,16 @@ use std::sync::{Arc, Wait};
 use std::time::Duration;
 use workers::Stop;
 
-/// How long the broker may take for an answer, and for reading what it is told, in milliseconds.
+/// How long the broker may take for an answer to a daemon that has no seat yet, in milliseconds. Who has one has no
+/// better place to go than its broker, so it waits for as long as the connection stands.
 const BROKER_PATIENCE: u64 = 5000;
 
-/// Returns how long the broker may be silent, and how long a write may wait for it.
+/// Returns how long the broker may be silent before the seat, and how long a write may wait for it then.
 fn broker_patience() -> Duration {
     Duration::from_millis(BROKER_PATIENCE)
 }
 
-/// Returns the deadline for an answer of the broker.
+/// Returns the deadline for an answer of the broker before the seat.
 pub(crate) fn answer_by<R: Clock>(clock: &R) -> Deadline {
     Deadline::after(clock, broker_patience())
 }
@@ -39,7 +40,14 @@ pub(crate) struct Arrival<'a, R> {
     pub(crate) workers: Vec<UnixStream>,
 }
 
-/// Connects to the broker as a new daemon, and for each of its workers.
+/// How many descriptors a worker's channels take, where those of one generation stand beside those of the last one.
+const DESCRIPTORS_OF_A_WORKER: usize = 4;
+
+/// How many descriptors takeovers take.
+const DESCRIPTORS_OF_TAKEOVERS: usize = 8;
+
+/// Connects to the broker as a new daemon, and for each of its workers. So many descriptors are left then as the daemon
+/// opens once it has the seat: their lack would leave a mount without service.
 pub(crate) fn arrive<'a, R: Net + Clock + Wait>(
     rt: &'a R,
     alloc: Global,
@@ -49,10 +57,34 @@ pub(crate) fn arrive<'a, R: Net + Clock + Wait>(
     let mut connection = reach(rt, alloc, orders.broker)?;
     let daemon = attach(rt, shared, &mut connection, DaemonId(0))?;
     let workers = arrive_each(rt, alloc, shared, orders, daemon)?;
+    check_descriptors(alloc, &connection, workers.len())?;
     Ok(Arrival {
         connection,
         workers,
     })
+}
+
+/// Checks that a daemon of this many workers can open what it needs once it has the seat.
+fn check_descriptors<R: Clock>(
+    alloc: Global,
+    connection: &Connection<'_, R>,
+    workers: usize,
+) -> Result<(), Exit> {
+    let count = workers
+        .saturating_mul(DESCRIPTORS_OF_A_WORKER)
+        .saturating_add(DESCRIPTORS_OF_TAKEOVERS);
+    let Ok(mut spare) = Vec::with_capacity(alloc, count) else {
+        return Err(Exit::Faulty(DaemonFault::NoMemory));
+    };
+    for _descriptor in 0..count {
+        let handle = connection
+            .handle()
+            .map_err(|error| Exit::Faulty(DaemonFault::NoBroker(error)))?;
+        if spare.push(handle).is_err() {
+            return Err(Exit::Faulty(DaemonFault::NoMemory));
+        }
+    }
+    Ok(())
 }
 
 /// Connects to the broker for each worker.
@@ -145,16 +177,15 @@ pub(crate) fn channels<'a, R: Clock>(
 /// A worker's channel, which asks the broker once for each take.
 type Asking<'a, R> = SocketChannel<BufReader<Timed<'a, R>>, UnixStream>;
 
-/// Returns a channel at a generation over a worker's connection.
+/// Returns a channel at a generation over a worker's connection. It waits for the broker for as long as that stands.
 fn channel<'a, R: Clock>(
     rt: &'a R,
     alloc: Global,
     worker: &UnixStream,
     generation: u64,
 ) -> io::Result<Asking<'a, R>> {
-    let connection = Connection::over(alloc, rt, worker.try_clone()?, Some(broker_patience()))?;
-    let (mut reader, writer) = connection.into_ends();
-    reader.get_mut().end_silence_after(broker_patience());
+    let connection = Connection::over(alloc, rt, worker.try_clone()?, None)?;
+    let (reader, writer) = connection.into_ends();
     match SocketChannel::new(alloc, reader, writer, generation) {
         Ok(channel) => Ok(channel),
         Err(_refused) => Err(io::Error::from(ErrorKind::OutOfMemory)),

@@ -79,8 +79,8 @@ fn mount<R: Wait + Clock>(
     }
 }
 
-/// Takes over from the daemon that listens at the path where this one is to listen. The connection to that daemon
-/// closes after the answer to the claim.
+/// Takes over from the daemon that listens at the path where this one is to listen. All that this one needs is made
+/// before it connects, since a connection that doesn't offer is sent away when another one comes.
 fn begin_next<R: Wait + Clock + Files + Net>(
     rt: &R,
     alloc: Global,
@@ -88,15 +88,26 @@ fn begin_next<R: Wait + Clock + Files + Net>(
     broker: &mut Connection<'_, R>,
     orders: &Orders<'_>,
 ) -> Result<Hidden, Exit> {
-    let mut old = reach(rt, alloc, orders)?;
     let hidden = hide(rt, alloc, orders.takeover)?;
-    match take_over(rt, shared, broker, &mut old, orders.patience) {
+    match reach_and_take_over(rt, alloc, shared, broker, orders) {
         Ok(()) => Ok(hidden),
         Err(exit) => {
             hidden.remove(rt);
             Err(exit)
         }
     }
+}
+
+/// Connects to the other daemon, and takes over from it. The connection closes after the answer to the claim.
+fn reach_and_take_over<R: Wait + Clock + Net>(
+    rt: &R,
+    alloc: Global,
+    shared: &Shared,
+    broker: &mut Connection<'_, R>,
+    orders: &Orders<'_>,
+) -> Result<(), Exit> {
+    let mut old = reach(rt, alloc, orders)?;
+    take_over(rt, shared, broker, &mut old, orders.patience)
 }
 
 /// Connects to the other daemon.

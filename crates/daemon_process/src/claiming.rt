@@ -20,7 +20,7 @@ pub(crate) fn claim<R: Wait + Clock>(
 ) -> Claiming {
     let deadline = answer_by(rt);
     for _ in rt.forever() {
-        match claim_once(rt, shared, broker, deadline) {
+        match claim_once(rt, shared, broker) {
             Claiming::Waits if !deadline.is_over(rt) => {
                 thread::sleep(rt, Duration::from_millis(PAUSE));
             }
@@ -30,17 +30,16 @@ pub(crate) fn claim<R: Wait + Clock>(
     unreachable!()
 }
 
-/// Claims the seat, if the daemon wants to.
+/// Claims the seat, if the daemon wants to. The answer may take as long as it likes while the connection stands.
 fn claim_once<R: Wait + Clock>(
     rt: &R,
     shared: &Shared,
     broker: &mut Connection<'_, R>,
-    deadline: Deadline,
 ) -> Claiming {
     let Some(frame) = shared.claim(rt) else {
         return Claiming::Broken;
     };
-    match broker.ask(&frame, deadline) {
+    match broker.ask(&frame, Deadline::Never) {
         Some(answer) => shared.take_claim(rt, &answer),
         None => Claiming::Broken,
     }

@@ -14,19 +14,16 @@ use std::time::Duration;
 const REST: u64 = 5000;
 
 /// The reading end of a socket, which gives up at a deadline: a read that would end later fails with `WouldBlock`.
-/// Without a deadline a frame may begin at any time, or after a silence of limited length. The rest of the frame then
-/// has to come within five seconds.
+/// Without a deadline a frame may begin at any time. The rest of the frame then has to come within five seconds.
 #[derive(Drop)]
 pub struct Timed<'a, R> {
     clock: &'a R,
     stream: UnixStream,
     deadline: Deadline,
-    /// How long a silence between frames may last while there is no deadline, if that is limited.
-    silence: Option<Duration>,
     passage: Passage,
     /// The deadline for the rest of a frame that has begun to come. The first read of that rest sets it.
     rest: Option<Deadline>,
-    /// Whether the socket may have a timeout other than `silence`.
+    /// Whether the socket may have a timeout.
     is_timed: bool,
 }
 
@@ -37,7 +34,6 @@ impl<'a, R: Clock> Timed<'a, R> {
             clock,
             stream,
             deadline: Deadline::Never,
-            silence: None,
             passage: Passage::new(),
             rest: None,
             is_timed: true,
@@ -47,12 +43,6 @@ impl<'a, R: Clock> Timed<'a, R> {
     /// Lets all reads from this call on end by `deadline`.
     pub fn end_by(&mut self, deadline: Deadline) {
         self.deadline = deadline;
-    }
-
-    /// Lets a silence between frames last for `silence` at most, while there is no deadline.
-    pub fn end_silence_after(&mut self, silence: Duration) {
-        self.silence = Some(silence);
-        self.is_timed = true;
     }
 
     /// Returns the deadline of the next byte: the one that was set, or else that of the frame that began to come.
@@ -81,7 +71,7 @@ impl<'a, R: Clock> Timed<'a, R> {
         match self.by().left(self.clock) {
             Left::Forever => {
                 if self.is_timed {
-                    self.stream.set_read_timeout(self.silence)?;
+                    self.stream.set_read_timeout(None)?;
                     self.is_timed = false;
                 }
                 Ok(())
