@@ -5,6 +5,7 @@ mod fault;
 mod number;
 mod pieces;
 mod spelled;
+mod table;
 mod texts;
 mod told;
 mod words;
@@ -17,6 +18,7 @@ pub use spelled::{
     read_perm, read_request, read_u32, tell_answer, tell_attr, tell_items, tell_request,
     tell_wire_fault,
 };
+pub use table::chosen;
 pub use texts::Texts;
 pub use told::Told;
 pub use words::Words;

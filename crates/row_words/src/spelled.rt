@@ -9,6 +9,7 @@ ghost use Rattle.std.specs.Prelude.{IfOk};
 ghost use Rattle.fuse_wire.specs.Request.{IsSendable};
 
 use crate::fault::Fault;
+use crate::table::chosen;
 use crate::told::Told;
 use crate::words::Words;
 use eden_base::{Attr, Errno, Kind, Name, NameFault, Number, Perm, cut};
@@ -29,6 +30,58 @@ static ERRNOS: [Errno; 13] = [
     Errno::ENOTEMPTY,
     Errno::EOVERFLOW,
     Errno::ESTALE,
+];
+
+/// The kinds of answers.
+#[derive(Clone, Copy)]
+enum AnswerKind {
+    Entry,
+    Opened,
+    Attrs,
+    Done,
+    Error,
+}
+
+static ANSWER_KINDS: [(&str, AnswerKind); 5] = [
+    ("entry", AnswerKind::Entry),
+    ("opened", AnswerKind::Opened),
+    ("attr", AnswerKind::Attrs),
+    ("done", AnswerKind::Done),
+    ("error", AnswerKind::Error),
+];
+
+/// The kinds of requests that have a directory and a name in it, and nothing else.
+#[derive(Clone, Copy)]
+enum NamedKind {
+    Lookup,
+    Unlink,
+    Rmdir,
+}
+
+/// The kinds of requests.
+#[derive(Clone, Copy)]
+enum RequestKind {
+    Named(NamedKind),
+    Create,
+    Mkdir,
+    Rename,
+    Getattr,
+    Other,
+    Forget,
+    Forgets,
+}
+
+static REQUEST_KINDS: [(&str, RequestKind); 10] = [
+    ("lookup", RequestKind::Named(NamedKind::Lookup)),
+    ("unlink", RequestKind::Named(NamedKind::Unlink)),
+    ("rmdir", RequestKind::Named(NamedKind::Rmdir)),
+    ("create", RequestKind::Create),
+    ("mkdir", RequestKind::Mkdir),
+    ("rename", RequestKind::Rename),
+    ("getattr", RequestKind::Getattr),
+    ("other", RequestKind::Other),
+    ("forget", RequestKind::Forget),
+    ("forgets", RequestKind::Forgets),
 ];
 
 /// Returns how the fault of bytes that are no name is spelled.
@@ -139,49 +192,63 @@ pub fn read_attr(words: &mut Words<'_>) -> Attr {
     }
 }
 
+/// Reads a number and the attributes of its file.
+fn read_file(words: &mut Words<'_>) -> (Number, Attr) {
+    let number = Number(words.number());
+    (number, read_attr(words))
+}
+
 /// Reads the words that are left as an answer.
 pub fn read_answer(words: &mut Words<'_>) -> Result<Answer, Fault> {
-    let kind = words.word();
+    let kind = chosen(&ANSWER_KINDS, words.word()).ok_or(Fault::BadRow)?;
     let answer = match kind {
-        b"done" => Answer::Done,
-        b"error" => Answer::Error(read_errno(words)),
-        _ => {
-            let number = Number(words.number());
-            let attr = read_attr(words);
-            match kind {
-                b"entry" => Answer::Entry { number, attr },
-                b"opened" => Answer::Opened { number, attr },
-                b"attr" => Answer::Attrs { number, attr },
-                _ => return Err(Fault::BadRow),
-            }
+        AnswerKind::Entry => {
+            let (number, attr) = read_file(words);
+            Answer::Entry { number, attr }
         }
+        AnswerKind::Opened => {
+            let (number, attr) = read_file(words);
+            Answer::Opened { number, attr }
+        }
+        AnswerKind::Attrs => {
+            let (number, attr) = read_file(words);
+            Answer::Attrs { number, attr }
+        }
+        AnswerKind::Done => Answer::Done,
+        AnswerKind::Error => Answer::Error(read_errno(words)),
     };
     words.end()?;
     Ok(answer)
 }
 
-/// Reads the words behind `getattr`, `other` or `forget`, which is `kind`.
-#[tactic(auto, unfolding(fuse_wire::specs::Request::opcode_of))]
-fn read_of_number(kind: &[u8], words: &mut Words<'_>) -> Result<Request, Fault>
+/// Reads the words behind `getattr`.
+fn read_getattr(words: &mut Words<'_>) -> Result<Request, Fault>
     ensures sendable { IfOk result IsSendable }
 {
-    let first = words.number();
-    if kind == b"getattr".as_slice() {
-        words.end()?;
-        return Ok(Request::Getattr {
-            node: Number(first),
-        });
-    }
-    let second = words.number();
+    let node = Number(words.number());
     words.end()?;
-    if kind == b"forget".as_slice() {
-        return Ok(Request::Forget(Item {
-            node: Number(first),
-            k: second,
-        }));
-    }
-    let opcode = u32::try_from(first).ok().ok_or(Fault::BadRow)?;
-    Request::other(opcode, Number(second)).ok_or(Fault::BadRow)
+    Ok(Request::Getattr { node })
+}
+
+/// Reads the words behind `other`.
+#[tactic(auto, unfolding(fuse_wire::specs::Request::opcode_of))]
+fn read_other(words: &mut Words<'_>) -> Result<Request, Fault>
+    ensures sendable { IfOk result IsSendable }
+{
+    let opcode = read_u32(words);
+    let node = Number(words.number());
+    words.end()?;
+    Request::other(opcode, node).ok_or(Fault::BadRow)
+}
+
+/// Reads the words behind `forget`.
+fn read_forget(words: &mut Words<'_>) -> Result<Request, Fault>
+    ensures sendable { IfOk result IsSendable }
+{
+    let node = Number(words.number());
+    let k = words.number();
+    words.end()?;
+    Ok(Request::Forget(Item { node, k }))
 }
 
 /// Reads an item, a number and a count, and adds it to `items`.
@@ -216,20 +283,19 @@ fn read_forgets(alloc: Global, words: &mut Words<'_>) -> Result<Request, Fault>
     Ok(Request::BatchForget(Batch::of(alloc, items.as_slice())?))
 }
 
-/// Reads the words behind `lookup`, `unlink` or `rmdir`, which is `kind`.
-fn read_named(alloc: Global, kind: &[u8], words: &mut Words<'_>) -> Result<Request, Fault>
+/// Reads the words behind `lookup`, `unlink` or `rmdir`, as `kind` says.
+fn read_named(alloc: Global, kind: NamedKind, words: &mut Words<'_>) -> Result<Request, Fault>
     ensures sendable { IfOk result IsSendable }
 {
     let dir = Number(words.number());
     let bytes = words.bytes();
     words.end()?;
     let name = name_of(alloc, bytes.as_slice())?;
-    match kind {
-        b"lookup" => Ok(Request::Lookup { dir, name }),
-        b"unlink" => Ok(Request::Unlink { dir, name }),
-        b"rmdir" => Ok(Request::Rmdir { dir, name }),
-        _ => Err(Fault::BadRow),
-    }
+    Ok(match kind {
+        NamedKind::Lookup => Request::Lookup { dir, name },
+        NamedKind::Unlink => Request::Unlink { dir, name },
+        NamedKind::Rmdir => Request::Rmdir { dir, name },
+    })
 }
 
 /// Reads the words behind `create`, or else behind `mkdir`.
@@ -271,14 +337,16 @@ fn read_move(alloc: Global, words: &mut Words<'_>) -> Result<Request, Fault>
 pub fn read_request(alloc: Global, words: &mut Words<'_>) -> Result<Request, Fault>
     ensures sendable { IfOk result IsSendable }
 {
-    let kind = words.word();
+    let kind = chosen(&REQUEST_KINDS, words.word()).ok_or(Fault::BadRow)?;
     match kind {
-        b"getattr" | b"other" | b"forget" => read_of_number(kind, words),
-        b"forgets" => read_forgets(alloc, words),
-        b"rename" => read_move(alloc, words),
-        b"create" => read_made(alloc, true, words),
-        b"mkdir" => read_made(alloc, false, words),
-        _ => read_named(alloc, kind, words),
+        RequestKind::Named(kind) => read_named(alloc, kind, words),
+        RequestKind::Create => read_made(alloc, true, words),
+        RequestKind::Mkdir => read_made(alloc, false, words),
+        RequestKind::Rename => read_move(alloc, words),
+        RequestKind::Getattr => read_getattr(words),
+        RequestKind::Other => read_other(words),
+        RequestKind::Forget => read_forget(words),
+        RequestKind::Forgets => read_forgets(alloc, words),
     }
 }
 
