@@ -19,7 +19,7 @@ use broker_core::{Broker, DeliverFault, IssueFault};
 use eden_base::{Attr, DaemonId, Kind, Number, Perm};
 use fuse_wire::{Answer, Reply, Request};
 use row_words::{
-    Fault, Told, Words, name_of, read_answer, read_request, tell_answer, tell_request,
+    Fault, Told, Words, chosen, name_of, read_answer, read_request, tell_answer, tell_request,
 };
 use std::alloc::Global;
 use std::fmt::Debug;
@@ -30,6 +30,58 @@ const FILE: Attr = Attr {
     size: 3,
     nlink: 1,
 };
+
+/// The calls that change a broker, by numbers alone.
+#[derive(Clone, Copy)]
+enum Change {
+    TryMount,
+    Mount,
+    Gone,
+    Claim,
+    Take,
+    TakeMany,
+}
+
+/// The calls that change nothing.
+#[derive(Clone, Copy)]
+enum Look {
+    Held,
+    HeldAfter,
+    Stand,
+    TakeRefusal,
+    MountRefusal,
+    Seat,
+}
+
+/// The calls of a broker.
+#[derive(Clone, Copy)]
+enum BrokerCall {
+    Issue,
+    Post,
+    Deliver,
+    Rounds,
+    Change(Change),
+    Look(Look),
+}
+
+static BROKER_CALLS: [(&str, BrokerCall); 16] = [
+    ("issue", BrokerCall::Issue),
+    ("post", BrokerCall::Post),
+    ("deliver", BrokerCall::Deliver),
+    ("rounds", BrokerCall::Rounds),
+    ("try-mount", BrokerCall::Change(Change::TryMount)),
+    ("mount", BrokerCall::Change(Change::Mount)),
+    ("gone", BrokerCall::Change(Change::Gone)),
+    ("claim", BrokerCall::Change(Change::Claim)),
+    ("take", BrokerCall::Change(Change::Take)),
+    ("take-many", BrokerCall::Change(Change::TakeMany)),
+    ("held", BrokerCall::Look(Look::Held)),
+    ("held-after", BrokerCall::Look(Look::HeldAfter)),
+    ("stand", BrokerCall::Look(Look::Stand)),
+    ("take-refusal", BrokerCall::Look(Look::TakeRefusal)),
+    ("mount-refusal", BrokerCall::Look(Look::MountRefusal)),
+    ("seat", BrokerCall::Look(Look::Seat)),
+];
 
 /// Writes a fault, or none.
 fn tell_refusal<F: Debug + Copy>(told: &mut Told, fault: Option<F>) {
@@ -177,63 +229,92 @@ fn tell_stand(broker: &Broker, number: Number, told: &mut Told) {
     told.number(taken_back(broker, number));
 }
 
-/// Makes a call of numbers alone that changes nothing.
-fn look(broker: &Broker, word: &[u8], words: &mut Words<'_>, told: &mut Told) -> Called {
-    match word {
-        b"held" => told.number(broker.held(Number(words.number()))),
-        b"held-after" => {
+/// Writes the generation and the daemon of the seat, or none.
+fn tell_seat(broker: &Broker, told: &mut Told) {
+    match broker.seat() {
+        Some(seat) => {
+            told.number(seat.generation);
+            told.number(seat.daemon.0);
+        }
+        None => told.word("none"),
+    }
+}
+
+/// Makes a call that changes nothing.
+fn look_at(broker: &Broker, look: Look, words: &mut Words<'_>, told: &mut Told) -> Called {
+    match look {
+        Look::Held => told.number(broker.held(Number(words.number()))),
+        Look::HeldAfter => {
             let after = broker.held_after(Number(words.number()));
             tell_number(told, after.map(|number| number.0));
         }
-        b"stand" => tell_stand(broker, Number(words.number()), told),
-        b"take-refusal" => {
+        Look::Stand => tell_stand(broker, Number(words.number()), told),
+        Look::TakeRefusal => {
             let daemon = DaemonId(words.number());
             tell_refusal(told, broker.take_refusal(daemon, words.number()));
         }
-        b"mount-refusal" => tell_refusal(told, broker.mount_refusal()),
-        b"seat" => match broker.seat() {
-            Some(seat) => {
-                told.number(seat.generation);
-                told.number(seat.daemon.0);
-            }
-            None => told.word("none"),
-        },
-        _ => return Err(Fault::BadRow),
+        Look::MountRefusal => tell_refusal(told, broker.mount_refusal()),
+        Look::Seat => tell_seat(broker, told),
     }
     words.end()
 }
 
-/// Makes a call of numbers alone.
-fn call_numbers(
+/// Mounts, unless something refuses that: then the call is no row.
+fn mount(broker: &mut Broker, words: &mut Words<'_>, told: &mut Told) {
+    if broker.mount_refusal().is_none() {
+        told.number(broker.mount(DaemonId(words.number())));
+    } else {
+        words.refuse();
+    }
+}
+
+/// Mounts, or writes the fault.
+fn try_mount(broker: &mut Broker, words: &mut Words<'_>, told: &mut Told) {
+    match broker.try_mount(DaemonId(words.number())) {
+        Ok(generation) => told.number(generation),
+        Err(fault) => tell_fault(told, fault),
+    }
+}
+
+/// Claims the next generation.
+fn claim(broker: &mut Broker, words: &mut Words<'_>, told: &mut Told) {
+    let daemon = DaemonId(words.number());
+    match broker.claim(daemon, words.number()) {
+        Ok(next) => told.number(next),
+        Err(fault) => tell_printed(told, fault),
+    }
+}
+
+/// Makes a call that changes `broker`, by numbers alone.
+fn change_by(
     broker: &mut Broker,
-    word: &[u8],
+    change: Change,
     words: &mut Words<'_>,
     told: &mut Told,
 ) -> Called {
-    match word {
-        b"try-mount" => match broker.try_mount(DaemonId(words.number())) {
-            Ok(generation) => told.number(generation),
-            Err(fault) => tell_fault(told, fault),
-        },
-        b"mount" if broker.mount_refusal().is_none() => {
-            told.number(broker.mount(DaemonId(words.number())));
-        }
-        b"gone" => {
+    match change {
+        Change::TryMount => try_mount(broker, words, told),
+        Change::Mount => mount(broker, words, told),
+        Change::Gone => {
             broker.gone(DaemonId(words.number()));
             told.word("ok");
         }
-        b"claim" => {
-            let daemon = DaemonId(words.number());
-            match broker.claim(daemon, words.number()) {
-                Ok(next) => told.number(next),
-                Err(fault) => tell_printed(told, fault),
-            }
-        }
-        b"take" => take(broker, false, words, told),
-        b"take-many" => take(broker, true, words, told),
-        b"deliver" => tell_delivered(told, broker.deliver())?,
-        _ => return look(broker, word, words, told),
+        Change::Claim => claim(broker, words, told),
+        Change::Take => take(broker, false, words, told),
+        Change::TakeMany => take(broker, true, words, told),
     }
+    words.end()
+}
+
+/// Issues a request.
+fn issue(alloc: Global, broker: &mut Broker, words: &mut Words<'_>, told: &mut Told) -> Called {
+    let request = read_request(alloc, words)?;
+    tell_issued(told, broker.issue(&request))
+}
+
+/// Delivers a reply.
+fn deliver(broker: &mut Broker, words: &Words<'_>, told: &mut Told) -> Called {
+    tell_delivered(told, broker.deliver())?;
     words.end()
 }
 
@@ -245,13 +326,12 @@ pub(crate) fn call_broker(
     told: &mut Told,
 ) -> Called {
     let broker = broker_in(alloc, place)?;
-    match words.word() {
-        b"issue" => {
-            let request = read_request(alloc, words)?;
-            tell_issued(told, broker.issue(&request))
-        }
-        b"post" => post(broker, words, told),
-        b"rounds" => rounds(alloc, broker, words, told),
-        word => call_numbers(broker, word, words, told),
+    match chosen(&BROKER_CALLS, words.word()).ok_or(Fault::BadRow)? {
+        BrokerCall::Issue => issue(alloc, broker, words, told),
+        BrokerCall::Post => post(broker, words, told),
+        BrokerCall::Deliver => deliver(broker, words, told),
+        BrokerCall::Rounds => rounds(alloc, broker, words, told),
+        BrokerCall::Change(change) => change_by(broker, change, words, told),
+        BrokerCall::Look(look) => look_at(broker, look, words, told),
     }
 }

@@ -16,10 +16,86 @@ use crate::{Called, tell_fault};
 use byte_codec::Bytes;
 use eden_base::DaemonId;
 use frames::{Frame, FrameFault, FrameReader};
-use row_words::{Fault, Told, Words, read_u32};
+use row_words::{Fault, Told, Words, chosen, read_u32};
 use std::alloc::Global;
 use std::mem;
 use takeover_core::{Message, Versions};
+
+/// The messages that begin with their session.
+#[derive(Clone, Copy)]
+enum SessionMessage {
+    Choice,
+    Ready,
+    Pong,
+    Data,
+    Part,
+    Failed,
+}
+
+/// The messages of a takeover.
+#[derive(Clone, Copy)]
+enum MessageKind {
+    Offer,
+    NoCommon,
+    Busy,
+    OfSession(SessionMessage),
+}
+
+static MESSAGE_KINDS: [(&str, MessageKind); 9] = [
+    ("offer", MessageKind::Offer),
+    ("nocommon", MessageKind::NoCommon),
+    ("busy", MessageKind::Busy),
+    ("choice", MessageKind::OfSession(SessionMessage::Choice)),
+    ("ready", MessageKind::OfSession(SessionMessage::Ready)),
+    ("pong", MessageKind::OfSession(SessionMessage::Pong)),
+    ("data", MessageKind::OfSession(SessionMessage::Data)),
+    ("part", MessageKind::OfSession(SessionMessage::Part)),
+    ("failed", MessageKind::OfSession(SessionMessage::Failed)),
+];
+
+/// The frames that are read and are no message of a takeover.
+#[derive(Clone, Copy)]
+enum BrokerFrame {
+    Take,
+    Ask,
+    Post,
+    Posted,
+    Claim,
+    Mount,
+    Attach,
+}
+
+static BROKER_FRAMES: [(&str, BrokerFrame); 7] = [
+    ("take", BrokerFrame::Take),
+    ("ask", BrokerFrame::Ask),
+    ("post", BrokerFrame::Post),
+    ("posted", BrokerFrame::Posted),
+    ("claim", BrokerFrame::Claim),
+    ("mount", BrokerFrame::Mount),
+    ("attach", BrokerFrame::Attach),
+];
+
+/// The calls of a stream.
+#[derive(Clone, Copy)]
+enum StreamCall {
+    Feed,
+    Finish,
+    Next,
+    NextPosted,
+    Taken,
+    Rewrite,
+    Write,
+}
+
+static STREAM_CALLS: [(&str, StreamCall); 7] = [
+    ("feed", StreamCall::Feed),
+    ("finish", StreamCall::Finish),
+    ("next", StreamCall::Next),
+    ("next-posted", StreamCall::NextPosted),
+    ("taken", StreamCall::Taken),
+    ("rewrite", StreamCall::Rewrite),
+    ("write", StreamCall::Write),
+];
 
 /// Reads the next word as a number of 16 bits.
 fn read_u16(words: &mut Words<'_>) -> u16 {
@@ -49,54 +125,51 @@ pub(crate) fn read_versions(words: &mut Words<'_>) -> Result<Versions, Fault> {
     }
 }
 
-/// Reads a message that carries bytes.
-fn read_bytes(word: &[u8], session: u32, words: &mut Words<'_>) -> Result<Message, Fault> {
+/// Reads the words behind `part` and its session.
+fn read_part(session: u32, words: &mut Words<'_>) -> Message {
     let generation = words.number();
-    if word == b"data".as_slice() {
-        return Ok(Message::Data {
-            session,
-            generation,
-            bytes: Bytes::of(words.bytes()),
-        });
-    }
     let position = read_u32(words);
     let count = read_u32(words);
-    Ok(Message::Part {
+    Message::Part {
         session,
         generation,
         position,
         count,
         bytes: Bytes::of(words.bytes()),
-    })
+    }
 }
 
-/// Reads a message of a session, which begins with `word`.
-fn read_of_session(word: &[u8], words: &mut Words<'_>) -> Result<Message, Fault> {
+/// Reads a message of a session.
+fn read_of_session(message: SessionMessage, words: &mut Words<'_>) -> Message {
     let session = read_u32(words);
-    match word {
-        b"pong" => Ok(Message::Pong { session }),
-        b"failed" => Ok(Message::Failed { session }),
-        b"choice" => Ok(Message::Choice {
+    match message {
+        SessionMessage::Choice => Message::Choice {
             session,
             version: read_u16(words),
-        }),
-        b"ready" => Ok(Message::Ready {
+        },
+        SessionMessage::Ready => Message::Ready {
             session,
             generation: words.number(),
-        }),
-        b"data" | b"part" => read_bytes(word, session, words),
-        _ => Err(Fault::BadRow),
+        },
+        SessionMessage::Pong => Message::Pong { session },
+        SessionMessage::Data => Message::Data {
+            session,
+            generation: words.number(),
+            bytes: Bytes::of(words.bytes()),
+        },
+        SessionMessage::Part => read_part(session, words),
+        SessionMessage::Failed => Message::Failed { session },
     }
 }
 
 /// Reads a message, which begins with `word`.
 pub(crate) fn read_message(word: &[u8], words: &mut Words<'_>) -> Result<Message, Fault> {
-    match word {
-        b"offer" => Ok(Message::Offer(read_versions(words)?)),
-        b"nocommon" => Ok(Message::NoCommon),
-        b"busy" => Ok(Message::Busy),
-        _ => read_of_session(word, words),
-    }
+    Ok(match chosen(&MESSAGE_KINDS, word).ok_or(Fault::BadRow)? {
+        MessageKind::Offer => Message::Offer(read_versions(words)?),
+        MessageKind::NoCommon => Message::NoCommon,
+        MessageKind::Busy => Message::Busy,
+        MessageKind::OfSession(message) => read_of_session(message, words),
+    })
 }
 
 /// Writes a word and numbers.
@@ -151,23 +224,26 @@ pub(crate) fn tell_message(told: &mut Told, message: &Message) {
 
 /// Reads a frame.
 pub(crate) fn read_frame(words: &mut Words<'_>) -> Result<Frame, Fault> {
-    match words.word() {
-        b"take" => Ok(Frame::Take {
+    let word = words.word();
+    let Some(frame) = chosen(&BROKER_FRAMES, word) else {
+        return Ok(Frame::Takeover(read_message(word, words)?));
+    };
+    Ok(match frame {
+        BrokerFrame::Take => Frame::Take {
             generation: words.number(),
-        }),
-        b"claim" => Ok(Frame::Claim {
-            generation: words.number(),
-        }),
-        b"attach" => Ok(Frame::Attach(DaemonId(words.number()))),
-        b"ask" => Ok(Frame::Ask(Bytes::of(words.bytes()))),
-        b"post" => Ok(Frame::Post {
+        },
+        BrokerFrame::Ask => Frame::Ask(Bytes::of(words.bytes())),
+        BrokerFrame::Post => Frame::Post {
             generation: words.number(),
             reply: Bytes::of(words.bytes()),
-        }),
-        b"mount" => Ok(Frame::Mount),
-        b"posted" => Ok(Frame::Posted),
-        word => Ok(Frame::Takeover(read_message(word, words)?)),
-    }
+        },
+        BrokerFrame::Posted => Frame::Posted,
+        BrokerFrame::Claim => Frame::Claim {
+            generation: words.number(),
+        },
+        BrokerFrame::Mount => Frame::Mount,
+        BrokerFrame::Attach => Frame::Attach(DaemonId(words.number())),
+    })
 }
 
 /// Writes a frame.
@@ -266,33 +342,32 @@ impl Stream {
 
     /// Makes a call of frames.
     pub(crate) fn call(&mut self, alloc: Global, words: &mut Words<'_>, told: &mut Told) -> Called {
-        match words.word() {
-            b"feed" => feed(&mut self.reader, words, told),
-            b"next" => next(&mut self.reader, &mut self.taken, told),
-            b"next-posted" => {
+        match chosen(&STREAM_CALLS, words.word()).ok_or(Fault::BadRow)? {
+            StreamCall::Feed => feed(&mut self.reader, words, told),
+            StreamCall::Next => next(&mut self.reader, &mut self.taken, told),
+            StreamCall::NextPosted => {
                 told.number(count_posted(&mut self.reader, words.number()));
                 Ok(())
             }
-            b"taken" => {
+            StreamCall::Taken => {
                 tell_frame(told, &self.taken);
                 Ok(())
             }
-            b"rewrite" => {
+            StreamCall::Rewrite => {
                 let text = words.bytes();
                 words.end()?;
                 tell_written(alloc, told, &self.taken, text.as_slice())
             }
-            b"finish" => {
+            StreamCall::Finish => {
                 let reader = mem::replace(&mut self.reader, FrameReader::new(alloc));
                 tell_done(told, "ok", reader.finish())
             }
-            b"write" => {
+            StreamCall::Write => {
                 let text = words.bytes();
                 let frame = read_frame(words)?;
                 words.end()?;
                 tell_written(alloc, told, &frame, text.as_slice())
             }
-            _ => Err(Fault::BadRow),
         }
     }
 }

@@ -9,17 +9,35 @@ mod node_calls;
 
 use crate::broker_calls::call_broker;
 use crate::frame_calls::Stream;
-use crate::mount_calls::{Mount, call_desk, call_mount, mount_in};
+use crate::mount_calls::{Mount, call_desk, call_mount};
 use crate::node_calls::call_place;
 use arrayvec::ArrayString;
 use broker_core::Broker;
-use row_words::{Fault, Told, Words};
+use row_words::{Fault, Told, Words, chosen};
 use std::alloc::Global;
 use std::fmt::{Debug, Display, Write};
 use takeover_core::Node;
 
 /// What became of a row: its result is written, or it has none.
 pub type Called = Result<(), Fault>;
+
+/// What these calls are of.
+#[derive(Clone, Copy)]
+enum Subject {
+    Broker,
+    Desk,
+    Mount,
+    Frames,
+    Node,
+}
+
+static SUBJECTS: [(&str, Subject); 5] = [
+    ("broker", Subject::Broker),
+    ("desk", Subject::Desk),
+    ("mount", Subject::Mount),
+    ("frames", Subject::Frames),
+    ("node", Subject::Node),
+];
 
 /// The values that these calls change.
 pub struct Messages {
@@ -76,6 +94,15 @@ impl Messages {
         }
     }
 
+    /// Makes a call of a daemon, which the first word names.
+    fn call_daemon(&mut self, words: &mut Words<'_>, told: &mut Told) -> Called {
+        match words.word() {
+            b"old" => call_place(&mut self.old, words, told),
+            b"new" => call_place(&mut self.new, words, told),
+            _ => Err(Fault::BadRow),
+        }
+    }
+
     /// Makes a call of `subject`.
     pub fn call(
         &mut self,
@@ -84,17 +111,12 @@ impl Messages {
         words: &mut Words<'_>,
         told: &mut Told,
     ) -> Called {
-        match subject {
-            b"broker" => call_broker(alloc, &mut self.broker, words, told),
-            b"desk" => call_desk(alloc, mount_in(alloc, &mut self.mount)?, words, told),
-            b"mount" => call_mount(alloc, mount_in(alloc, &mut self.mount)?, words, told),
-            b"frames" => self.stream.call(alloc, words, told),
-            b"node" => match words.word() {
-                b"old" => call_place(&mut self.old, words, told),
-                b"new" => call_place(&mut self.new, words, told),
-                _ => Err(Fault::BadRow),
-            },
-            _ => Err(Fault::BadRow),
+        match chosen(&SUBJECTS, subject).ok_or(Fault::BadRow)? {
+            Subject::Broker => call_broker(alloc, &mut self.broker, words, told),
+            Subject::Desk => call_desk(alloc, &mut self.mount, words, told),
+            Subject::Mount => call_mount(alloc, &mut self.mount, words, told),
+            Subject::Frames => self.stream.call(alloc, words, told),
+            Subject::Node => self.call_daemon(words, told),
         }
     }
 }

@@ -25,9 +25,62 @@ use fuse_wire::{Ask, Item, MAX_REPLY_LEN, Reply, write_reply};
 use mount_desk::{Delivered, Forgot, Heard, Kernel, Progress, forget, take_back};
 use mount_wire::{BatchReader, Message, read_message};
 use row_words::{
-    Fault, Told, Words, read_answer, read_request, tell_answer, tell_request, tell_wire_fault,
+    Fault, Told, Words, chosen, read_answer, read_request, tell_answer, tell_request,
+    tell_wire_fault,
 };
 use std::alloc::Global;
+
+/// The calls of a connection.
+#[derive(Clone, Copy)]
+enum PeerCall {
+    On,
+    Post,
+    Connect,
+    Leave,
+}
+
+static PEER_CALLS: [(&str, PeerCall); 4] = [
+    ("on", PeerCall::On),
+    ("post", PeerCall::Post),
+    ("connect", PeerCall::Connect),
+    ("leave", PeerCall::Leave),
+];
+
+/// The calls of a desk that are of no connection.
+#[derive(Clone, Copy)]
+enum DeskCall {
+    Close,
+    Running,
+    Held,
+    Issue,
+    Deliver,
+}
+
+static DESK_CALLS: [(&str, DeskCall); 5] = [
+    ("close", DeskCall::Close),
+    ("running", DeskCall::Running),
+    ("held", DeskCall::Held),
+    ("issue", DeskCall::Issue),
+    ("deliver", DeskCall::Deliver),
+];
+
+/// The calls of a kernel.
+#[derive(Clone, Copy)]
+enum MountCall {
+    Ask,
+    Deliver,
+    Forget,
+    TakeBack,
+    Hear,
+}
+
+static MOUNT_CALLS: [(&str, MountCall); 5] = [
+    ("ask", MountCall::Ask),
+    ("deliver", MountCall::Deliver),
+    ("forget", MountCall::Forget),
+    ("take-back", MountCall::TakeBack),
+    ("hear", MountCall::Hear),
+];
 
 /// A desk, the kernel at it, and who is at each connection.
 #[derive(Drop)]
@@ -38,7 +91,7 @@ pub(crate) struct Mount {
 }
 
 /// Returns the mount in `place`, and makes one if there is none.
-pub(crate) fn mount_in(alloc: Global, place: &mut Option<Mount>) -> Result<&mut Mount, Fault> {
+fn mount_in(alloc: Global, place: &mut Option<Mount>) -> Result<&mut Mount, Fault> {
     if place.is_none() {
         *place = Some(Mount {
             desk: Desk::new(alloc)?,
@@ -81,60 +134,76 @@ fn read_post(alloc: Global, words: &mut Words<'_>) -> Result<Frame, Fault> {
     Ok(Frame::Post { generation, reply })
 }
 
+/// Has the desk answer `frame`, which comes from `peer`.
+fn answer(alloc: Global, desk: &mut Desk, peer: &mut Peer, frame: &Frame, told: &mut Told) {
+    let response = desk.answer(peer, frame);
+    tell_response(alloc, told, &response);
+}
+
+/// Has the desk answer a frame from `peer`: a Post of an answer, or else any frame.
+fn answer_next(
+    alloc: Global,
+    desk: &mut Desk,
+    peer: &mut Peer,
+    is_post: bool,
+    words: &mut Words<'_>,
+    told: &mut Told,
+) -> Called {
+    let frame = if is_post {
+        read_post(alloc, words)?
+    } else {
+        read_frame(words)?
+    };
+    words.end()?;
+    answer(alloc, desk, peer, &frame, told);
+    Ok(())
+}
+
 /// Makes a call of the peer at a connection.
 fn call_peer(
     alloc: Global,
     mount: &mut Mount,
-    word: &[u8],
+    call: PeerCall,
     words: &mut Words<'_>,
     told: &mut Told,
 ) -> Called {
     let index = usize::try_from(words.number()).ok().ok_or(Fault::BadRow)?;
     let peer = mount.peers.get_mut(index).ok_or(Fault::BadRow)?;
-    let frame = match word {
-        b"on" => read_frame(words)?,
-        b"post" => read_post(alloc, words)?,
-        _ => {
-            if word == b"leave".as_slice() {
-                mount.desk.leave(*peer);
-            } else {
-                *peer = Peer::Stranger;
-            }
-            told.word("ok");
-            return words.end();
-        }
-    };
-    words.end()?;
-    let response = mount.desk.answer(peer, &frame);
-    drop(frame);
-    tell_response(alloc, told, &response);
-    Ok(())
+    let desk = &mut mount.desk;
+    match call {
+        PeerCall::On => return answer_next(alloc, desk, peer, false, words, told),
+        PeerCall::Post => return answer_next(alloc, desk, peer, true, words, told),
+        PeerCall::Connect => *peer = Peer::Stranger,
+        PeerCall::Leave => desk.leave(*peer),
+    }
+    told.word("ok");
+    words.end()
 }
 
-/// Makes a call of the desk of `mount`.
+/// Makes a call of the desk in `place`.
 pub(crate) fn call_desk(
     alloc: Global,
-    mount: &mut Mount,
+    place: &mut Option<Mount>,
     words: &mut Words<'_>,
     told: &mut Told,
 ) -> Called {
+    let mount = mount_in(alloc, place)?;
     let word = words.word();
-    match word {
-        b"on" | b"post" | b"connect" | b"leave" => {
-            return call_peer(alloc, mount, word, words, told);
-        }
-        b"issue" => {
-            let request = read_request(alloc, words)?;
-            return tell_issued(told, mount.desk.issue(&request));
-        }
-        b"deliver" => return tell_delivered(told, mount.desk.deliver()),
-        b"close" => {
+    if let Some(call) = chosen(&PEER_CALLS, word) {
+        return call_peer(alloc, mount, call, words, told);
+    }
+    match chosen(&DESK_CALLS, word).ok_or(Fault::BadRow)? {
+        DeskCall::Close => {
             mount.desk.close();
             told.word("ok");
         }
-        b"running" => told.number(mount.desk.running() as u64),
-        b"held" => told.number(mount.desk.broker().held(Number(words.number()))),
-        _ => return Err(Fault::BadRow),
+        DeskCall::Running => told.number(mount.desk.running() as u64),
+        DeskCall::Held => told.number(mount.desk.broker().held(Number(words.number()))),
+        DeskCall::Issue => {
+            let request = read_request(alloc, words)?;
+            return tell_issued(told, mount.desk.issue(&request));
+        }
+        DeskCall::Deliver => return tell_delivered(told, mount.desk.deliver()),
     }
     words.end()
 }
@@ -233,26 +302,26 @@ fn ask(alloc: Global, mount: &mut Mount, words: &mut Words<'_>, told: &mut Told)
     tell_heard(told, heard)
 }
 
-/// Makes a call of the kernel of `mount`.
+/// Makes a call of the kernel in `place`.
 pub(crate) fn call_mount(
     alloc: Global,
-    mount: &mut Mount,
+    place: &mut Option<Mount>,
     words: &mut Words<'_>,
     told: &mut Told,
 ) -> Called {
-    match words.word() {
-        b"ask" => ask(alloc, mount, words, told),
-        b"hear" => hear(alloc, mount, words, told),
-        b"forget" => {
+    let mount = mount_in(alloc, place)?;
+    match chosen(&MOUNT_CALLS, words.word()).ok_or(Fault::BadRow)? {
+        MountCall::Ask => ask(alloc, mount, words, told),
+        MountCall::Hear => hear(alloc, mount, words, told),
+        MountCall::Forget => {
             let node = Number(words.number());
             let k = words.number();
             tell_forgot(told, forget(&mut mount.desk, Item { node, k }))
         }
-        b"take-back" => {
+        MountCall::TakeBack => {
             let answer = read_answer(words)?;
             tell_forgot(told, take_back(&mut mount.desk, &answer))
         }
-        b"deliver" => tell_brought(told, mount.kernel.deliver(&mut mount.desk)),
-        _ => Err(Fault::BadRow),
+        MountCall::Deliver => tell_brought(told, mount.kernel.deliver(&mut mount.desk)),
     }
 }

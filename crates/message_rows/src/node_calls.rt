@@ -17,8 +17,60 @@ use crate::frame_calls::{read_message, read_versions, tell_message, tell_numbers
 use crate::{Called, tell_number, tell_printed};
 use byte_codec::Bytes;
 use eden_base::ClaimFault;
-use row_words::{Fault, Told, Words};
+use row_words::{Fault, Told, Words, chosen};
 use takeover_core::{Heard, Message, Node, Phase};
+
+/// The calls that leave the daemon as it is.
+#[derive(Clone, Copy)]
+enum NodeCall {
+    Try,
+    Offer,
+    MayTake,
+    ClaimWanted,
+    Fault,
+}
+
+static NODE_CALLS: [(&str, NodeCall); 5] = [
+    ("try", NodeCall::Try),
+    ("offer", NodeCall::Offer),
+    ("may-take", NodeCall::MayTake),
+    ("claim-wanted", NodeCall::ClaimWanted),
+    ("fault", NodeCall::Fault),
+];
+
+/// The calls that may change the phase.
+#[derive(Clone, Copy)]
+enum Step {
+    Mounted,
+    PartsMade,
+    Crash,
+    Claimed,
+    Hear,
+    GiveUp,
+    Fed,
+    NotFed,
+    Raised,
+    NotRaised,
+    DataMade,
+    DataFailed,
+    Drained,
+}
+
+static STEPS: [(&str, Step); 13] = [
+    ("mounted", Step::Mounted),
+    ("parts-made", Step::PartsMade),
+    ("crash", Step::Crash),
+    ("claimed", Step::Claimed),
+    ("hear", Step::Hear),
+    ("give-up", Step::GiveUp),
+    ("fed", Step::Fed),
+    ("not-fed", Step::NotFed),
+    ("raised", Step::Raised),
+    ("not-raised", Step::NotRaised),
+    ("data-made", Step::DataMade),
+    ("data-failed", Step::DataFailed),
+    ("drained", Step::Drained),
+];
 
 /// Returns the name of a phase.
 fn name_of(phase: Phase) -> &'static str {
@@ -185,48 +237,36 @@ fn hear(node: &mut Node, words: &mut Words<'_>, told: &mut Told) -> Called {
     Ok(())
 }
 
-/// Makes a call of which a daemon says a message, or nothing.
-fn call_said(node: &mut Node, word: &[u8], told: &mut Told) -> Called {
-    tell_said(
-        told,
-        match (word, node.phase()) {
-            (b"fed", Phase::Taking { .. }) => node.fed(true),
-            (b"not-fed", Phase::Taking { .. }) => node.fed(false),
-            (b"raised", Phase::Raising { .. }) => node.raised(true),
-            (b"not-raised", Phase::Raising { .. }) => node.raised(false),
-            (b"data-failed", Phase::Making { .. }) => Some(node.data_failed()),
-            _ => return Err(Fault::BadRow),
-        },
-    );
-    Ok(())
-}
-
-/// Makes a call of numbers alone.
-fn call_numbers(node: &mut Node, word: &[u8], words: &mut Words<'_>, told: &mut Told) -> Called {
-    match (word, node.phase()) {
-        (b"mounted", Phase::Waiting) => node.mounted(words.number()),
-        (b"claimed", Phase::Holding { .. }) => node.claimed(read_claim(words)),
-        (b"parts-made", Phase::Making { version: 2, .. }) => node.parts_made(),
-        (b"crash", _) => node.crash(),
-        (b"data-made", Phase::Making { version: 1, .. }) => {
+/// Takes a step. One that is not of the phase is no row.
+fn go(node: &mut Node, step: Step, words: &mut Words<'_>, told: &mut Told) -> Called {
+    match (step, node.phase()) {
+        (Step::Mounted, Phase::Waiting) => node.mounted(words.number()),
+        (Step::PartsMade, Phase::Making { version: 2, .. }) => node.parts_made(),
+        (Step::Crash, _) => node.crash(),
+        (Step::Claimed, Phase::Holding { .. }) => node.claimed(read_claim(words)),
+        (Step::Hear, _) => hear(node, words, told)?,
+        (Step::GiveUp, _) => tell_heard(told, &node.give_up()),
+        (Step::Fed, Phase::Taking { .. }) => tell_said(told, node.fed(true)),
+        (Step::NotFed, Phase::Taking { .. }) => tell_said(told, node.fed(false)),
+        (Step::Raised, Phase::Raising { .. }) => tell_said(told, node.raised(true)),
+        (Step::NotRaised, Phase::Raising { .. }) => tell_said(told, node.raised(false)),
+        (Step::DataMade, Phase::Making { version: 1, .. }) => {
             tell_said(told, Some(node.data_made(Bytes::of(words.bytes()))));
         }
-        (b"give-up", _) => tell_heard(told, &node.give_up()),
-        (b"drained", _) => {
+        (Step::DataFailed, Phase::Making { .. }) => tell_said(told, Some(node.data_failed())),
+        (Step::Drained, _) => {
             let in_hand = words.number();
             drained(node, in_hand, words.number(), told);
         }
-        _ => call_said(node, word, told)?,
+        _ => return Err(Fault::BadRow),
     }
     words.end()
 }
 
 /// Makes a call that may change the phase, and writes the phase that is reached.
-fn call_node(node: &mut Node, word: &[u8], words: &mut Words<'_>, told: &mut Told) -> Called {
-    match word {
-        b"hear" => hear(node, words, told)?,
-        _ => call_numbers(node, word, words, told)?,
-    }
+fn call_step(node: &mut Node, word: &[u8], words: &mut Words<'_>, told: &mut Told) -> Called {
+    let step = chosen(&STEPS, word).ok_or(Fault::BadRow)?;
+    go(node, step, words, told)?;
     if told.as_str().is_empty() {
         told.word("ok");
     }
@@ -235,22 +275,27 @@ fn call_node(node: &mut Node, word: &[u8], words: &mut Words<'_>, told: &mut Tol
     Ok(())
 }
 
-/// Makes a call on `node`, or on a copy of it.
-fn call_either(node: &mut Node, word: &[u8], words: &mut Words<'_>, told: &mut Told) -> Called {
-    match word {
-        b"offer" => tell_message(told, &node.offer()),
-        b"may-take" => told.flag(node.may_take()),
-        b"claim-wanted" => tell_number(told, node.claim_wanted()),
-        b"fault" => match read_claim(words) {
+/// Makes a step on a copy of `node`.
+fn call_copy(node: &Node, words: &mut Words<'_>, told: &mut Told) -> Called {
+    let mut copy = node.copy();
+    let word = words.word();
+    call_step(&mut copy, word, words, told)
+}
+
+/// Makes a call of `node`.
+fn call_node(node: &mut Node, word: &[u8], words: &mut Words<'_>, told: &mut Told) -> Called {
+    let Some(call) = chosen(&NODE_CALLS, word) else {
+        return call_step(node, word, words, told);
+    };
+    match call {
+        NodeCall::Try => return call_copy(node, words, told),
+        NodeCall::Offer => tell_message(told, &node.offer()),
+        NodeCall::MayTake => told.flag(node.may_take()),
+        NodeCall::ClaimWanted => tell_number(told, node.claim_wanted()),
+        NodeCall::Fault => match read_claim(words) {
             Ok(_generation) => return Err(Fault::BadRow),
             Err(fault) => tell_printed(told, fault),
         },
-        b"try" => {
-            let word = words.word();
-            let mut copy = node.copy();
-            call_node(&mut copy, word, words, told)?;
-        }
-        _ => call_node(node, word, words, told)?,
     }
     Ok(())
 }
@@ -268,5 +313,5 @@ pub(crate) fn call_place(
         return words.end();
     }
     let node = place.as_mut().ok_or(Fault::BadRow)?;
-    call_either(node, word, words, told)
+    call_node(node, word, words, told)
 }
