@@ -6,10 +6,48 @@
 //! `arena order`: all values, the oldest first; `arena agree PLACE ..`: the values there, the last place first, then how
 //! many there are, and whether the last place is the oldest; `arena len`.
 use node_arena::{Nodes, Slot};
-use row_words::{Fault, Told, Words};
+use row_words::{Fault, Told, Words, chosen};
 
 /// How many places a row may have.
 const MOST_PLACES: usize = 64;
+
+/// The calls of an arena that name no slot, or several.
+#[derive(Clone, Copy)]
+enum ArenaCall {
+    Add,
+    TakeOldest,
+    Order,
+    Agree,
+    Len,
+}
+
+static ARENA_CALLS: [(&str, ArenaCall); 5] = [
+    ("add", ArenaCall::Add),
+    ("take_oldest", ArenaCall::TakeOldest),
+    ("order", ArenaCall::Order),
+    ("agree", ArenaCall::Agree),
+    ("len", ArenaCall::Len),
+];
+
+/// The calls of a slot.
+#[derive(Clone, Copy)]
+enum SlotCall {
+    Touch,
+    Set,
+    Remove,
+    IsHeld,
+    IsOldest,
+    Same,
+}
+
+static SLOT_CALLS: [(&str, SlotCall); 6] = [
+    ("touch", SlotCall::Touch),
+    ("set", SlotCall::Set),
+    ("remove", SlotCall::Remove),
+    ("is_held", SlotCall::IsHeld),
+    ("is_oldest", SlotCall::IsOldest),
+    ("same", SlotCall::Same),
+];
 
 /// An arena, and the slots that rows name.
 #[derive(Drop)]
@@ -140,28 +178,31 @@ impl Arena {
     }
 
     /// Makes a call of a slot.
-    fn call_slot(&mut self, call: &[u8], words: &mut Words<'_>, told: &mut Told) {
+    fn call_slot(&mut self, call: SlotCall, words: &mut Words<'_>, told: &mut Told) {
         let slot = self.slot(words);
         match call {
-            b"touch" => self.change(slot, None, told),
-            b"set" => self.change(slot, Some(words.number()), told),
-            b"remove" => self.remove(slot, told),
-            b"is_held" => told.flag(self.nodes.is_held(slot)),
-            b"is_oldest" => told.flag(self.nodes.oldest() == Some(slot)),
-            b"same" => told.flag(self.slot(words) == slot),
-            _ => words.refuse(),
+            SlotCall::Touch => self.change(slot, None, told),
+            SlotCall::Set => self.change(slot, Some(words.number()), told),
+            SlotCall::Remove => self.remove(slot, told),
+            SlotCall::IsHeld => told.flag(self.nodes.is_held(slot)),
+            SlotCall::IsOldest => told.flag(self.nodes.oldest() == Some(slot)),
+            SlotCall::Same => told.flag(self.slot(words) == slot),
         }
     }
 
     /// Makes a call.
     fn call(&mut self, words: &mut Words<'_>, told: &mut Told) -> Result<(), Fault> {
-        match words.word() {
-            b"add" => self.add(words, told)?,
-            b"len" => told.number(self.nodes.len() as u64),
-            b"order" => self.tell_order(told),
-            b"take_oldest" => self.take_oldest(told),
-            b"agree" => self.agree(words, told),
-            call => self.call_slot(call, words, told),
+        let word = words.word();
+        match chosen(&ARENA_CALLS, word) {
+            Some(ArenaCall::Add) => self.add(words, told)?,
+            Some(ArenaCall::TakeOldest) => self.take_oldest(told),
+            Some(ArenaCall::Order) => self.tell_order(told),
+            Some(ArenaCall::Agree) => self.agree(words, told),
+            Some(ArenaCall::Len) => told.number(self.nodes.len() as u64),
+            None => {
+                let call = chosen(&SLOT_CALLS, word).ok_or(Fault::BadRow)?;
+                self.call_slot(call, words, told);
+            }
         }
         words.end()
     }

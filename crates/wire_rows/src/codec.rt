@@ -11,7 +11,25 @@ use byte_codec::{
     Bytes, byte_at, bytes_at, put_byte, put_slice, put_u16, put_u32, put_u64, u16_at, u16_in,
     u32_at, u32_in, u64_at, u64_in,
 };
-use row_words::{Fault, Told, Words};
+use row_words::{Fault, Told, Words, chosen};
+
+/// The calls of fields.
+#[derive(Clone, Copy)]
+enum CodecCall {
+    Put,
+    Take,
+    Number,
+    Bytes,
+    Equal,
+}
+
+static CODEC_CALLS: [(&str, CodecCall); 5] = [
+    ("put", CodecCall::Put),
+    ("take", CodecCall::Take),
+    ("number", CodecCall::Number),
+    ("bytes", CodecCall::Bytes),
+    ("equal", CodecCall::Equal),
+];
 
 /// Says that a field is cut off.
 #[derive(Clone, Copy)]
@@ -40,7 +58,7 @@ fn put(words: &mut Words<'_>, told: &mut Told) -> Result<(), Fault> {
     out.reserve(letters.len().saturating_add(15))?;
     put_fields(&mut out, numbers, letters.as_slice());
     told.bytes(out.as_slice());
-    Ok(())
+    words.end()
 }
 
 /// Writes the fields at the front of `bytes`.
@@ -84,13 +102,12 @@ fn tell_bytes(bytes: Bytes, told: &mut Told) {
 
 /// Makes a call of fields.
 pub(crate) fn call_codec(words: &mut Words<'_>, told: &mut Told) -> Result<(), Fault> {
-    match words.word() {
-        b"put" => put(words, told)?,
-        b"take" => take(words.bytes().as_slice(), told),
-        b"number" => tell_number(words.bytes().as_slice(), told),
-        b"equal" => told.flag(Bytes::of(words.bytes()) == Bytes::of(words.bytes())),
-        b"bytes" => tell_bytes(Bytes::of(words.bytes()), told),
-        _ => return Err(Fault::BadRow),
+    match chosen(&CODEC_CALLS, words.word()).ok_or(Fault::BadRow)? {
+        CodecCall::Put => return put(words, told),
+        CodecCall::Take => take(words.bytes().as_slice(), told),
+        CodecCall::Number => tell_number(words.bytes().as_slice(), told),
+        CodecCall::Equal => told.flag(Bytes::of(words.bytes()) == Bytes::of(words.bytes())),
+        CodecCall::Bytes => tell_bytes(Bytes::of(words.bytes()), told),
     }
     words.end()
 }

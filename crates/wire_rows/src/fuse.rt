@@ -15,10 +15,33 @@ use fuse_wire::{
     read_items, read_reply, read_request, read_request_to, write_reply, write_request,
 };
 use row_words::{
-    Fault, Told, Words, read_answer, read_request as request_of, read_u32, tell_answer, tell_items,
-    tell_request, tell_wire_fault,
+    Fault, Told, Words, chosen, read_answer, read_request as request_of, read_u32, tell_answer,
+    tell_items, tell_request, tell_wire_fault,
 };
 use std::alloc::Global;
+
+/// The calls that have more than the bytes of one message.
+#[derive(Clone, Copy)]
+enum FuseCall {
+    Write,
+    Other,
+    WriteReply,
+    FaultReply,
+}
+
+static FUSE_CALLS: [(&str, FuseCall); 4] = [
+    ("write", FuseCall::Write),
+    ("other", FuseCall::Other),
+    ("write_reply", FuseCall::WriteReply),
+    ("fault_reply", FuseCall::FaultReply),
+];
+
+static FAULTS: [(&str, WireFault); 4] = [
+    ("Short", WireFault::Short),
+    ("BadBody", WireFault::BadBody),
+    ("BadCount", WireFault::BadCount),
+    ("NoMemory", WireFault::NoMemory),
+];
 
 /// Returns whether the request in `bytes`, read into rooms, equals `ask`.
 fn is_read_to_rooms(alloc: Global, bytes: &[u8], ask: &Ask) -> Result<bool, Fault> {
@@ -168,12 +191,9 @@ fn put_reply(words: &mut Words<'_>, told: &mut Told) -> Result<(), Fault> {
 
 /// Reads a fault of a request. `BadName` has the fault of the name behind it.
 fn read_fault(words: &mut Words<'_>) -> WireFault {
-    match words.word() {
-        b"Short" => WireFault::Short,
-        b"BadBody" => WireFault::BadBody,
-        b"BadCount" => WireFault::BadCount,
-        b"NoMemory" => WireFault::NoMemory,
-        _ => {
+    match chosen(&FAULTS, words.word()) {
+        Some(fault) => fault,
+        None => {
             if words.word() != b"TooLong".as_slice() {
                 words.refuse();
             }
@@ -221,15 +241,16 @@ fn call_bytes(alloc: Global, call: &[u8], bytes: &[u8], told: &mut Told) -> Resu
 
 /// Makes a call of requests and replies.
 pub(crate) fn call_fuse(words: &mut Words<'_>, told: &mut Told) -> Result<(), Fault> {
-    match words.word() {
-        b"write" => write(words, told),
-        b"write_reply" => put_reply(words, told),
-        b"fault_reply" => call_fault(words, told),
-        b"other" => call_other(words, told),
-        call => {
+    let word = words.word();
+    match chosen(&FUSE_CALLS, word) {
+        Some(FuseCall::Write) => write(words, told),
+        Some(FuseCall::Other) => call_other(words, told),
+        Some(FuseCall::WriteReply) => put_reply(words, told),
+        Some(FuseCall::FaultReply) => call_fault(words, told),
+        None => {
             let bytes = words.bytes();
             words.end()?;
-            call_bytes(words.alloc(), call, bytes.as_slice(), told)
+            call_bytes(words.alloc(), word, bytes.as_slice(), told)
         }
     }
 }

@@ -11,8 +11,26 @@ use mount_wire::{
     answer_init, answer_statfs, owner_of, read_header, read_message, read_offer, tell_answer,
     tell_error,
 };
-use row_words::{Fault, Told, Words, read_answer, read_errno, read_u32, tell_items, tell_request};
+use row_words::{
+    Fault, Told, Words, chosen, read_answer, read_errno, read_u32, tell_items, tell_request,
+};
 use std::alloc::Global;
+
+/// The calls that have numbers.
+#[derive(Clone, Copy)]
+enum KernelCall {
+    Owner,
+    Statfs,
+    Error,
+    Tell,
+}
+
+static KERNEL_CALLS: [(&str, KernelCall); 4] = [
+    ("owner", KernelCall::Owner),
+    ("statfs", KernelCall::Statfs),
+    ("error", KernelCall::Error),
+    ("tell", KernelCall::Tell),
+];
 
 /// How many items a message may have.
 const MOST_ITEMS: usize = 1 << 16;
@@ -160,6 +178,13 @@ fn call_bytes(alloc: Global, call: &[u8], bytes: &[u8], told: &mut Told) -> Resu
     Ok(())
 }
 
+/// Makes the call of a message that `call` tells.
+fn call_message(call: &[u8], words: &mut Words<'_>, told: &mut Told) -> Result<(), Fault> {
+    let bytes = words.bytes();
+    call_bytes(words.alloc(), call, bytes.as_slice(), told)?;
+    words.end()
+}
+
 /// Tells an answer.
 fn call_tell(words: &mut Words<'_>, told: &mut Told) -> Result<(), Fault> {
     let unique = words.number();
@@ -176,18 +201,16 @@ fn call_tell(words: &mut Words<'_>, told: &mut Told) -> Result<(), Fault> {
 
 /// Makes a call of a kernel's messages.
 pub(crate) fn call_kernel(words: &mut Words<'_>, told: &mut Told) -> Result<(), Fault> {
-    match words.word() {
-        b"owner" => told.word(owner_name(owner_of(read_u32(words)))),
-        b"statfs" => told.bytes(answer_statfs(words.number()).as_slice()),
-        b"error" => {
+    let word = words.word();
+    match chosen(&KERNEL_CALLS, word) {
+        Some(KernelCall::Owner) => told.word(owner_name(owner_of(read_u32(words)))),
+        Some(KernelCall::Statfs) => told.bytes(answer_statfs(words.number()).as_slice()),
+        Some(KernelCall::Error) => {
             let unique = words.number();
             told.bytes(tell_error(unique, read_errno(words)).as_slice());
         }
-        b"tell" => call_tell(words, told)?,
-        call => {
-            let bytes = words.bytes();
-            call_bytes(words.alloc(), call, bytes.as_slice(), told)?;
-        }
+        Some(KernelCall::Tell) => return call_tell(words, told),
+        None => return call_message(word, words, told),
     }
     words.end()
 }

@@ -15,8 +15,30 @@ use crate::kernel::call_kernel;
 use crate::names::{call_names, call_perms};
 use crate::queue::call_queue;
 use block_queue::BlockQueue;
-use row_words::{Fault, Told, Words};
+use row_words::{Fault, Told, Words, chosen};
 use std::alloc::Global;
+
+/// What these calls are of.
+#[derive(Clone, Copy)]
+enum Subject {
+    Name,
+    Perm,
+    Codec,
+    Queue,
+    Arena,
+    Fuse,
+    Kernel,
+}
+
+static SUBJECTS: [(&str, Subject); 7] = [
+    ("name", Subject::Name),
+    ("perm", Subject::Perm),
+    ("codec", Subject::Codec),
+    ("queue", Subject::Queue),
+    ("arena", Subject::Arena),
+    ("fuse", Subject::Fuse),
+    ("kernel", Subject::Kernel),
+];
 
 /// A queue and an arena.
 pub struct Wire {
@@ -46,15 +68,14 @@ impl Wire {
         words: &mut Words<'_>,
         told: &mut Told,
     ) -> Result<(), Fault> {
-        match subject {
-            b"name" => call_names(words, told),
-            b"perm" => call_perms(words, told),
-            b"codec" => call_codec(words, told),
-            b"queue" => call_queue(&mut self.queue, words, told),
-            b"arena" => call_arena(&mut self.arena, words, told),
-            b"fuse" => call_fuse(words, told),
-            b"kernel" => call_kernel(words, told),
-            _ => Err(Fault::BadRow),
+        match chosen(&SUBJECTS, subject).ok_or(Fault::BadRow)? {
+            Subject::Name => call_names(words, told),
+            Subject::Perm => call_perms(words, told),
+            Subject::Codec => call_codec(words, told),
+            Subject::Queue => call_queue(&mut self.queue, words, told),
+            Subject::Arena => call_arena(&mut self.arena, words, told),
+            Subject::Fuse => call_fuse(words, told),
+            Subject::Kernel => call_kernel(words, told),
         }
     }
 }

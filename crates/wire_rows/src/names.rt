@@ -4,9 +4,25 @@
 //! bytes that are none; `name copy BYTES`, `name copy_to BYTES`: the name's copy, if it is the name;
 //! `name compare BYTES BYTES`: the order of two names, and whether the first is less; `perm of BITS`: octal, or `none`.
 use eden_base::{Name, NameFault, NameRoom, Perm};
-use row_words::{Fault, Told, Words, name_fault, name_of, octal};
+use row_words::{Fault, Told, Words, chosen, name_fault, name_of, octal};
 use std::alloc::Global;
 use std::cmp::Ordering;
+
+/// The calls of one name.
+#[derive(Clone, Copy)]
+enum NameCall {
+    Parse,
+    ParseTo,
+    Copy,
+    CopyTo,
+}
+
+static NAME_CALLS: [(&str, NameCall); 4] = [
+    ("parse", NameCall::Parse),
+    ("parse_to", NameCall::ParseTo),
+    ("copy", NameCall::Copy),
+    ("copy_to", NameCall::CopyTo),
+];
 
 /// Writes the name that was read, or why there is none.
 fn tell(parsed: Result<Name, NameFault>, told: &mut Told) -> Result<(), Fault> {
@@ -65,12 +81,11 @@ fn parse_to(alloc: Global, bytes: &[u8], told: &mut Told) -> Result<(), Fault> {
 
 /// Makes the call of `bytes` that `call` tells.
 fn call_bytes(alloc: Global, call: &[u8], bytes: &[u8], told: &mut Told) -> Result<(), Fault> {
-    match call {
-        b"parse" => tell(Name::parse(alloc, bytes), told),
-        b"parse_to" => parse_to(alloc, bytes, told),
-        b"copy" => copy(alloc, bytes, told),
-        b"copy_to" => copy_to(alloc, bytes, told),
-        _ => Err(Fault::BadRow),
+    match chosen(&NAME_CALLS, call).ok_or(Fault::BadRow)? {
+        NameCall::Parse => tell(Name::parse(alloc, bytes), told),
+        NameCall::ParseTo => parse_to(alloc, bytes, told),
+        NameCall::Copy => copy(alloc, bytes, told),
+        NameCall::CopyTo => copy_to(alloc, bytes, told),
     }
 }
 

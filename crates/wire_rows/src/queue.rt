@@ -7,8 +7,34 @@
 ghost use Rattle.std.specs.Prelude.{◌≤◌, OnOk};
 
 use block_queue::BlockQueue;
-use row_words::{Fault, Told, Words};
+use row_words::{Fault, Told, Words, chosen};
 use std::alloc::AllocError;
+
+/// The calls that have a number.
+#[derive(Clone, Copy)]
+enum NumberCall {
+    Reserve,
+    Push,
+    Fill,
+    Runs,
+}
+
+/// The calls of a queue.
+#[derive(Clone, Copy)]
+enum QueueCall {
+    Number(NumberCall),
+    Remove,
+    Len,
+}
+
+static QUEUE_CALLS: [(&str, QueueCall); 6] = [
+    ("reserve", QueueCall::Number(NumberCall::Reserve)),
+    ("push", QueueCall::Number(NumberCall::Push)),
+    ("fill", QueueCall::Number(NumberCall::Fill)),
+    ("runs", QueueCall::Number(NumberCall::Runs)),
+    ("remove", QueueCall::Remove),
+    ("len", QueueCall::Len),
+];
 
 /// How many indexes a row may have.
 const MOST_INDEXES: usize = 10_000;
@@ -78,7 +104,7 @@ fn remove_each(queue: &mut BlockQueue<u64>, words: &mut Words<'_>, told: &mut To
 /// Makes a call that has a number.
 fn call_number(
     queue: &mut BlockQueue<u64>,
-    call: &[u8],
+    call: NumberCall,
     words: &mut Words<'_>,
     told: &mut Told,
 ) -> Result<(), Fault> {
@@ -86,17 +112,16 @@ fn call_number(
     let step = if words.has_more() { words.number() } else { 1 };
     words.end()?;
     match call {
-        b"reserve" => queue.reserve(number as usize)?,
-        b"push" => {
+        NumberCall::Reserve => queue.reserve(number as usize)?,
+        NumberCall::Push => {
             queue.reserve(1)?;
             queue.push_reserved(number);
         }
-        b"fill" => fill(queue, number, step)?,
-        b"runs" => {
+        NumberCall::Fill => fill(queue, number, step)?,
+        NumberCall::Runs => {
             told.flag(has_runs(queue, number, step));
             return Ok(());
         }
-        _ => return Err(Fault::BadRow),
     }
     told.word("ok");
     Ok(())
@@ -108,10 +133,10 @@ pub(crate) fn call_queue(
     words: &mut Words<'_>,
     told: &mut Told,
 ) -> Result<(), Fault> {
-    match words.word() {
-        b"len" => told.number(queue.len() as u64),
-        b"remove" => remove_each(queue, words, told),
-        call => call_number(queue, call, words, told)?,
+    match chosen(&QUEUE_CALLS, words.word()).ok_or(Fault::BadRow)? {
+        QueueCall::Number(call) => return call_number(queue, call, words, told),
+        QueueCall::Remove => remove_each(queue, words, told),
+        QueueCall::Len => told.number(queue.len() as u64),
     }
     words.end()
 }
