@@ -9,6 +9,14 @@ use std::alloc::Global;
 /// How many changes a row may have.
 const MOST_CHANGES: u64 = 1 << 16;
 
+/// What is told of the changes of a tree.
+#[derive(Clone, Copy)]
+pub(crate) enum Part {
+    Made,
+    Names,
+    All,
+}
+
 /// The changes that words have told.
 #[derive(Drop)]
 struct Lists {
@@ -89,16 +97,16 @@ fn put_names(links: &[LinkChange], told: &mut Told) {
     }
 }
 
-/// Writes the changes of `tree`: how many files were made if `word` is `made`, else all or the changed names alone.
-pub(crate) fn put_changes(tree: &Tree, word: &[u8], told: &mut Told) -> Done {
+/// Writes the changes of `tree`: how many files were made, the changed names alone, or all, as `part` says.
+pub(crate) fn put_changes(tree: &Tree, part: Part, told: &mut Told) -> Done {
     let changes = tree.changes()?;
-    match word {
-        b"made" => told.number(changes.made.as_slice().len() as u64),
-        b"names" | b"names_again" => {
+    match part {
+        Part::Made => told.number(changes.made.as_slice().len() as u64),
+        Part::Names => {
             told.number(changes.links.as_slice().len() as u64);
             put_names(changes.links.as_slice(), told);
         }
-        _ => {
+        Part::All => {
             told.word("next");
             told.number(changes.next_file.0);
             put_made(changes.made.as_slice(), told);

@@ -14,8 +14,24 @@ use eden_base::{Attr, FileId, Kind, Name, Perm};
 use inode_map::InodeMap;
 use key_map::KeyMap;
 use manifest::{Manifest, mode_of};
-use row_words::{Fault, Told, Words, decimal};
+use row_words::{Fault, Told, Words, chosen, decimal};
 use std::alloc::Global;
+
+/// What these calls are of.
+#[derive(Clone, Copy)]
+enum Subject {
+    Keys,
+    Manifest,
+    Tree,
+    Map,
+}
+
+static SUBJECTS: [(&str, Subject); 4] = [
+    ("keys", Subject::Keys),
+    ("manifest", Subject::Manifest),
+    ("tree", Subject::Tree),
+    ("map", Subject::Map),
+];
 
 /// What a call comes to that writes its result itself.
 pub type Done = Result<(), Fault>;
@@ -55,12 +71,11 @@ impl Trees {
 
     /// Makes the call of `subject` that `words` tell.
     pub fn call(&mut self, subject: &[u8], words: &mut Words<'_>, told: &mut Told) -> Done {
-        match subject {
-            b"keys" => keys::call(self, words, told),
-            b"manifest" => manifests::call(self, words, told),
-            b"tree" => tree::call(self, words, told),
-            b"map" => map::call(self, words, told),
-            _ => Err(Fault::BadRow),
+        match chosen(&SUBJECTS, subject).ok_or(Fault::BadRow)? {
+            Subject::Keys => keys::call(self, words, told),
+            Subject::Manifest => manifests::call(self, words, told),
+            Subject::Tree => tree::call(self, words, told),
+            Subject::Map => map::call(self, words, told),
         }
     }
 }

@@ -7,9 +7,40 @@
 //! `manifest backing FILE`: the permissions and the size that the backing has for a file, and its count of failures.
 use crate::{Done, Trees, file_of, put_file};
 use checkout::{Backing, ManifestBacking};
-use eden_base::FileId;
 use manifest::{Manifest, ManifestFaultKind};
-use row_words::{Fault, Told, Words};
+use row_words::{Fault, Told, Words, chosen};
+
+/// The calls that make a manifest.
+#[derive(Clone, Copy)]
+enum MakeCall {
+    Read,
+    With,
+    Share,
+}
+
+static MAKE_CALLS: [(&str, MakeCall); 3] = [
+    ("read", MakeCall::Read),
+    ("with", MakeCall::With),
+    ("share", MakeCall::Share),
+];
+
+/// The calls that ask a manifest.
+#[derive(Clone, Copy)]
+enum AskCall {
+    Commit,
+    Lines,
+    Line,
+    Child,
+    Backing,
+}
+
+static ASK_CALLS: [(&str, AskCall); 5] = [
+    ("commit", AskCall::Commit),
+    ("lines", AskCall::Lines),
+    ("line", AskCall::Line),
+    ("child", AskCall::Child),
+    ("backing", AskCall::Backing),
+];
 
 /// Reads the manifest in `text`.
 fn read_text(trees: &mut Trees, text: &[u8], told: &mut Told) -> Done {
@@ -50,8 +81,9 @@ fn share(trees: &mut Trees, told: &mut Told) -> Done {
 }
 
 /// Tells the line of a file.
-fn line(manifest: &Manifest, file: FileId, told: &mut Told) -> Done {
-    let place = file.0.checked_sub(2).ok_or(Fault::BadRow)?;
+fn line(manifest: &Manifest, words: &mut Words<'_>, told: &mut Told) -> Done {
+    let place = words.number().checked_sub(2).ok_or(Fault::BadRow)?;
+    words.end()?;
     let line = manifest.lines().get(place as usize).ok_or(Fault::BadRow)?;
     told.number(line.dir.0);
     told.bytes(line.name.bytes());
@@ -71,7 +103,9 @@ fn child(manifest: &Manifest, words: &mut Words<'_>, told: &mut Told) -> Done {
 }
 
 /// Tells what the backing has for a file.
-fn backing(manifest: &Manifest, file: FileId, told: &mut Told) -> Done {
+fn backing(manifest: &Manifest, words: &mut Words<'_>, told: &mut Told) -> Done {
+    let file = file_of(words);
+    words.end()?;
     if manifest.content(file).is_none() {
         return Err(Fault::BadRow);
     }
@@ -85,24 +119,24 @@ fn backing(manifest: &Manifest, file: FileId, told: &mut Told) -> Done {
 
 /// Makes a call on a manifest.
 fn ask(manifest: &Manifest, word: &[u8], words: &mut Words<'_>, told: &mut Told) -> Done {
-    match word {
-        b"commit" => told.hex(&manifest.commit()),
-        b"lines" => told.number(manifest.lines().len() as u64),
-        b"line" => line(manifest, file_of(words), told)?,
-        b"child" => child(manifest, words, told)?,
-        b"backing" => backing(manifest, file_of(words), told)?,
-        _ => words.refuse(),
+    match chosen(&ASK_CALLS, word).ok_or(Fault::BadRow)? {
+        AskCall::Commit => told.hex(&manifest.commit()),
+        AskCall::Lines => told.number(manifest.lines().len() as u64),
+        AskCall::Line => return line(manifest, words, told),
+        AskCall::Child => return child(manifest, words, told),
+        AskCall::Backing => return backing(manifest, words, told),
     }
     words.end()
 }
 
 /// Makes a call of manifests.
 pub(crate) fn call(trees: &mut Trees, words: &mut Words<'_>, told: &mut Told) -> Done {
-    match words.word() {
-        b"read" => read(trees, words, told),
-        b"with" => read_with(trees, words, told),
-        b"share" => share(trees, told),
-        word => match trees.manifest.as_ref() {
+    let word = words.word();
+    match chosen(&MAKE_CALLS, word) {
+        Some(MakeCall::Read) => read(trees, words, told),
+        Some(MakeCall::With) => read_with(trees, words, told),
+        Some(MakeCall::Share) => share(trees, told),
+        None => match trees.manifest.as_ref() {
             Some(manifest) => ask(manifest, word, words, told),
             None => Err(Fault::BadRow),
         },

@@ -19,8 +19,86 @@ use crate::numbers::{given_ready, loaded, move_to, new, one, put_made, tell_give
 use crate::{Done, Trees, ended, file_of, put, put_attr, put_file};
 use eden_base::{FileId, Number, Place};
 use inode_map::{InodeMap, Kept};
-use row_words::{Fault, Told, Words};
+use row_words::{Fault, Told, Words, chosen};
 use std::alloc::Global;
+
+/// The calls of more than the map: those that make it, and the one that asks the tree.
+#[derive(Clone, Copy)]
+enum MapCall {
+    New,
+    One,
+    Locate,
+}
+
+static MAP_CALLS: [(&str, MapCall); 3] = [
+    ("new", MapCall::New),
+    ("one", MapCall::One),
+    ("locate", MapCall::Locate),
+];
+
+/// The calls of a map with a number and another one.
+#[derive(Clone, Copy)]
+enum TwoCall {
+    Forget,
+    Foresee,
+    Unlink,
+}
+
+/// The calls of a map with a number alone.
+#[derive(Clone, Copy)]
+enum NumberCall {
+    Load,
+    Attr,
+    Place,
+    Count,
+    After,
+    Know,
+}
+
+/// The calls of a map that have no word more.
+#[derive(Clone, Copy)]
+enum AllCall {
+    Reserve,
+    Unload,
+    At,
+    Kept,
+    Entries,
+    List,
+}
+
+/// The calls of a map.
+#[derive(Clone, Copy)]
+enum OnCall {
+    Give,
+    GiveReady,
+    Find,
+    Move,
+    Two(TwoCall),
+    Number(NumberCall),
+    All(AllCall),
+}
+
+static ON_CALLS: [(&str, OnCall); 19] = [
+    ("give", OnCall::Give),
+    ("give_ready", OnCall::GiveReady),
+    ("find", OnCall::Find),
+    ("move", OnCall::Move),
+    ("forget", OnCall::Two(TwoCall::Forget)),
+    ("foresee", OnCall::Two(TwoCall::Foresee)),
+    ("unlink", OnCall::Two(TwoCall::Unlink)),
+    ("load", OnCall::Number(NumberCall::Load)),
+    ("attr", OnCall::Number(NumberCall::Attr)),
+    ("place", OnCall::Number(NumberCall::Place)),
+    ("count", OnCall::Number(NumberCall::Count)),
+    ("after", OnCall::Number(NumberCall::After)),
+    ("know", OnCall::Number(NumberCall::Know)),
+    ("reserve", OnCall::All(AllCall::Reserve)),
+    ("unload", OnCall::All(AllCall::Unload)),
+    ("at", OnCall::All(AllCall::At)),
+    ("kept", OnCall::All(AllCall::Kept)),
+    ("entries", OnCall::All(AllCall::Entries)),
+    ("list", OnCall::All(AllCall::List)),
+];
 
 /// How many entries a list may have.
 const MOST_ENTRIES: u64 = 1 << 20;
@@ -112,57 +190,80 @@ fn locate(trees: &mut Trees, words: &mut Words<'_>, told: &mut Told) -> Done {
 }
 
 /// Makes a call with a number and another one.
-fn call_two(map: &mut InodeMap, word: &[u8], words: &mut Words<'_>, told: &mut Told) -> Done {
+fn call_two(map: &mut InodeMap, call: TwoCall, words: &mut Words<'_>, told: &mut Told) -> Done {
     let number = Number(words.number());
     let other = words.number();
     words.end()?;
-    match word {
-        b"forget" => told.word(map.forget(number, other).name()),
-        b"foresee" => told.word(map.forgot(number, other).name()),
-        _ => put_made(told, unlinked(map, number, FileId(other))),
+    match call {
+        TwoCall::Forget => told.word(map.forget(number, other).name()),
+        TwoCall::Foresee => told.word(map.forgot(number, other).name()),
+        TwoCall::Unlink => put_made(told, unlinked(map, number, FileId(other))),
     }
     Ok(())
 }
 
 /// Makes a call with a number.
-fn call_number(map: &mut InodeMap, word: &[u8], words: &mut Words<'_>, told: &mut Told) -> Done {
+fn call_number(
+    map: &mut InodeMap,
+    call: NumberCall,
+    words: &mut Words<'_>,
+    told: &mut Told,
+) -> Done {
     let number = Number(words.number());
     words.end()?;
-    match word {
-        b"load" => put_made(told, loaded(map, number)),
-        b"attr" => put_attr(told, map.attr(number)),
-        b"place" => put_place(told, map.entry(number)),
-        b"count" => told.number(map.count(number)),
-        b"after" => put(told, map.after(number).map(|number| number.0)),
-        b"know" => told.flag(map.known(number)),
-        _ => return Err(Fault::BadRow),
+    match call {
+        NumberCall::Load => put_made(told, loaded(map, number)),
+        NumberCall::Attr => put_attr(told, map.attr(number)),
+        NumberCall::Place => put_place(told, map.entry(number)),
+        NumberCall::Count => told.number(map.count(number)),
+        NumberCall::After => put(told, map.after(number).map(|number| number.0)),
+        NumberCall::Know => told.flag(map.known(number)),
     }
     Ok(())
 }
 
+/// Makes room for an entry.
+fn reserve(alloc: Global, map: &mut InodeMap, told: &mut Told) -> Done {
+    map.reserve(alloc)?;
+    told.word("ok");
+    Ok(())
+}
+
+/// Tells how many entries there are, and what they are if `is_whole`.
+fn tell_entries(alloc: Global, map: &InodeMap, is_whole: bool, told: &mut Told) -> Done {
+    let entries = map.to_entries(alloc)?;
+    told.number(entries.len() as u64);
+    if is_whole {
+        put_entries(told, entries.as_slice());
+    }
+    Ok(())
+}
+
+/// Tells the next number, and how many forgets were bad.
+fn tell_at(map: &InodeMap, told: &mut Told) {
+    told.number(map.next());
+    told.number(map.bad_items());
+}
+
 /// Makes a call that has no word more.
-fn call_all(alloc: Global, map: &mut InodeMap, word: &[u8], told: &mut Told) -> Done {
-    match word {
-        b"reserve" => {
-            map.reserve(alloc)?;
-            told.word("ok");
+fn call_all(
+    alloc: Global,
+    map: &mut InodeMap,
+    call: AllCall,
+    words: &Words<'_>,
+    told: &mut Told,
+) -> Done {
+    words.end()?;
+    match call {
+        AllCall::Reserve => return reserve(alloc, map, told),
+        AllCall::Unload => told.flag(map.unload_oldest()),
+        AllCall::At => tell_at(map, told),
+        AllCall::Kept => return tell_entries(alloc, map, false, told),
+        AllCall::Entries => return tell_entries(alloc, map, true, told),
+        AllCall::List => {
+            tell_at(map, told);
+            put_each(told, map);
         }
-        b"unload" => told.flag(map.unload_oldest()),
-        b"kept" | b"entries" => {
-            let entries = map.to_entries(alloc)?;
-            told.number(entries.len() as u64);
-            if word == b"entries".as_slice() {
-                put_entries(told, entries.as_slice());
-            }
-        }
-        b"at" | b"list" => {
-            told.number(map.next());
-            told.number(map.bad_items());
-            if word == b"list".as_slice() {
-                put_each(told, map);
-            }
-        }
-        _ => return Err(Fault::BadRow),
     }
     Ok(())
 }
@@ -175,24 +276,25 @@ fn call_on(
     words: &mut Words<'_>,
     told: &mut Told,
 ) -> Done {
-    match word {
-        b"give" => give(alloc, map, words, told),
-        b"give_ready" => give_ready(alloc, map, words, told),
-        b"find" => find(map, words, told),
-        b"move" => move_to(alloc, map, words, told),
-        b"forget" | b"foresee" | b"unlink" => call_two(map, word, words, told),
-        _ if words.has_more() => call_number(map, word, words, told),
-        _ => call_all(alloc, map, word, told),
+    match chosen(&ON_CALLS, word).ok_or(Fault::BadRow)? {
+        OnCall::Give => give(alloc, map, words, told),
+        OnCall::GiveReady => give_ready(alloc, map, words, told),
+        OnCall::Find => find(map, words, told),
+        OnCall::Move => move_to(alloc, map, words, told),
+        OnCall::Two(call) => call_two(map, call, words, told),
+        OnCall::Number(call) => call_number(map, call, words, told),
+        OnCall::All(call) => call_all(alloc, map, call, words, told),
     }
 }
 
 /// Makes a call of maps.
 pub(crate) fn call(trees: &mut Trees, words: &mut Words<'_>, told: &mut Told) -> Done {
-    match words.word() {
-        b"new" => new(trees, words, told),
-        b"one" => one(trees, words, told),
-        b"locate" => locate(trees, words, told),
-        word => match trees.map.as_mut() {
+    let word = words.word();
+    match chosen(&MAP_CALLS, word) {
+        Some(MapCall::New) => new(trees, words, told),
+        Some(MapCall::One) => one(trees, words, told),
+        Some(MapCall::Locate) => locate(trees, words, told),
+        None => match trees.map.as_mut() {
             Some(map) => call_on(trees.alloc, map, word, words, told),
             None => Err(Fault::BadRow),
         },

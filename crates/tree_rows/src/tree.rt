@@ -14,12 +14,71 @@
 //! were made.
 //! `tree again`, `tree names_again`: makes another tree of the changes of the tree, and tells the changes of that one.
 //! `tree root`: the id of the root, its inode number, and its permissions.
-use crate::changes::{changes_of, put_changes};
+use crate::changes::{Part, changes_of, put_changes};
 use crate::moves::{create, remove, rename};
 use crate::{Done, Trees, ended, file_of, put_attr, put_file};
 use checkout::{ChangeFault, Tree};
 use eden_base::{FileId, Number, Perm};
-use row_words::{Fault, Told, Words};
+use row_words::{Fault, Told, Words, chosen};
+
+/// The calls of more than the tree: those that make one, and the one that asks none.
+#[derive(Clone, Copy)]
+enum TreeCall {
+    New,
+    With,
+    Again(Part),
+    Root,
+}
+
+static TREE_CALLS: [(&str, TreeCall); 5] = [
+    ("new", TreeCall::New),
+    ("with", TreeCall::With),
+    ("again", TreeCall::Again(Part::All)),
+    ("names_again", TreeCall::Again(Part::Names)),
+    ("root", TreeCall::Root),
+];
+
+/// The calls that ask a tree for a file.
+#[derive(Clone, Copy)]
+enum FileCall {
+    Attr,
+    Kind,
+    Tell,
+    Empty,
+    Perm,
+    Above,
+}
+
+/// The calls of a tree.
+#[derive(Clone, Copy)]
+enum OnCall {
+    Create,
+    Remove,
+    Rename,
+    Child,
+    File(FileCall),
+    Next,
+    Commit,
+    Changes(Part),
+}
+
+static ON_CALLS: [(&str, OnCall); 15] = [
+    ("create", OnCall::Create),
+    ("remove", OnCall::Remove),
+    ("rename", OnCall::Rename),
+    ("child", OnCall::Child),
+    ("above", OnCall::File(FileCall::Above)),
+    ("attr", OnCall::File(FileCall::Attr)),
+    ("kind", OnCall::File(FileCall::Kind)),
+    ("tell", OnCall::File(FileCall::Tell)),
+    ("empty", OnCall::File(FileCall::Empty)),
+    ("perm", OnCall::File(FileCall::Perm)),
+    ("next", OnCall::Next),
+    ("commit", OnCall::Commit),
+    ("changes", OnCall::Changes(Part::All)),
+    ("names", OnCall::Changes(Part::Names)),
+    ("made", OnCall::Changes(Part::Made)),
+];
 
 /// Makes the tree of the manifest.
 fn new(trees: &mut Trees, told: &mut Told) -> Done {
@@ -55,11 +114,11 @@ fn with(trees: &mut Trees, words: &mut Words<'_>, told: &mut Told) -> Done {
 }
 
 /// Makes another tree of the changes of the tree, and tells the changes of that one as `put_changes` does.
-fn again(trees: &Trees, word: &[u8], told: &mut Told) -> Done {
+fn again(trees: &Trees, part: Part, told: &mut Told) -> Done {
     let manifest = trees.manifest.as_ref().ok_or(Fault::BadRow)?;
     let changes = trees.tree.as_ref().ok_or(Fault::BadRow)?.changes()?;
     match Tree::with_changes(trees.alloc, manifest, &changes) {
-        Ok(other) => put_changes(&other, word, told),
+        Ok(other) => put_changes(&other, part, told),
         Err(fault) => tell_fault(fault, told),
     }
 }
@@ -96,19 +155,18 @@ fn put_tell(tree: &Tree, file: FileId, told: &mut Told) {
 }
 
 /// Makes a call that asks for files.
-fn ask_file(tree: &Tree, word: &[u8], words: &mut Words<'_>, told: &mut Told) -> Done {
+fn ask_file(tree: &Tree, call: FileCall, words: &mut Words<'_>, told: &mut Told) -> Done {
     let file = file_of(words);
-    match word {
-        b"attr" => put_attr(told, tree.attr(file)),
-        b"kind" => put_kind(tree, file, told),
-        b"tell" => put_tell(tree, file, told),
-        b"empty" => told.flag(tree.is_empty_dir(file)),
-        b"perm" => match tree.perm_made(file) {
+    match call {
+        FileCall::Attr => put_attr(told, tree.attr(file)),
+        FileCall::Kind => put_kind(tree, file, told),
+        FileCall::Tell => put_tell(tree, file, told),
+        FileCall::Empty => told.flag(tree.is_empty_dir(file)),
+        FileCall::Perm => match tree.perm_made(file) {
             Some(perm) => told.octal(perm.bits()),
             None => told.word("none"),
         },
-        b"above" => told.flag(tree.is_at_or_above(file, file_of(words))),
-        _ => words.refuse(),
+        FileCall::Above => told.flag(tree.is_at_or_above(file, file_of(words))),
     }
     words.end()
 }
@@ -123,27 +181,28 @@ fn root(told: &mut Told) -> Done {
 
 /// Makes a call on a tree.
 fn call_on(tree: &mut Tree, word: &[u8], words: &mut Words<'_>, told: &mut Told) -> Done {
-    match word {
-        b"create" => return create(tree, words, told),
-        b"remove" => return remove(tree, words, told),
-        b"rename" => return rename(tree, words, told),
-        b"child" => return child(tree, words, told),
-        b"changes" | b"names" | b"made" => return put_changes(tree, word, told),
-        b"commit" => told.hex(&tree.commit()),
-        b"next" => told.number(tree.next_file().0),
-        _ => return ask_file(tree, word, words, told),
+    match chosen(&ON_CALLS, word).ok_or(Fault::BadRow)? {
+        OnCall::Create => return create(tree, words, told),
+        OnCall::Remove => return remove(tree, words, told),
+        OnCall::Rename => return rename(tree, words, told),
+        OnCall::Child => return child(tree, words, told),
+        OnCall::File(call) => return ask_file(tree, call, words, told),
+        OnCall::Changes(part) => return put_changes(tree, part, told),
+        OnCall::Commit => told.hex(&tree.commit()),
+        OnCall::Next => told.number(tree.next_file().0),
     }
     words.end()
 }
 
 /// Makes a call of trees.
 pub(crate) fn call(trees: &mut Trees, words: &mut Words<'_>, told: &mut Told) -> Done {
-    match words.word() {
-        b"new" => new(trees, told),
-        b"with" => with(trees, words, told),
-        word @ (b"again" | b"names_again") => again(trees, word, told),
-        b"root" => root(told),
-        word => match trees.tree.as_mut() {
+    let word = words.word();
+    match chosen(&TREE_CALLS, word) {
+        Some(TreeCall::New) => new(trees, told),
+        Some(TreeCall::With) => with(trees, words, told),
+        Some(TreeCall::Again(part)) => again(trees, part, told),
+        Some(TreeCall::Root) => root(told),
+        None => match trees.tree.as_mut() {
             Some(tree) => call_on(tree, word, words, told),
             None => Err(Fault::BadRow),
         },
