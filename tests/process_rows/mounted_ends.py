@@ -143,9 +143,10 @@ def a_daemon_is_killed_below_a_covered_mount(room):
 def a_daemon_is_killed_behind_a_mount_that_was_moved(room):
     """A mount is moved elsewhere, or unmounted lazily while a program is in it, and its daemon is killed: the program is
     told so, and the next daemon mounts at the old place."""
-    for words in (["mount", "--move", "MOUNT", f"{room.path}/elsewhere"], ["umount", "-l", "MOUNT"]):
+    elsewhere = f"{room.path}/elsewhere"
+    os.mkdir(elsewhere)
+    for words in (["mount", "--move", "MOUNT", elsewhere], ["umount", "-l", "MOUNT"]):
         inner = room.inner()
-        os.makedirs(f"{room.path}/elsewhere", exist_ok=True)
         try:
             mount = Mount(inner)
             program = inner.program_in(STAT)
