@@ -65,7 +65,7 @@ fn heard(
 
 /// Returns `reaction` as a `Makes`.
 fn made(reaction: Result<Reaction, NoMemory>) -> Makes {
-    match reaction {
+    match &reaction {
         Ok(Reaction::Heeds) => Makes::Holds,
         Ok(Reaction::Ignores) => Makes::Ignores,
         Ok(Reaction::Says(Message::Failed { session: 1 }, _)) => Makes::Fails,
