@@ -15,9 +15,8 @@ pub const DEVICE: &str = "/dev/fuse";
 pub(crate) const BUFFER_LEN: usize = 128 * 1024;
 
 /// The options of the mount: the device is the command's standard input, and the root is a directory of root's that
-/// every user may look at. The kernel checks modes, and neither set-uid files nor device files have an effect.
-const OPTIONS: &str =
-    "fd=0,rootmode=40000,user_id=0,group_id=0,allow_other,default_permissions,nosuid,nodev";
+/// every user may look at. Neither set-uid files nor device files have an effect.
+const OPTIONS: &str = "fd=0,rootmode=40000,user_id=0,group_id=0,allow_other,nosuid,nodev";
 
 /// The error number of a device whose mount is gone.
 const ENODEV: i32 = 19;
