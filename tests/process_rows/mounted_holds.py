@@ -15,13 +15,18 @@ IN_CREATE, IN_DELETE, IN_NONBLOCK = 0x100, 0x200, 0o4000
 
 
 def over_takeovers(room, mount, shows):
-    """Shows something before the first takeover and behind each, with the number of takeovers."""
+    """Shows something before the first takeover and behind each, with the number of takeovers. At the end, while programs
+    stand still, the daemon counts what the kernel holds."""
     shows(0)
     for number in range(1, rounds_of(room) + 1):
         mount.take_over()
         drop_caches()
         shows(number)
+    for it in room.programs:
+        it.rest()
     mount.counts_what_is_held()
+    for it in room.programs:
+        it.go_on()
 
 
 @row
