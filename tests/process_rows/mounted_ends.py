@@ -92,6 +92,22 @@ def a_broker_that_ends_leaves_no_mount(room):
     other.unmount()
 
 
+def group_of(pid):
+    """Returns a process and those of its children that are in its group."""
+    _, children = run_to_end(["ps", "-o", "pid=", "--ppid", str(pid)], stdout=subprocess.PIPE)
+    return [pid, *(it for it in map(int, children.split()) if os.getpgid(it) == os.getpgid(pid))]
+
+
+@row
+def a_broker_whose_group_is_killed_leaves_no_mount(room):
+    """The broker is killed with all processes of its group: no mount is left behind."""
+    mount = Mount(room)
+    for pid in group_of(mount.broker.pid):
+        os.kill(pid, signal.SIGKILL)
+    same(mount.daemon.ending(), ("fault: broken", 1))
+    until(lambda: mounts_below(room.path) == [], "a place without a mount")
+
+
 @row
 def a_dead_mount_ends_with_its_broker(room):
     """The daemon is killed, and then the broker: the dead mount is not left behind."""

@@ -4,8 +4,8 @@ use std::io;
 use std::process::{Child, Command, OpenProcess, Processes, Stdio};
 
 /// What the child does. Its input is a pipe whose end comes with the broker's own. Then it unmounts lazily each mount
-/// whose source has its number: `umount` finds a mount by that, wherever it was moved. The signals that end a group of
-/// processes leave it alone.
+/// whose source has its number: `umount` finds a mount by that, wherever it was moved. It ignores the signals that a
+/// service manager sends to each process of a service.
 const SCRIPT: &str = "trap '' HUP INT TERM
 cd /
 cat >/dev/null
@@ -19,13 +19,13 @@ pub(crate) struct Unmounter<P: OpenProcess + Drop> {
 }
 
 impl<P: OpenProcess + Drop> Unmounter<P> {
-    /// Starts the child.
+    /// Starts the child, in a session of its own: a signal to the broker's group of processes leaves it alone.
     pub(crate) fn start<R: Processes<Started = P>>(
         rt: &R,
         alloc: Global,
     ) -> io::Result<Unmounter<P>> {
-        let mut command = Command::new(alloc, "sh")?;
-        command.args(["-c", SCRIPT])?;
+        let mut command = Command::new(alloc, "setsid")?;
+        command.args(["sh", "-c", SCRIPT])?;
         command.stdin(Stdio::piped());
         command.stdout(Stdio::null());
         let child = command.stderr(Stdio::null()).spawn(rt)?;
