@@ -18,7 +18,7 @@ class Case:
     def __init__(self, file, line, title, texts):
         self.file, self.line, self.title, self.texts = file, line, title, dict(texts)
         self.words, self.manifest, self.events, self.printed = [], None, [], []
-        self.fault, self.status = False, None
+        self.fault, self.status, self.seconds = False, None, None
 
     def script(self):
         """Returns the bytes of the script."""
@@ -90,6 +90,8 @@ def put(case, line, row):
         case.manifest = case.texts[rest[1:]]
     elif word == "words" and not case.events:
         case.words = rest.split(" ")
+    elif word == "seconds" and not case.events:
+        case.seconds = int(rest)
     elif word == "fault:":
         case.printed.append((line, row))
         case.fault = True

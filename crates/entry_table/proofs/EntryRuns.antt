@@ -10,9 +10,10 @@ use Rattle.eden_base.specs.declared.place.Place.{Place}
 use Rattle.eden_base.specs.declared.place.Place.TheVariants.{Linked, Unlinked}
 use Rattle.eden_base.proofs.NumberTests.{eq-true, eq-false}
 use Rattle.eden_base.proofs.MemberLemmas.{some-same, some-none}
-use Rattle.entry_table.specs.Entries.{stands_at, is_in, entry_of, entry_at, AreNumbers, AreEntries}
+use Rattle.entry_table.specs.Entries.{by_number, stands_at, is_in, entry_of, entry_at, AreNumbers, AreEntries}
 use Rattle.entry_table.specs.Links.{key_of, counted, Files}
-use Rattle.entry_table.specs.Slots.{held_of, slot_of, slots_of, kept_from, files_from, notes_from, AreSlots, Stands, IsIndexed, kid_in, kids_of}
+use Rattle.entry_table.specs.Slots.{slots_of, kept_from, files_from, notes_from, AreFull, AreSlots, Stands, IsIndexed, kid_in, kids_of}
+use Rattle.entry_table.specs.Table.{kept_of}
 use Rattle.entry_table.specs.declared.index.Index.{Index}
 use Rattle.entry_table.specs.declared.index.Link.{Link}
 use Rattle.entry_table.specs.declared.kept.Kept.{Kept}
@@ -107,51 +108,63 @@ numbers-long [] low next are = let a : low ≤ next = are in omega arith
 numbers-long (x ∷ es) low next are = let a : low ≤ x.number.0 = are.0 in let b = numbers-long es (x.number.0 + 1) next are.1 in omega arith
 
 -- the slots of entries, read again
-pub slots-are : (es : List Kept) (low next : ℕ) → AreNumbers low next es → AreSlots low next (slots_of es)
-slots-are [] low next are = are
-slots-are (y ∷ es) low next are = (are.0, slots-are es (y.number.0 + 1) next are.1)
+pub slots-are : (es : List Kept) (fs : List FileId) (low next : ℕ) → length fs ≡ length es → AreNumbers low next es → AreSlots low next (slots_of es fs)
+slots-are [] fs low next len are = are
+slots-are (y ∷ es) [] low next len are = absurd (omega (arith, len))
+slots-are (y ∷ es) (f ∷ fs) low next len are = (are.0, slots-are es fs (y.number.0 + 1) next (omega (arith, len)) are.1)
 
-pub slots-kept : (es : List Kept) → kept_from (slots_of es) ≡ es
-slots-kept [] = refl
-slots-kept (y ∷ es) = ap (λ (xs : List Kept). y ∷ xs) (slots-kept es)
+pub slots-kept : (es : List Kept) (fs : List FileId) → length fs ≡ length es → kept_from (slots_of es fs) ≡ es
+slots-kept [] fs len = refl
+slots-kept (y ∷ es) [] len = absurd (omega (arith, len))
+slots-kept (y ∷ es) (f ∷ fs) len = ap (λ (xs : List Kept). y ∷ xs) (slots-kept es fs (omega (arith, len)))
 
-pub slots-files : (es : List Kept) → files_from (slots_of es) ≡ []
-slots-files [] = refl
-slots-files (y ∷ es) = slots-files es
+pub slots-files : (es : List Kept) (fs : List FileId) → files_from (slots_of es fs) ≡ by_number es fs
+slots-files [] fs = refl
+slots-files (y ∷ es) [] = refl
+slots-files (y ∷ es) (f ∷ fs) = ap (λ (xs : List (ℕ × FileId)). (y.number.0, f) ∷ xs) (slots-files es fs)
 
-pub slots-notes : (es : List Kept) → notes_from (slots_of es) ≡ []
-slots-notes [] = refl
-slots-notes (y ∷ es) = slots-notes es
+pub slots-notes : (es : List Kept) (fs : List FileId) → notes_from (slots_of es fs) ≡ []
+slots-notes [] fs = refl
+slots-notes (y ∷ es) [] = refl
+slots-notes (y ∷ es) (f ∷ fs) = slots-notes es fs
 
-pub slots-length : (es : List Kept) → length (slots_of es) ≡ length es
-slots-length [] = refl
-slots-length (y ∷ es) = ap suc (slots-length es)
+pub slots-full : (es : List Kept) (fs : List FileId) → AreFull (slots_of es fs)
+slots-full [] fs = tt
+slots-full (y ∷ es) [] = tt
+slots-full (y ∷ es) (f ∷ fs) = (refl, slots-full es fs)
 
 -- the slot of an entry, at the index that the entry has
 pub record IsSlotThere (es : List Kept) (i : ℕ) (slot : ℕ × Option Entry) : Type 0 where
   pub kept : Kept
   pub inside : i < length es
   pub there : kept ≡ get_or es i kept
-  pub is : slot ≡ slot_of kept
+  pub number : slot.0 ≡ kept.number.0
+  pub entry : Entry
+  pub held : slot.1 ≡ Some entry
+  pub place : kept.place ≡ entry.place
 
-slot-there : (es : List Kept) (i : ℕ) (slot : ℕ × Option Entry) → i < length (slots_of es) → slot ≡ get_or (slots_of es) i slot → IsSlotThere es i slot
-slot-there [] i slot h e = absurd (omega arith)
-slot-there (y ∷ es) zero slot h e = record { kept = y; inside = omega arith; there = refl; is = e }
-slot-there (y ∷ es) (suc i) slot h e =
-    let it = slot-there es i slot (omega arith) e in
+-- each slot is that of an entry, since none is empty
+pub slot-in : (slots : List (ℕ × Option Entry)) → AreFull slots → (i : ℕ) (slot : ℕ × Option Entry) → i < length slots → slot ≡ get_or slots i slot → IsSlotThere (kept_from slots) i slot
+slot-in [] full i slot h e = absurd (omega arith)
+slot-in ((n, None) ∷ slots) full i slot h e = absurd (let never = full.0 in let none : ⊥ = cc in none)
+slot-in ((n, Some entry) ∷ slots) full zero slot h e = record {
+  kept = kept_of n entry;
+  inside = omega arith;
+  there = refl;
+  number = ap (λ (one : ℕ × Option Entry). one.0) e;
+  entry = entry;
+  held = ap (λ (one : ℕ × Option Entry). one.1) e;
+  place = refl;
+}
+slot-in ((n, Some entry) ∷ slots) full (suc i) slot h e =
+    let it = slot-in slots full.1 i slot (omega arith) e in
     let inside = it.inside in
-    record { kept = it.kept; inside = omega arith; there = it.there; is = it.is }
-
--- each slot of entries is that of one of them
-pub slot-in : (slots : List (ℕ × Option Entry)) → slots ≡ slots_of (kept_from slots) → (i : ℕ) (slot : ℕ × Option Entry) → i < length slots → slot ≡ get_or slots i slot → IsSlotThere (kept_from slots) i slot
-slot-in slots full i slot h e =
-    slot-there (kept_from slots) i slot (subst (λ (all : List (ℕ × Option Entry)). i < length all) full h)
-    (subst (λ (all : List (ℕ × Option Entry)). slot ≡ get_or all i slot) full e)
+    record { kept = it.kept; inside = omega arith; there = it.there; number = it.number; entry = it.entry; held = it.held; place = it.place }
 
 -- and it holds that entry's place
 pub place-in : (es : List Kept) (i : ℕ) (slot : ℕ × Option Entry) (entry : Entry) (it : IsSlotThere es i slot) → slot.1 ≡ Some entry → it.kept.place ≡ entry.place
 place-in es i slot entry it held =
-    sym (ap (λ (one : Entry). one.place) (some-same slot.1 entry (held_of it.kept) held (ap (λ (one : ℕ × Option Entry). one.1) it.is)))
+    it.place ∙ ap (λ (one : Entry). one.place) (some-same slot.1 it.entry entry it.held held)
 
 -- what holds of each holds of the entry of a number
 pub each-entry : (es : List Kept) (P : Kept → Type 0) (n : ℕ) (kept : Kept) → AllByRecursion P es → entry_of es n ≡ Some kept → P kept

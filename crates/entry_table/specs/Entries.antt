@@ -1,6 +1,6 @@
 -- The entries of the map: each number that was given and is not forgotten, with the place of its file, and how often
 -- the kernel holds the number. EdenFS's inode map has the same.
-use Rattle.std.specs.Prelude.{◌≡◌, ℕ, ◌+◌, ◌-◌, ◌≤◌, Bool, true, false, ◌||◌, ◌&&◌, ◌==◌, nat_lt, List, [], ◌∷◌, nat_eq, Option, Some, is_some}
+use Rattle.std.specs.Prelude.{◌≡◌, ℕ, ◌+◌, ◌-◌, ◌≤◌, Bool, true, false, ◌||◌, ◌&&◌, ◌==◌, nat_lt, List, [], ◌∷◌, length, map, slice_get, zip, nat_eq, Option, Some, is_some}
 use Rattle.std.specs.Option.{option_map, option_map_or}
 use Rattle.std.specs.List.{list_any, AllByRecursion}
 use Rattle.std.specs.Map.{lookup}
@@ -95,6 +95,16 @@ pub data IsFileOf (tree : Tree) (entries : List Kept) : ℕ → FileId → Type 
       IsFileOf tree entries dir.0 dir_file → child_of tree dir_file name ≡ Some file → IsFileOf tree entries n file
   is_marked : (n : ℕ) (file : FileId) (kept : Kept) →
       (n ≡ 1 → ⊥) → entry_of entries n ≡ Some kept → kept.place ≡ Unlinked file → IsFileOf tree entries n file
+
+-- these are the files that the entries name, one for each
+pub record AreFilesOf (tree : Tree) (entries : List Kept) (files : List FileId) : Type 0 where
+  pub len : length files ≡ length entries
+  pub each : (i : ℕ) (kept : Kept) (file : FileId) → slice_get entries i ≡ Some kept → slice_get files i ≡ Some file →
+      IsFileOf tree entries kept.number.0 file
+
+-- each entry's number, with the file that stands at the entry's index in `files`
+abbrev pub by_number : List Kept → List FileId → List (ℕ × FileId)
+by_number entries files = map (λ (named : Kept × FileId). (named.0.number.0, named.1)) (zip entries files)
 
 -- the numbers of the entries rise, are at least `low`, and are below `next`
 abbrev pub AreNumbers : ℕ → ℕ → List Kept → Type 0

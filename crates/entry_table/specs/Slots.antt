@@ -1,6 +1,6 @@
 -- How the entries stand in the slots of their table, and what the table's index has of the entries.
-use Rattle.std.specs.Prelude.{◌≡◌, ℕ, ◌+◌, ◌<◌, ◌≤◌, ◌⊎◌, Bool, true, List, [], ◌∷◌, map, length, Option, Some, None, if◌then◌else◌}
-use Rattle.std.specs.List.{HoldsAt}
+use Rattle.std.specs.Prelude.{◌≡◌, ℕ, ◌+◌, ◌<◌, ◌≤◌, ◌⊎◌, Bool, true, List, [], ◌∷◌, map, length, zip, Option, Some, None, is_some, if◌then◌else◌}
+use Rattle.std.specs.List.{AllByRecursion, HoldsAt}
 use Rattle.std.specs.Map.{lookup}
 use Rattle.std.specs.BTreeMap.{is_at}
 use Rattle.std.specs.Option.{option_and_then}
@@ -16,17 +16,21 @@ use Rattle.entry_table.specs.declared.kept.Entry.{Entry}
 use Rattle.entry_table.specs.declared.index.Index.{Index}
 use Rattle.entry_table.specs.declared.index.Link.{Link}
 
--- what a slot holds of an entry at first: all but its number, with no file remembered and no note
-abbrev pub held_of : Kept → Entry
-held_of kept = record { place = kept.place; count = kept.count; file = None; note = None }
+-- what a slot holds of an entry at first: all but its number, with this file remembered and no note
+abbrev pub held_of : Kept → FileId → Entry
+held_of kept file = record { place = kept.place; count = kept.count; file = Some file; note = None }
 
--- the slot of an entry at first
-abbrev pub slot_of : Kept → ℕ × Option Entry
-slot_of kept = (kept.number.0, Some (held_of kept))
+-- the slot of an entry at first, with the file that is remembered of it
+abbrev pub slot_of : Kept × FileId → ℕ × Option Entry
+slot_of named = (named.0.number.0, Some (held_of named.0 named.1))
 
--- the slots of entries at first
-abbrev pub slots_of : List Kept → List (ℕ × Option Entry)
-slots_of entries = map slot_of entries
+-- the slots of entries at first, with a file for each
+abbrev pub slots_of : List Kept → List FileId → List (ℕ × Option Entry)
+slots_of entries files = map slot_of (zip entries files)
+
+-- no slot is empty
+abbrev pub AreFull : List (ℕ × Option Entry) → Type 0
+AreFull slots = AllByRecursion (λ (slot : ℕ × Option Entry). is_some slot.1 ≡ true) slots
 
 -- the entries that stand in slots; a slot is empty once its entry was removed
 abbrev pub kept_from : List (ℕ × Option Entry) → List Kept

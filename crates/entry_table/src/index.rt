@@ -2,7 +2,7 @@
 ghost use Rattle.std.specs.Prelude.{◌≡◌, ℕ, ◌<◌, ◌^◌, true, List, [], Some, None, IfOk, OnOk, nat_lt, length};
 ghost use Rattle.std.specs.Option.{IfSome, IfNone};
 ghost use Rattle.entry_table.specs.Entries.{AreEntries, entry_at};
-ghost use Rattle.entry_table.specs.Slots.{kept_from, slots_of, IsSlots, IsIndexed, Stands};
+ghost use Rattle.entry_table.specs.Slots.{AreFull, kept_from, IsSlots, IsIndexed, Stands};
 ghost use Rattle.entry_table.specs.Links.{key_of, latest_at, is_latest, is_latest_in, names_in, is_ready, Unlinks};
 
 use crate::maps::{Maps, key_of};
@@ -40,7 +40,7 @@ impl Index {
 
     /// Makes the index of the entries that stand in `slots`. No slot is empty yet.
     pub fn of_slots(alloc: Global, slots: &[Slot]) -> Result<Index, NoMemory>
-        requires full { slots.now ≡ slots_of (kept_from slots.now) }
+        requires full { AreFull slots.now }
         requires entries { (next : ℕ) × AreEntries (kept_from slots.now) next }
         ensures { IfOk result (IsIndexed (kept_from slots.now)) }
     {

@@ -15,6 +15,13 @@ pub struct Kept {
     pub count: u64,
 }
 
+/// Entries by rising number, and the file that each of them names, in the same order.
+#[derive(Drop)]
+pub struct NamedEntries {
+    pub entries: Vec<Kept>,
+    pub files: Vec<FileId>,
+}
+
 /// What the table stores of a number.
 #[derive(Drop)]
 pub struct Entry {

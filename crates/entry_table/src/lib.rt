@@ -8,5 +8,5 @@ mod maps;
 mod table;
 mod way;
 
-pub use kept::{Entry, Kept};
+pub use kept::{Entry, Kept, NamedEntries};
 pub use table::Table;

@@ -9,7 +9,7 @@ ghost use Rattle.eden_base.specs.Limits.{end_of_numbers, greatest_count};
 ghost use Rattle.eden_base.specs.declared.number.FileId.{FileId};
 ghost use Rattle.eden_base.specs.declared.number.Number.{Number};
 ghost use Rattle.entry_table.specs.EntryPlaces.{HasName, IsNamedEntry, is_under_name};
-ghost use Rattle.entry_table.specs.Entries.{has_number, entry_of, entry_at, is_kid_of, number_of_kept, place_of_kept, number_after, new_entry, marked, IsLinked, IsFileOf, file_remembered, remembered, AreNumbers, AreEntries, count_of, once_more, is_bad_item, lowered};
+ghost use Rattle.entry_table.specs.Entries.{has_number, entry_of, entry_at, is_kid_of, number_of_kept, place_of_kept, number_after, new_entry, marked, IsLinked, IsFileOf, by_number, file_remembered, remembered, AreNumbers, AreEntries, count_of, once_more, is_bad_item, lowered};
 ghost use Rattle.entry_table.specs.Slots.{slot_of, slots_of, slot_at, kept_from, files_from, notes_from, first_number, held_in, AreSlots, IsSlots, IsIndexOf};
 ghost use Rattle.entry_table.specs.Table.{IsIn, kept_of, without_entry, AreOfKept, file_number, note_of, noted};
 
@@ -17,7 +17,7 @@ mod moves;
 
 use crate::dense::{dense_index_of, index_by_steps, index_if};
 use crate::index::Index;
-use crate::kept::{Entry, Kept};
+use crate::kept::{Entry, Kept, NamedEntries};
 use crate::way::locate;
 use checkout::Tree;
 use eden_base::{FileId, GREATEST_COUNT, Name, NoMemory, Number, Place};
@@ -87,14 +87,20 @@ impl Table {
         }
     }
 
-    /// Makes a table of `entries`, with no file remembered and no note. The list of `entries` is freed before memory for
-    /// the index is taken.
-    pub fn of_entries(alloc: Global, entries: Vec<Kept>, next: u64) -> Result<Table, NoMemory>
-        requires entries { AreEntries entries.items next }
-        ensures table { IfOk result (λ table. table
-            ≡ record { entries = entries.items; remembered = []; notes = []; next = next; spare = 0 }) }
+    /// Makes a table of entries, with the file of each remembered and no note. The lists of `named` are freed before
+    /// memory for the index is taken.
+    pub fn of_entries(alloc: Global, named: NamedEntries, next: u64) -> Result<Table, NoMemory>
+        requires entries { AreEntries named.entries.items next }
+        requires files { length named.files.items ≡ length named.entries.items }
+        ensures table { IfOk result (λ table. table ≡ record {
+          entries = named.entries.items;
+          remembered = by_number named.entries.items named.files.items;
+          notes = [];
+          next = next;
+          spare = 0;
+        }) }
     {
-        let slots = slots_of(alloc, entries)?;
+        let slots = slots_of(alloc, named)?;
         let index = Index::of_slots(alloc, slots.as_slice())?;
         let way = Vec::with_capacity(alloc, slots.len())?;
         Ok(Table {
@@ -344,21 +350,23 @@ impl Table {
     }
 }
 
-/// Puts `entries` into slots, in the same order.
-fn slots_of(alloc: Global, entries: Vec<Kept>) -> Result<Vec<Slot>, AllocError>
-    ensures slots { IfOk result (λ slots. slots.items ≡ slots_of entries.items) }
+/// Puts entries into slots, in the same order, each with its file.
+fn slots_of(alloc: Global, named: NamedEntries) -> Result<Vec<Slot>, AllocError>
+    ensures slots { IfOk result (λ slots. slots.items ≡ slots_of named.entries.items named.files.items) }
 {
-    entries.into_iter().map(slot_of).collect(alloc)
+    let NamedEntries { entries, files } = named;
+    entries.into_iter().zip(files).map(slot_of).collect(alloc)
 }
 
-/// Makes the slot of an entry, with no file remembered and no note.
-fn slot_of(kept: Kept) -> Slot
-    ensures { result ≡ slot_of kept }
+/// Makes the slot of an entry, with this file remembered and no note.
+fn slot_of(named: (Kept, FileId)) -> Slot
+    ensures { result ≡ slot_of named }
 {
+    let (kept, file) = named;
     let entry = Entry {
         place: kept.place,
         count: kept.count,
-        file: None,
+        file: Some(file),
         note: None,
     };
     (kept.number.0, Some(entry))

@@ -40,9 +40,11 @@ plain served = record { entries = served.map.entries; next = served.map.next; tr
 abbrev pub new_served : Manifest → ℕ → ServedState
 new_served manifest limit = record { map = new_map (max limit 1); tree = tree_of manifest }
 
--- what a daemon serves when it begins to serve a tree with numbers that were given before
-abbrev pub served_of : List Kept → ℕ → ℕ → Tree → ServedState
-served_of entries next limit tree = record { map = map_of entries next (max limit 1); tree = tree }
+-- what a daemon serves when it begins to serve a tree with numbers that were given before, and remembers these files of
+-- them, one for each
+abbrev pub served_of : List Kept → List FileId → ℕ → ℕ → Tree → ServedState
+served_of entries files next limit tree =
+    record { map = map_of entries files next (max limit 1); tree = tree }
 
 -- this is the file that a number names for this daemon, or None if it names none
 abbrev pub IsLocated : ServedState → ℕ → Option FileId → Type 0

@@ -7,6 +7,7 @@ ghost use Rattle.fuse_wire.specs.declared.request.Request.TheVariants.{Create, M
 ghost use Rattle.std.specs.Option.{option_map, IfSome};
 ghost use Rattle.manifest.specs.Tree.{IsTree, nlink_of_kind};
 ghost use Rattle.checkout.specs.ChangedTree.{is_unlinked};
+ghost use Rattle.entry_table.specs.Entries.{AreFilesOf};
 ghost use Rattle.inode_map.specs.InodeMap.{forgotten};
 ghost use Rattle.fuse_ops.specs.Answers.{against_unlink, against_rmdir};
 ghost use Rattle.fuse_ops.specs.Loading.{AsksAs, Backs, FailsAs, Loads};
@@ -21,7 +22,7 @@ mod names;
 use checkout::{Backing, Tree};
 use eden_base::{Errno, FileId, Kind, Name, NoMemory, Number, Perm};
 use fuse_wire::{Answer, Item, Request};
-use inode_map::{InodeMap, Kept};
+use inode_map::{InodeMap, NamedEntries};
 use manifest::{Manifest, nlink_of_kind};
 use std::alloc::Global;
 use std::marker::Model;
@@ -114,21 +115,23 @@ impl Served {
         Ok(Served { map, tree })
     }
 
-    /// Makes the state of a daemon that begins to serve `tree`, with numbers that were given before, and no attributes
-    /// loaded. At most `limit` attributes are loaded at once, or 1 if `limit` is 0. If memory is refused, `entries` and
-    /// `tree` are dropped.
+    /// Makes the state of a daemon that begins to serve `tree`, with numbers that were given before. The file of each is
+    /// remembered, and no attributes are loaded. At most `limit` attributes are loaded at once, or 1 if `limit` is 0. If
+    /// memory is refused, `named` and `tree` are dropped.
     pub fn of_entries(
         alloc: Global,
-        entries: Vec<Kept>,
+        named: NamedEntries,
         next: u64,
         limit: usize,
         tree: Tree,
     ) -> Result<Served, NoMemory>
         requires tree { IsTree tree }
-        requires sound { IsSound (served_of entries.items next limit tree) }
-        ensures served { IfOk result (λ served. served ≡ served_of entries.items next limit tree) }
+        requires files { AreFilesOf tree named.entries.items named.files.items }
+        requires sound { IsSound (served_of named.entries.items named.files.items next limit tree) }
+        ensures served { IfOk result (λ served. served
+            ≡ served_of named.entries.items named.files.items next limit tree) }
     {
-        let map = InodeMap::of_entries(alloc, entries, next, limit.max(1))?;
+        let map = InodeMap::of_entries(alloc, named, next, limit.max(1))?;
         Ok(Served { map, tree })
     }
 

@@ -9,7 +9,7 @@ use Rattle.eden_base.specs.declared.attr.Attr.{Attr}
 use Rattle.eden_base.specs.First.{first_where, changed_where, without_where}
 use Rattle.eden_base.specs.Limits.{greatest_count, end_of_numbers}
 use Rattle.entry_table.specs.declared.kept.Kept.{Kept}
-use Rattle.entry_table.specs.Entries.{has_number, number_of_kept, entry_of, is_kept, stands_at, entry_at, is_of_use, is_kid_of, once_more, new_entry, is_bad_item, lowered, marked, moved_to}
+use Rattle.entry_table.specs.Entries.{has_number, number_of_kept, entry_of, is_kept, stands_at, entry_at, is_of_use, is_kid_of, by_number, once_more, new_entry, is_bad_item, lowered, marked, moved_to}
 use Rattle.inode_map.specs.declared.loaded.LoadedAttr.{LoadedAttr}
 use Rattle.inode_map.specs.declared.inode_map.GiveFault.{GiveFault}
 use Rattle.inode_map.specs.declared.inode_map.GiveFault.TheVariants.{NoNumber, TooMany, NoMemory}
@@ -157,11 +157,19 @@ MayGiveWay entries n (Some file) (Some kept) =
 MayGiveWay entries n None (Some kept) = ⊥
 MayGiveWay entries n file None = Unit {0}
 
--- a map with these entries, of which nothing is loaded or remembered
-abbrev pub map_of : List Kept → ℕ → ℕ → MapState
-map_of entries next limit =
-    record { entries = entries; next = next; bad_items = 0; loaded = []; limit = limit; spare = 0; remembered = [] }
+-- a map with these entries, of which these files are remembered, one for each, and nothing is loaded
+abbrev pub map_of : List Kept → List FileId → ℕ → ℕ → MapState
+map_of entries files next limit =
+    record {
+      entries = entries;
+      next = next;
+      bad_items = 0;
+      loaded = [];
+      limit = limit;
+      spare = 0;
+      remembered = by_number entries files;
+    }
 
 -- the map before any number was given; it knows the root, which is no entry
 abbrev pub new_map : ℕ → MapState
-new_map limit = map_of [] 2 limit
+new_map limit = map_of [] [] 2 limit

@@ -19,7 +19,7 @@ mod places;
 use crate::loaded::{LoadedAttr, attr_at, load_attr, nodes_of, strike, unload_oldest};
 use checkout::Tree;
 use eden_base::{Attr, END_OF_NUMBERS, FileId, Name, NoMemory, Number, Place};
-use entry_table::{Kept, Table};
+use entry_table::{Kept, NamedEntries, Table};
 use node_arena::Nodes;
 use std::alloc::Global;
 use std::marker::Model;
@@ -115,19 +115,21 @@ impl InodeMap {
         })
     }
 
-    /// Makes a map of entries that were kept before, with `next` as the next number. At most `loaded_limit` attributes
-    /// are loaded at once. If memory is refused, the entries are dropped.
+    /// Makes a map of entries that were kept before, with `next` as the next number. The file of each is remembered. At
+    /// most `loaded_limit` attributes are loaded at once. If memory is refused, the entries are dropped.
     pub fn of_entries(
         alloc: Global,
-        entries: Vec<Kept>,
+        named: NamedEntries,
         next: u64,
         loaded_limit: usize,
     ) -> Result<InodeMap, NoMemory>
         requires limit { 1 ≤ loaded_limit }
-        requires entries { AreEntries entries.items next }
-        ensures map { IfOk result (λ map. map ≡ map_of entries.items next loaded_limit) }
+        requires entries { AreEntries named.entries.items next }
+        requires files { length named.files.items ≡ length named.entries.items }
+        ensures map { IfOk result (λ map. map
+            ≡ map_of named.entries.items named.files.items next loaded_limit) }
     {
-        let table = Table::of_entries(alloc, entries, next)?;
+        let table = Table::of_entries(alloc, named, next)?;
         let loaded = nodes_of(alloc, loaded_limit)?;
         Ok(InodeMap {
             table,

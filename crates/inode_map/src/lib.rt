@@ -5,6 +5,6 @@
 mod inode_map;
 mod loaded;
 
-pub use entry_table::Kept;
+pub use entry_table::{Kept, NamedEntries};
 pub use inode_map::{Forgot, GiveFault, InodeMap};
 pub use loaded::LoadedAttr;

@@ -14,10 +14,11 @@ pub taken_knows : (manifest : Manifest) (limit at g version : ℕ) (bytes : List
     → plain later ≡ plain made
 taken_knows manifest limit at g version bytes made later sound tree is over handed taken =
     let one : taken.image ≡ handed.image = one_of_text taken.image handed.image taken.version version bytes taken.text handed.text in
-    ap plain taken.is
-    ∙ ap (λ (image : Image). plain (raised manifest image limit)) one
-    ∙ ap (λ (m : Manifest). plain (raised m handed.image limit)) (sym over)
-    ∙ raised_knows made g handed.image sound tree (subst IsManifest (sym over) is) handed.is_image limit
+    let files = taken.is.files in
+    ap plain taken.is.is
+    ∙ ap (λ (image : Image). plain (raised manifest image limit files)) one
+    ∙ ap (λ (m : Manifest). plain (raised m handed.image limit files)) (sym over)
+    ∙ raised_knows made g handed.image sound tree (subst IsManifest (sym over) is) handed.is_image limit files
 
 pub can_be_taken : (manifest : Manifest) (at version : ℕ) (bytes : List ℕ) (made : ServedState) → IsSound made → IsTree made.tree → IsManifest manifest → made.tree.manifest ≡ manifest → IsHandedOver made at version bytes → CannotBeTakenOver manifest at bytes
     → ⊥

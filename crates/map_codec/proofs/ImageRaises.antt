@@ -3,6 +3,7 @@ use Rattle.std.proofs.Common.{◌≡◌, ℕ, sym, subst}
 use Rattle.checkout.proofs.GoodRounds.{changes_are_good}
 use Rattle.checkout.proofs.OwnTree.{tree_is_changed}
 use Rattle.checkout.specs.BadChanges.{IsBadChange}
+use Rattle.eden_base.specs.declared.number.FileId.{FileId}
 use Rattle.manifest.specs.Manifest.{Manifest, IsManifest}
 use Rattle.manifest.specs.Tree.{Tree, IsTree}
 use Rattle.std.specs.Prelude.{List, None}
@@ -35,5 +36,5 @@ module _ (served : ServedState) (at : ℕ) (image : Image) (sound : IsSound serv
   }
 
   -- and what is raised from it knows the same
-  pub raised_knows : (limit : ℕ) → plain (raised m image limit) ≡ plain served
-  raised_knows limit = λ i. record { entries = is.entries i; next = is.next_number i; tree = same_tree i }
+  pub raised_knows : (limit : ℕ) (files : List FileId) → plain (raised m image limit files) ≡ plain served
+  raised_knows limit files = λ i. record { entries = is.entries i; next = is.next_number i; tree = same_tree i }

@@ -84,7 +84,7 @@ below_or (suc i) (suc j) = elim (below_or i j) [
 
 -- ---- the law
 
-module _ (tree : Tree) (es : List Kept) (next limit : ℕ) (rise : rises entry_follows None es ≡ true) (of_use : list_all (is_of_use es) es ≡ true) (counts : CountsFit es) (may : AreRaisable tree es next) (is : IsTree tree) where
+module _ (tree : Tree) (es : List Kept) (files : List FileId) (next limit : ℕ) (rise : rises entry_follows None es ≡ true) (of_use : list_all (is_of_use es) es ≡ true) (counts : CountsFit es) (may : AreRaisable tree es next) (is : IsTree tree) where
   next_is : IsNext next es
   next_is = next_parts next es may.next_is
 
@@ -164,7 +164,7 @@ module _ (tree : Tree) (es : List Kept) (next limit : ℕ) (rise : rises entry_f
         let same = marked-same tree es n kept file mark (no_root n kept e) e k at in
         ((λ u. subst (λ (f : FileId). IsTrue (is_unlinked tree f)) (sym same) (right n kept mark e k).1), (λ h. subst IsUnlinkedPlace (sym k) tt))
 
-  pub raised_sound : IsSound (served_of es next limit tree)
+  pub raised_sound : IsSound (served_of es files next limit tree)
   raised_sound = record {
     numbers = numbers;
     numbers_fit = next_is.fits;

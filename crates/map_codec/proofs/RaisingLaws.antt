@@ -5,9 +5,9 @@ use Rattle.std.specs.List.{AllByRecursion, list_all}
 use Rattle.eden_base.specs.declared.number.FileId.{FileId}
 use Rattle.manifest.specs.Tree.{Tree}
 use Rattle.entry_table.proofs.FileLemmas.{IsFileOf-same}
-use Rattle.entry_table.specs.Entries.{IsFileOf}
+use Rattle.entry_table.specs.Entries.{AreFilesOf, IsFileOf}
 use Rattle.entry_table.specs.declared.kept.Kept.{Kept}
-use Rattle.map_codec.specs.Named.{AreFilesOf, EachNames}
+use Rattle.map_codec.specs.Named.{EachNames}
 use Rattle.map_codec.specs.Raising.{AreOfOneFile, HasFile, HaveFiles, IsTwice, are_right_marks, is_right_mark}
 
 -- what holds of each entry, and a mark that is right

@@ -7,7 +7,7 @@ use Rattle.manifest.specs.Manifest.{Manifest}
 use Rattle.map_image.specs.ImageText.{IsImageText}
 use Rattle.map_image.specs.declared.image.Image.{Image}
 use Rattle.map_codec.specs.Handover.{CannotBeTakenOver, IsServingRefusal, IsTakenOver, IsTakingRefusal}
-use Rattle.map_codec.specs.Raising.{raised, IsRaisable}
+use Rattle.map_codec.specs.Raising.{IsRaisable, IsRaised}
 use Rattle.map_codec.specs.declared.fault.HandoverFault.{HandoverFault}
 use Rattle.map_codec.specs.declared.fault.HandoverFault.TheVariants.{Refused, NoMemory}
 use Rattle.map_codec.proofs.OneImage.{one_of_text}
@@ -33,7 +33,7 @@ not_raised m at bytes image read (Err NoMemory) refused =
     right_header m at bytes image read.text.0 read.text.1 read.generation refused.0
 
 -- it was raised
-pub taken_over : (m : Manifest) (at limit : ℕ) (bytes : List ℕ) (image : Image) → IsRead at bytes image → (r : Result ServedState HandoverFault) → IfOk r (λ served. IsRaisable m image) → IfOk r (λ served. served ≡ raised m image limit) → IfOk r IsSound → IfOk r (IsTakenOver m limit at bytes)
+pub taken_over : (m : Manifest) (at limit : ℕ) (bytes : List ℕ) (image : Image) → IsRead at bytes image → (r : Result ServedState HandoverFault) → IfOk r (λ served. IsRaisable m image) → IfOk r (IsRaised m image limit) → IfOk r IsSound → IfOk r (IsTakenOver m limit at bytes)
 taken_over m at limit bytes image read (Err fault) may is sound = tt
 taken_over m at limit bytes image read (Ok served) may is sound = record {
   image = image;

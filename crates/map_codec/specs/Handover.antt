@@ -12,7 +12,7 @@ use Rattle.map_image.specs.declared.fault.ImageFault.TheVariants as reading
 use Rattle.map_image.specs.declared.fault.WriteFault.{WriteFault}
 use Rattle.map_image.specs.declared.fault.WriteFault.TheVariants as writing
 use Rattle.map_image.specs.declared.header.Header.{Header}
-use Rattle.map_codec.specs.Raising.{raised, IsRaisable, IsRaiseRefusal}
+use Rattle.map_codec.specs.Raising.{IsRaisable, IsRaised, IsRaiseRefusal}
 use Rattle.map_codec.specs.Taking.{IsImageOf}
 use Rattle.map_image.specs.Writing.{refusal}
 use Rattle.map_image.specs.declared.image.Image.{Image}
@@ -67,7 +67,7 @@ pub record IsTakenOver (manifest : Manifest) (limit at : ℕ) (bytes : List ℕ)
   pub text : IsImageText image version bytes
   pub generation : image.generation ≡ at
   pub raisable : IsRaisable manifest image
-  pub is : served ≡ raised manifest image limit
+  pub is : IsRaised manifest image limit served
   pub sound : IsSound served
 
 -- no image of this generation that has this text may be restored over the manifest

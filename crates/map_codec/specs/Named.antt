@@ -19,12 +19,6 @@ abbrev pub EachNames : Tree → List Kept → Type 0
 EachNames tree entries =
     AllByRecursion (λ (kept : Kept). (file : FileId) × IsFileOf tree entries kept.number.0 file) entries
 
--- these are the files that the entries name, one for each
-pub record AreFilesOf (tree : Tree) (entries : List Kept) (files : List FileId) : Type 0 where
-  pub len : length files ≡ length entries
-  pub each : (i : ℕ) (kept : Kept) (file : FileId) → slice_get entries i ≡ Some kept → slice_get files i ≡ Some file →
-      IsFileOf tree entries kept.number.0 file
-
 -- the entry of a number stands at this index
 pub record IsPlaceOf (entries : List Kept) (n i : ℕ) : Type 0 where
   pub kept : Kept

@@ -12,7 +12,7 @@ use Rattle.checkout.specs.Changed.{changed}
 use Rattle.manifest.specs.Manifest.{Manifest}
 use Rattle.manifest.specs.Tree.{Tree, kind_of}
 use Rattle.checkout.specs.ChangedTree.{is_unlinked}
-use Rattle.entry_table.specs.Entries.{IsFileOf, is_known}
+use Rattle.entry_table.specs.Entries.{AreFilesOf, IsFileOf, is_known}
 use Rattle.entry_table.specs.declared.kept.Kept.{Kept}
 use Rattle.fuse_ops.specs.Served.{ServedState, served_of}
 use Rattle.map_codec.specs.declared.fault.RaiseFault.{RaiseFault}
@@ -85,10 +85,15 @@ StandsAgainst tree entries next (Some NumberTooHigh) =
     × (is_next next entries ≡ false)
 StandsAgainst tree entries next (Some fault) = ⊥
 
--- the fault that was found in the entries, if any, or NoMemory if memory was refused
-abbrev pub entries_told : Result (Option RaiseFault) Lack → Option RaiseFault
-entries_told (Ok found) = found
-entries_told (Err lack) = Some NoMemory
+-- the fault that is told in place of a result, if one is
+abbrev pub fault_in : {X : Type 0} → Result X RaiseFault → Option RaiseFault
+fault_in (Ok found) = None
+fault_in (Err fault) = Some fault
+
+-- what was found of the entries, or the fault NoMemory if memory was refused
+abbrev pub entries_told : {X : Type 0} → Result (Result X RaiseFault) Lack → Result X RaiseFault
+entries_told (Ok told) = told
+entries_told (Err lack) = Err NoMemory
 
 -- the image is of the manifest's commit, and its changes make a tree
 pub record TellsATree (m : Manifest) (image : Image) : Type 0 where
@@ -100,9 +105,15 @@ pub record IsRaisable (m : Manifest) (image : Image) : Type 0 where
   pub tree : TellsATree m image
   pub entries : AreRaisable (tree_told m image) image.entries image.next_number
 
--- what is restored from an image; nothing is loaded yet
-abbrev pub raised : Manifest → Image → ℕ → ServedState
-raised m image limit = served_of image.entries image.next_number limit (tree_told m image)
+-- what is restored from an image, with these files remembered, one for each entry; nothing is loaded yet
+abbrev pub raised : Manifest → Image → ℕ → List FileId → ServedState
+raised m image limit files = served_of image.entries files image.next_number limit (tree_told m image)
+
+-- this is restored from an image: the file that each entry names is remembered, and nothing is loaded yet
+pub record IsRaised (m : Manifest) (image : Image) (limit : ℕ) (served : ServedState) : Type 0 where
+  pub files : List FileId
+  pub are : AreFilesOf (tree_told m image) image.entries files
+  pub is : served ≡ raised m image limit files
 
 -- an image is not restored for this cause: the first that applies; or NoMemory, if the commit is right and no change is
 -- bad in itself

@@ -1,10 +1,11 @@
 //! Checks of the entries of an image, over the tree in which they are to be served.
-ghost use Rattle.std.specs.Prelude.{◌≡◌};
+ghost use Rattle.std.specs.Prelude.{◌≡◌, IfOk};
 ghost use Rattle.map_codec.specs.Raising.{are_below, are_right_marks, is_next, is_right_mark, TellsApart};
 
 use checkout::Tree;
 use eden_base::{END_OF_NUMBERS, FileId, Place};
 use inode_map::Kept;
+use std::alloc::{AllocError, Global};
 
 /// Returns whether `place` is linked, or its mark names an unlinked file of `tree`.
 fn is_right_mark(tree: &Tree, place: &Place) -> bool
@@ -28,6 +29,13 @@ pub(crate) fn are_right_marks(tree: &Tree, entries: &[Kept]) -> bool
         }
     }
     true
+}
+
+/// Returns a copy of `files`.
+pub(crate) fn copy_of(alloc: Global, files: &[FileId]) -> Result<Vec<FileId>, AllocError>
+    ensures copy { IfOk result (λ copy. copy.items ≡ files.now) }
+{
+    files.iter().copied().collect(alloc)
 }
 
 /// Returns whether no file is in `files` twice. Sorts the list in its own memory.

@@ -2,9 +2,9 @@
 ghost use Rattle.std.specs.Prelude.{◌≡◌, ◌<◌, ◌≤◌, None, IfOk, MatchOption, length, true, vec_capacity};
 ghost use Rattle.eden_base.specs.declared.number.FileId.{FileId};
 ghost use Rattle.manifest.specs.Tree.{Tree};
-ghost use Rattle.entry_table.specs.Entries.{IsFileOf};
+ghost use Rattle.entry_table.specs.Entries.{AreFilesOf, IsFileOf};
 ghost use Rattle.map_image.specs.Fit.{rises, entry_follows};
-ghost use Rattle.map_codec.specs.Named.{number_at, AreDirectories, AreFilesOf, AreFound, EachNames, IsWayTo, NamesNone};
+ghost use Rattle.map_codec.specs.Named.{number_at, AreDirectories, AreFound, EachNames, IsWayTo, NamesNone};
 
 use checkout::Tree;
 use eden_base::{FileId, NoMemory, Place};

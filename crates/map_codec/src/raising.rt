@@ -3,48 +3,59 @@ ghost use Rattle.std.specs.Prelude.{◌≡◌, true, None, IfErr, IfOk, OnOk};
 ghost use Rattle.manifest.specs.Tree.{IsTree};
 ghost use Rattle.fuse_ops.specs.Soundness.{IsSound};
 ghost use Rattle.map_image.specs.Fit.{entry_follows, rises, CountsFit, IsFit};
-ghost use Rattle.map_codec.specs.Raising.{entries_told, raised, tree_told, IsRaisable, IsRaiseRefusal, StandsAgainst, TellsATree};
+ghost use Rattle.entry_table.specs.Entries.{AreFilesOf};
+ghost use Rattle.map_codec.specs.Raising.{entries_told, fault_in, tree_told, IsRaisable, IsRaised, IsRaiseRefusal, StandsAgainst, TellsATree};
 
 use crate::RaiseFault;
 use crate::directories::directories;
-use crate::entry_checks::{are_apart, are_right_marks, is_next};
+use crate::entry_checks::{are_apart, are_right_marks, copy_of, is_next};
 use crate::named::named_files;
 use checkout::{ChangeFault, Tree};
-use eden_base::NoMemory;
+use eden_base::{FileId, NoMemory};
 use fuse_ops::Served;
-use inode_map::Kept;
+use inode_map::{Kept, NamedEntries};
 use manifest::Manifest;
 use map_image::Image;
 use std::alloc::Global;
 
-/// Returns the first fault of entries and a next number over `tree`, if they have one.
-fn entry_fault(
+/// The tree that an image tells, and the file in it of each entry of the image.
+#[derive(Drop)]
+struct NamedTree {
+    tree: Tree,
+    files: Vec<FileId>,
+}
+
+/// Returns the file of each entry in `tree`, or the first fault of the entries and a next number over it, if they have
+/// one.
+fn entry_files(
     alloc: Global,
     tree: &Tree,
     entries: &[Kept],
     next: u64,
-) -> Result<Option<RaiseFault>, NoMemory>
+) -> Result<Result<Vec<FileId>, RaiseFault>, NoMemory>
     requires rise { rises entry_follows None entries.now ≡ true }
-    ensures fault { IfOk result (StandsAgainst tree.now entries.now next) }
+    ensures fault { IfOk result (λ told. StandsAgainst tree.now entries.now next (fault_in told)) }
+    ensures files { IfOk result (λ told. IfOk told (λ files. AreFilesOf tree.now entries.now files.items)) }
 {
     let directories = match directories(alloc, entries)? {
         Some(directories) => directories,
-        None => return Ok(Some(RaiseFault::NoParent)),
+        None => return Ok(Err(RaiseFault::NoParent)),
     };
     let files = match named_files(alloc, tree, entries, directories.as_slice())? {
         Some(files) => files,
-        None => return Ok(Some(RaiseFault::NoLink)),
+        None => return Ok(Err(RaiseFault::NoLink)),
     };
     if !are_right_marks(tree, entries) {
-        return Ok(Some(RaiseFault::NoLink));
+        return Ok(Err(RaiseFault::NoLink));
     }
+    let in_order = copy_of(alloc, files.as_slice())?;
     if !are_apart(files) {
-        return Ok(Some(RaiseFault::TwoNumbers));
+        return Ok(Err(RaiseFault::TwoNumbers));
     }
     if !is_next(next, entries) {
-        return Ok(Some(RaiseFault::NumberTooHigh));
+        return Ok(Err(RaiseFault::NumberTooHigh));
     }
-    Ok(None)
+    Ok(Ok(in_order))
 }
 
 /// Makes the tree that `image` tells over `manifest`.
@@ -64,29 +75,33 @@ fn tree_told(alloc: Global, image: &Image, manifest: &Manifest) -> Result<Tree, 
     }
 }
 
-/// Returns the fault that was found in the entries, if any, or `NoMemory` if memory was refused.
-fn entries_told(found: Result<Option<RaiseFault>, NoMemory>) -> Option<RaiseFault>
+/// Returns the files of the entries, or the fault that was found in them, or `NoMemory` if memory was refused.
+fn entries_told(
+    found: Result<Result<Vec<FileId>, RaiseFault>, NoMemory>,
+) -> Result<Vec<FileId>, RaiseFault>
     ensures { result ≡ entries_told found }
 {
     match found {
-        Ok(fault) => fault,
-        Err(NoMemory) => Some(RaiseFault::NoMemory),
+        Ok(told) => told,
+        Err(NoMemory) => Err(RaiseFault::NoMemory),
     }
 }
 
-/// Makes the tree that `image` tells, if the image's entries may be served over it.
-fn raisable_tree(alloc: Global, image: &Image, manifest: &Manifest) -> Result<Tree, RaiseFault>
+/// Makes the tree that `image` tells, and finds the file of each entry, if the entries may be served over the tree.
+fn raisable_tree(alloc: Global, image: &Image, manifest: &Manifest) -> Result<NamedTree, RaiseFault>
     requires fit { IsFit image.now }
-    ensures tree { IfOk result (λ tree. tree ≡ tree_told manifest.now image.now) }
-    ensures is_tree { IfOk result IsTree }
+    ensures tree { IfOk result (λ named. named.tree ≡ tree_told manifest.now image.now) }
+    ensures is_tree { IfOk result (λ named. IsTree named.tree) }
+    ensures files { IfOk result (λ named.
+        AreFilesOf (tree_told manifest.now image.now) image.now.entries named.files.items) }
     ensures accepted { OnOk result (IsRaisable manifest.now image.now) }
     ensures refused { IfErr result (IsRaiseRefusal manifest.now image.now) }
 {
     let tree = tree_told(alloc, image, manifest)?;
-    let found = entry_fault(alloc, &tree, image.entries.as_slice(), image.next_number);
+    let found = entry_files(alloc, &tree, image.entries.as_slice(), image.next_number);
     match entries_told(found) {
-        None => Ok(tree),
-        Some(fault) => {
+        Ok(files) => Ok(NamedTree { tree, files }),
+        Err(fault) => {
             drop(tree);
             Err(fault)
         }
@@ -100,8 +115,9 @@ fn entries_of(image: Image) -> Vec<Kept>
     image.entries.into_vec()
 }
 
-/// Restores what a daemon serves from an image, over the manifest that the daemon was handed. At most `limit`
-/// attributes are loaded at once, or 1 if `limit` is 0; none are loaded at first.
+/// Restores what a daemon serves from an image, over the manifest that the daemon was handed. The file of each entry is
+/// remembered, so that no request has to find it anew by the names above it. At most `limit` attributes are loaded at
+/// once, or 1 if `limit` is 0; none are loaded at first.
 pub fn raise(
     alloc: Global,
     image: Image,
@@ -110,13 +126,13 @@ pub fn raise(
 ) -> Result<Served, RaiseFault>
     requires fit { IsFit image }
     requires counts { CountsFit image.entries }
-    ensures raised { IfOk result (λ served. served ≡ raised manifest.now image limit) }
+    ensures raised { IfOk result (IsRaised manifest.now image limit) }
     ensures sound { IfOk result IsSound }
     ensures accepted { OnOk result (IsRaisable manifest.now image) }
     ensures refused { IfErr result (IsRaiseRefusal manifest.now image) }
 {
-    let tree = match raisable_tree(alloc, &image, manifest) {
-        Ok(tree) => tree,
+    let NamedTree { tree, files } = match raisable_tree(alloc, &image, manifest) {
+        Ok(named) => named,
         Err(fault) => {
             drop(image);
             return Err(fault);
@@ -124,8 +140,9 @@ pub fn raise(
     };
     let next = image.next_number;
     let entries = entries_of(image);
-    match Served::of_entries(alloc, entries, next, limit, tree) {
-        Ok(served) => Ok(served),
-        Err(NoMemory) => Err(RaiseFault::NoMemory),
-    }
+    let named = NamedEntries { entries, files };
+    let Ok(served) = Served::of_entries(alloc, named, next, limit, tree) else {
+        return Err(RaiseFault::NoMemory);
+    };
+    Ok(served)
 }

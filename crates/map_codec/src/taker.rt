@@ -3,7 +3,7 @@ ghost use Rattle.std.specs.Prelude.{◌≡◌, ◌↔◌, ℕ, IfErr, IfOk, IsTr
 ghost use Rattle.fuse_ops.specs.Soundness.{IsSound};
 ghost use Rattle.map_image.specs.Fit.{CountsFit, IsFit};
 ghost use Rattle.map_image.specs.ImageText.{IsImageText};
-ghost use Rattle.map_codec.specs.Raising.{raised, IsRaisable};
+ghost use Rattle.map_codec.specs.Raising.{IsRaisable, IsRaised};
 ghost use Rattle.map_codec.specs.declared.fault.HandoverFault.TheVariants.{Refused};
 ghost use Rattle.map_codec.specs.Handover.{told_of_raise, told_of_read, HasRightHeader, IsReadRefusal, IsServingRefusal, IsTakenOver, IsTakingRefusal};
 
@@ -80,7 +80,7 @@ fn served_again(
 ) -> Result<Served, HandoverFault>
     requires fit { IsFit image }
     requires counts { CountsFit image.entries }
-    ensures raised { IfOk result (λ served. served ≡ raised manifest.now image limit) }
+    ensures raised { IfOk result (IsRaised manifest.now image limit) }
     ensures sound { IfOk result IsSound }
     ensures accepted { IfOk result (λ served. IsRaisable manifest.now image) }
     ensures refused { IfErr result (IsServingRefusal manifest.now image) }

@@ -13,7 +13,7 @@ use crate::random::{ASKED, DEFAULT_LIMIT, Random};
 use crate::told::Told;
 use crate::words::number_at;
 use eden_base::{Attr, FileId, Kind, Name, NoMemory, Number, Perm, Place};
-use inode_map::{Forgot, GiveFault, InodeMap, Kept};
+use inode_map::{Forgot, GiveFault, InodeMap, Kept, NamedEntries};
 use std::alloc::Global;
 
 /// How many numbers of a map each call is made on.
@@ -330,18 +330,21 @@ fn list_chain(alloc: Global, entries: u32) -> Result<Vec<Kept>, NoMemory>
 }
 
 #[inline(never)]
-fn of_entries(alloc: Global, entries: Vec<Kept>, next: u64) -> Result<InodeMap, NoMemory>
-    requires entries { AreEntries entries.items next }
+fn of_entries(alloc: Global, named: NamedEntries, next: u64) -> Result<InodeMap, NoMemory>
+    requires entries { AreEntries named.entries.items next }
+    requires files { length named.files.items ≡ length named.entries.items }
 {
-    InodeMap::of_entries(alloc, entries, next, LOADED_LIMIT)
+    InodeMap::of_entries(alloc, named, next, LOADED_LIMIT)
 }
 
-/// Makes a map of `entries`, and returns whether it knows their last number.
+/// Makes a map of `entries`, which all name one file, and returns whether it knows their last number.
 fn knows_last(alloc: Global, entries: Vec<Kept>, next: u64) -> Result<bool, NoMemory>
     requires entries { AreEntries entries.items next }
     requires next { 0 < next }
 {
-    let map = of_entries(alloc, entries, next)?;
+    let files = vec![in alloc; FileId(2); entries.len()]?;
+    let named = NamedEntries { entries, files };
+    let map = of_entries(alloc, named, next)?;
     let known = map.known(Number(next - 1));
     drop(map);
     Ok(known)

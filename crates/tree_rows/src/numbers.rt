@@ -4,7 +4,7 @@ ghost use Rattle.eden_base.specs.Limits.{end_of_numbers};
 
 use crate::{Done, Trees, ended, file_of, file_or_none};
 use eden_base::{Attr, END_OF_NUMBERS, FileId, Kind, Name, NoMemory, Number, Perm, Place};
-use inode_map::{Forgot, GiveFault, InodeMap, Kept};
+use inode_map::{Forgot, GiveFault, InodeMap, Kept, NamedEntries};
 use row_words::{Fault, Told, Words};
 use std::alloc::Global;
 
@@ -21,7 +21,7 @@ pub(crate) fn new(trees: &mut Trees, words: &mut Words<'_>, told: &mut Told) -> 
     Ok(())
 }
 
-/// Makes a map of one entry. Its number is the last that was given.
+/// Makes a map of one entry, which names file 2. Its number is the last that was given.
 fn map_of_one(alloc: Global, number: u64, place: Place, count: u64) -> Result<InodeMap, NoMemory>
     requires above_root { 2 ≤ number }
     requires fits { number < end_of_numbers }
@@ -32,8 +32,11 @@ fn map_of_one(alloc: Global, number: u64, place: Place, count: u64) -> Result<In
         place,
         count,
     };
-    let entries = Vec::from_array(alloc, [entry])?;
-    InodeMap::of_entries(alloc, entries, number + 1, 1)
+    let named = NamedEntries {
+        entries: Vec::from_array(alloc, [entry])?,
+        files: Vec::from_array(alloc, [FileId(2)])?,
+    };
+    InodeMap::of_entries(alloc, named, number + 1, 1)
 }
 
 /// Reads a place: a name in the root, or `mark` and the file of the mark.

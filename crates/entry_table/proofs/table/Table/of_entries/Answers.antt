@@ -1,26 +1,24 @@
 -- The entries are read again from their slots.
 use Rattle.std.proofs.Common.{refl, ◌∙◌, subst, arith}
 use Rattle.entry_table.specs.Slots.{kept_from, IsIndexed}
-use Rattle.entry_table.proofs.EntryRuns.{slots-are, slots-kept, slots-files, slots-notes}
+use Rattle.entry_table.proofs.EntryRuns.{slots-are, slots-full, slots-kept, slots-files, slots-notes}
 use Rattle.entry_table.proofs.table.Table.of_entries.Goals as goal
 
 pub of_slots-requires-clause-full : goal.of_slots-requires-clause-full
 of_slots-requires-clause-full c =
-    let es = c.args.entries.items in
-    let slots = c.as_slice.ensures.value ∙ c.in_ok-slots.ensures.slots in
-    rw (slots, slots-kept es) refl
+    rw (c.as_slice.ensures.value ∙ c.in_ok-slots.ensures.slots) (slots-full c.args.named.entries.items c.args.named.files.items)
 
 pub of_slots-requires-clause-entries : goal.of_slots-requires-clause-entries
 of_slots-requires-clause-entries c =
-    let es = c.args.entries.items in
+    let es = c.args.named.entries.items in
     let slots = c.as_slice.ensures.value ∙ c.in_ok-slots.ensures.slots in
-    (c.args.next, rw (slots, slots-kept es) c.requires.entries)
+    (c.args.next, rw (slots, slots-kept es c.args.named.files.items c.requires.files) c.requires.entries)
 
 pub invariant_of-result : goal.invariant_of-result
 invariant_of-result c =
-    let es = c.args.entries.items in
+    let es = c.args.named.entries.items in
     record {
-      slots = rw c.in_ok-slots.ensures.slots (slots-are es 2 c.args.next c.requires.entries.numbers);
+      slots = rw c.in_ok-slots.ensures.slots (slots-are es c.args.named.files.items 2 c.args.next c.requires.files c.requires.entries.numbers);
       indexed = subst (λ slots. IsIndexed (kept_from slots) c.in_ok-index.index) c.as_slice.ensures.value c.in_ok-index.ensures;
       ready = λ is. let none : ⊥ = cc in absurd none;
       free = λ is. let none : ⊥ = cc in absurd none;
@@ -32,5 +30,6 @@ invariant_of-result c =
 
 pub returns : goal.returns
 returns c =
-    let es = c.args.entries.items in
-    record { table = rw (c.in_ok-slots.ensures.slots, slots-kept es, slots-files es, slots-notes es) refl }
+    let es = c.args.named.entries.items in
+    let fs = c.args.named.files.items in
+    record { table = rw (c.in_ok-slots.ensures.slots, slots-kept es fs c.requires.files, slots-files es fs, slots-notes es fs) refl }

@@ -7,7 +7,7 @@ use Rattle.inode_map.proofs.inode_map.InodeMap.of_entries.Goals as goal
 
 pub invariant_of-result : goal.invariant_of-result
 invariant_of-result c =
-    let es = c.args.entries.items in
+    let es = c.args.named.entries.items in
     let are = c.requires.entries in
     record {
       numbers = rw c.in_ok-table.ensures.table are.numbers;
