@@ -7,7 +7,7 @@ use Rattle.checkout.specs.declared.changes.Changes.{Changes}
 use Rattle.manifest.specs.Manifest.{Manifest}
 use Rattle.map_codec.specs.Raising.{entries_told, tree_told, IsRaiseRefusal, StandsAgainst, TellsATree}
 use Rattle.map_codec.specs.declared.fault.RaiseFault.{RaiseFault}
-use Rattle.map_codec.specs.declared.fault.RaiseFault.TheVariants.{OtherCommit, BadChange, NoParent, NoLink, TwoNumbers, NumberTooHigh, NoMemory}
+use Rattle.map_codec.specs.declared.fault.RaiseFault.TheVariants.{OtherManifest, BadChange, NoParent, NoLink, TwoNumbers, NumberTooHigh, NoMemory}
 use Rattle.map_image.specs.declared.image.Image.{Image}
 
 -- changes without a bad one have none that is bad by itself
@@ -26,11 +26,11 @@ pub refusal-told : (m : Manifest) (image : Image) (found : Result (Option RaiseF
 refusal-told m image (Ok None) fault tells against e = let no : ⊥ = cc in absurd no
 refusal-told m image (Ok (Some found)) fault tells against e = subst (IsRaiseRefusal m image) (same_fault found fault e) (refusal found against) where
   refusal : (f : RaiseFault) → StandsAgainst (tree_told m image) image.entries image.next_number (Some f) → IsRaiseRefusal m image f
-  refusal OtherCommit a = absurd a
+  refusal OtherManifest a = absurd a
   refusal (BadChange place) a = absurd a
   refusal NoParent a = (tells, a)
   refusal NoLink a = (tells, a)
   refusal TwoNumbers a = (tells, a)
   refusal NumberTooHigh a = (tells, a)
   refusal NoMemory a = absurd a
-refusal-told m image (Err lack) fault tells against e = subst (IsRaiseRefusal m image) (same_fault NoMemory fault e) (tells.commit, good_itself m image.changes tells.changes)
+refusal-told m image (Err lack) fault tells against e = subst (IsRaiseRefusal m image) (same_fault NoMemory fault e) (tells.name, good_itself m image.changes tells.changes)
