@@ -29,7 +29,7 @@ class Bytes:
 
 def counts_of(image, version, generation):
     """Reads an image of a version, at a generation, and returns how often it counts each number."""
-    fields, counts, width = Bytes(image), {}, 8 if version == 3 else 4
+    fields, counts, width = Bytes(image), {}, 8 if version >= 3 else 4
     same(fields.take(6), b"EDTK" + struct.pack(">H", version))
     fields.take(20)
     same(fields.number(8), generation)

@@ -28,8 +28,10 @@ def frame(name, body=b""):
 
 
 OFFER = frame("Offer", b"\x01\x00\x01")
-# What a daemon of the program offers, and the longest text of a part.
-ALL_VERSIONS = b"\x03\x00\x01\x00\x02\x00\x03"
+# What a daemon of the program offers, what one offered before images named the text of a manifest, and the longest text
+# of a part.
+ALL_VERSIONS = b"\x04\x00\x01\x00\x02\x00\x03\x00\x04"
+VERSIONS_WITH_COMMIT = b"\x03\x00\x01\x00\x02\x00\x03"
 PART = 4096
 
 

@@ -71,7 +71,7 @@ class LongRun:
         proxy.thread.join(WAIT)
         same(proxy.wrong, None)
         self.broker.awaits(lambda lines: lines[-1].startswith(("held ", "idle")), "idle")
-        version = 1 + number % 3
+        version = 1 + number % 4
         generation, image = image_of(f"{self.room.path}/t{number}", version)
         same(generation, 2 * number)
         self.images.append(counts_of(image, version, generation))

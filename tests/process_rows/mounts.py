@@ -388,7 +388,7 @@ class Mount:
     def image(self):
         """Has the daemon hand its image over. Returns its version, the generation and the image. Version 1 has none of
         more than 65,000 bytes. Two thousand files that are held take 51,000, and each that was made and removed 11."""
-        path, version = f"{self.room.path}/t{self.number}", 1 + self.generation % 3
+        path, version = f"{self.room.path}/t{self.number}", 1 + self.generation % 4
         generation, image = image_of(path, version)
         if image is None:
             version = 2

@@ -50,11 +50,15 @@ class Proxy:
         name, body = got
         self.sees(name, body)
         try:
-            to.send(name, b"\x01\x00\x01" if name == "Offer" and self.is_whole else body)
+            to.send(name, self.passes(name, body))
         except (BrokenPipeError, ConnectionResetError):
             return False
         self.passed.append(name)
         return True
+
+    def passes(self, name, body):
+        """Returns the body with which a frame is passed on."""
+        return b"\x01\x00\x01" if name == "Offer" and self.is_whole else body
 
     def sees(self, name, body):
         """Sees a frame before it is passed on."""

@@ -18,6 +18,8 @@ file 0755 0 src/b
 file 0644 7 README
 """
 OTHER_MANIFEST = MANIFEST.replace(b"commit 01", b"commit 02")
+# Another size, and the same commit.
+OTHER_LINES = MANIFEST.replace(b"12 src/a", b"13 src/a")
 ENTRY = "entry 2 dir 0755 0 2"
 ATTR_1 = "attr 1 dir 0755 0 2"
 

@@ -110,7 +110,7 @@ class Trial:
         images, generation = [], 0
         self.broker.awaits(lambda lines: lines.count("idle") == 2)
         while generation < LAST - 1:
-            version = 1 + len(images) % 3
+            version = 1 + len(images) % 4
             generation, image = image_of(path, version)
             images.append(counts_of(image, version, generation))
             daemon.printed(f"serving {generation + 1}")

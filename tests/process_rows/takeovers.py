@@ -6,9 +6,10 @@ import threading
 
 from process_rows.checks import TOP, WAIT, row, same
 from process_rows.daemons import LONG_NAMES, long_checkout, parts_of
-from process_rows.frames import OFFER, u32, u64
+from process_rows.frames import OFFER, VERSIONS_WITH_COMMIT, u32, u64
 from process_rows.kernel import Client, Kernel, await_answers
-from process_rows.rooms import ATTR_1, ENTRY, OTHER_MANIFEST, run_to_end
+from process_rows.proxies import Proxy
+from process_rows.rooms import ATTR_1, ENTRY, OTHER_LINES, OTHER_MANIFEST, run_to_end
 
 
 def row_of_processes(room, workers):
@@ -172,6 +173,49 @@ def another_manifest_takes_nothing_over(room):
     room.take_over(manifest="other").ends(["fault: takeover failed"], 1)
     broker.ends(["seat 1", f"answer 1 {ENTRY}", "seat 2", f"answer 2 {ENTRY}", "held 2 2", "ended"])
     first.ends(["serving 1", "serving 2", "ended"])
+
+
+FILE = "entry 3 file 0644 12 1"
+
+
+@row
+def other_lines_of_one_commit_take_nothing_over(room):
+    """A daemon over the same commit with other lines fails to take over, and the first one answers as it did before."""
+    asks = "ask lookup 1 src", "ask lookup 2 a"
+    broker = room.broker("seat 1", *asks, "seat 2", "ask getattr 3", "held")
+    first = room.mount()
+    broker.printed(3)
+    room.write("other", OTHER_LINES)
+    room.take_over(manifest="other").ends(["fault: takeover failed"], 1)
+    answers = [f"answer 1 {ENTRY}", f"answer 2 {FILE}", "seat 2", "answer 3 attr 3 file 0644 12 1"]
+    broker.ends(["seat 1", *answers, "held 2 1", "held 3 1", "ended"])
+    first.ends(["serving 1", "serving 2", "ended"])
+
+
+class OfRelease(Proxy):
+    """A connection by which a daemon offers what it did before images named the text of a manifest."""
+
+    def passes(self, name, body):
+        return VERSIONS_WITH_COMMIT if name == "Offer" else body
+
+
+@row
+def a_release_before_digests_compares_commits(room):
+    """A daemon that offers version 3 at most takes over by the commit alone, also where its manifest has other lines."""
+    broker = room.broker("seat 1", "ask lookup 1 src", "ask lookup 2 a", "seat 2", "ask lookup 1 src", "held")
+    first = room.mount()
+    broker.printed(3)
+    os.rename(room.takeover_at, f"{room.path}/first.sock")
+    proxy = OfRelease(room, room.takeover_at, f"{room.path}/first.sock", 1 << 30, None, False)
+    proxy.may_begin.set()
+    room.write("other", OTHER_LINES)
+    second = room.take_over(manifest="other")
+    second.printed("serving 2")
+    first.ends(["serving 1", "handed over"])
+    answers = [f"answer 1 {ENTRY}", f"answer 2 {FILE}", "seat 2", f"answer 3 {ENTRY}"]
+    broker.ends(["seat 1", *answers, "held 2 2", "held 3 1", "ended"])
+    second.ends(["serving 2", "ended"])
+    same(proxy.wrong, None)
 
 
 @row

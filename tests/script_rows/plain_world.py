@@ -90,7 +90,7 @@ class Served:
 
     def image_length(self, version):
         """Returns the length of the image, by the table of docs/IMAGE.md."""
-        wide = 4 if version == 3 else 0
+        wide = 4 if version >= 3 else 0
         length = 54 + 4 + 4 + 11 * len(self.made)
         for number in self.counts:
             place = self.places.get(self.numbers[number])

@@ -37,6 +37,7 @@ changes made links next = record { made = made; links = links; next_file = file 
 abbrev pub small : Manifest
 small = record {
   commit = [];
+  digest = [];
   lines = line 1 (codes "src") Dir ∷ line 2 (codes "a") RegularFile ∷ line 2 (codes "b") RegularFile ∷ line 1 (codes "README") RegularFile ∷ [];
 }
 

@@ -131,6 +131,13 @@ impl Tree {
         self.manifest.commit()
     }
 
+    /// Returns the digest of the manifest's text.
+    pub fn digest(&self) -> [u8; 20]
+        ensures digest { result ≡ self.now.manifest.digest }
+    {
+        self.manifest.digest()
+    }
+
     /// Returns the id of the file that would be made next.
     pub fn next_file(&self) -> FileId
         ensures next_file { result ≡ next_file self.now }

@@ -26,8 +26,9 @@ use std::thread::{Scope, Threads};
 use std::time::Duration;
 use takeover_core::Versions;
 
-/// The versions of the image that a daemon writes and reads: 1 is whole, 2 is in parts, 3 has wider counts.
-const VERSIONS: [u16; 3] = [1, 2, 3];
+/// The versions of the image that a daemon writes and reads: 1 is whole, 2 is in parts, 3 has wider counts, 4 names the
+/// manifest by a digest of its text.
+const VERSIONS: [u16; 4] = [1, 2, 3, 4];
 
 /// How a daemon's run ended, with the writer of the daemon's lines.
 #[derive(Drop)]
@@ -105,7 +106,7 @@ fn end_run<W: Write + Drop>(out: W, ending: Ending) -> DaemonRun<W>
 
 /// Returns the versions of the image that a daemon offers and accepts.
 fn versions() -> Versions
-    ensures versions { result ≡ 1 ∷ 2 ∷ 3 ∷ [] }
+    ensures versions { result ≡ 1 ∷ 2 ∷ 3 ∷ 4 ∷ [] }
 {
     Versions::of(&VERSIONS)
 }

@@ -5,7 +5,7 @@ use Rattle.manifest.proofs.PartsLaws.{has, joined-parts, front-last, split_from_
 use Rattle.manifest.proofs.TextLemmas.{some_part}
 use Rattle.manifest.specs.Manifest.{Line, Manifest, most_lines}
 use Rattle.manifest.specs.ManifestForm.{joined, IsHexText, IsManifestForm, IsLineForm, AreLinesForm, fields_text, path_text}
-use Rattle.manifest.specs.ManifestText.{Entry, entry_of, entry_fault, names_of, tree_so_far, only_dir, parent_of, place_fault, line_said, placed, line_of_entry, line_of_text, on_line, read_on, fault_at, commit_of, after_commit, with_commit, manifest_of_lines, manifest_of}
+use Rattle.manifest.specs.ManifestText.{Entry, entry_of, entry_fault, names_of, tree_so_far, only_dir, parent_of, place_fault, line_said, placed, line_of_entry, line_of_text, on_line, read_on, fault_at, commit_of, digest_of, after_commit, with_commit, manifest_of_lines, manifest_of}
 use Rattle.manifest.specs.Names.{is_name}
 use Rattle.manifest.specs.Text.{after, parts, front, last}
 use Rattle.manifest.specs.Tree.{Tree, root, file_at, kind_of, child_of, is_dir, dir_perm}
@@ -105,18 +105,18 @@ form_of_commit line commit h =
       ] refl g
     ] refl h
 
-form_of_parts : (ps : List (List ℕ)) (m : Manifest) (text : List ℕ) → parts 10 text ≡ ps → manifest_of_lines ps ≡ Ok m → IsManifestForm m text
+form_of_parts : (ps : List (List ℕ)) (m : Manifest) (text : List ℕ) → parts 10 text ≡ ps → manifest_of_lines (digest_of text) ps ≡ Ok m → IsManifestForm m text
 form_of_parts [] m text e h = absurd (cc)
 form_of_parts (first ∷ []) m text e h =
-    elim (commit_of first) as (λ o. after_commit o [] ≡ Ok m → IsManifestForm m text) [ None ↦ λ g. absurd (cc) | Some commit ↦ λ g. absurd (cc) ] h
+    elim (commit_of first) as (λ o. after_commit (digest_of text) o [] ≡ Ok m → IsManifestForm m text) [ None ↦ λ g. absurd (cc) | Some commit ↦ λ g. absurd (cc) ] h
 form_of_parts (first ∷ next ∷ more) m text e h =
     let s = split_from_parts 10 text first next more e in
-    elim (commit_of first) as (λ o. commit_of first ≡ o → after_commit o (next ∷ more) ≡ Ok m → IsManifestForm m text) [
+    elim (commit_of first) as (λ o. commit_of first ≡ o → after_commit (digest_of text) o (next ∷ more) ≡ Ok m → IsManifestForm m text) [
       | None ↦ λ k g. absurd (cc)
-      | Some commit ↦ λ k g. elim (read_on [] 2 (next ∷ more)) as (λ r. read_on [] 2 (next ∷ more) ≡ r → with_commit commit r ≡ Ok m → IsManifestForm m text) [
+      | Some commit ↦ λ k g. elim (read_on [] 2 (next ∷ more)) as (λ r. read_on [] 2 (next ∷ more) ≡ r → with_commit (digest_of text) commit r ≡ Ok m → IsManifestForm m text) [
         | Err fault ↦ λ l w. absurd (cc)
         | Ok lines ↦ λ l w.
-            let same : ◌≡◌ {A = Manifest} (record { commit = commit; lines = lines }) m = cc in
+            let same : ◌≡◌ {A = Manifest} (record { commit = commit; digest = digest_of text; lines = lines }) m = cc in
             let f = form_of_lines (next ∷ more) [] 2 s.rest lines s.others l in
             let c = form_of_commit first commit k in
             subst (λ (x : Manifest). IsManifestForm x text) same (record {
@@ -125,6 +125,7 @@ form_of_parts (first ∷ next ∷ more) m text e h =
               is_hex = c.2;
               are_lines = subst (λ (ls : List Line). AreLinesForm [] ls s.rest) (sym f.1) f.2;
               is = s.is ∙ ap (λ xs. xs ++ 10 ∷ s.rest) c.1;
+              has_digest = refl;
             })
       ] refl g
     ] refl h

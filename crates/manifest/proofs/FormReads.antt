@@ -177,4 +177,5 @@ read_of_form text m is form =
     let whole = ap lines_of form.is ∙ parts-append 10 line form.rest (hex-one_line m.commit form.digits form.is_hex) in
     let commit = commit_read m.commit form.digits is.commit (sized_of_hex m.commit form.digits is.commit form.is_hex) in
     let lines = lines_read m.lines [] 2 form.rest is.lines form.are_lines in
-    ap manifest_of_lines whole ∙ ap (λ o. after_commit o (lines_of form.rest)) commit ∙ after_commit-some m.commit form.rest ∙ ap (with_commit m.commit) lines
+    ap (λ digest. manifest_of_lines digest (lines_of text)) form.has_digest ∙ ap (manifest_of_lines m.digest) whole
+    ∙ ap (λ o. after_commit m.digest o (lines_of form.rest)) commit ∙ after_commit-some m.digest m.commit form.rest ∙ ap (with_commit m.digest m.commit) lines

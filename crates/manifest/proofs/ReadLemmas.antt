@@ -76,17 +76,17 @@ length_taken lines text new h =
     ] h
 
 -- the same after the commit's line
-pub refusal-with_commit : (commit : List ℕ) (r : Result (List Line) ManifestFault) (n : ℕ) (kind : ManifestFaultKind) → IsRefusal r n kind → IsRefusal (with_commit commit r) n kind
-refusal-with_commit commit (Ok lines) n NoMemory h = tt
-refusal-with_commit commit (Err f) n NoMemory h = h
-refusal-with_commit commit r n NoCommit h = ap (with_commit commit) h
-refusal-with_commit commit r n BadLine h = ap (with_commit commit) h
-refusal-with_commit commit r n BadMode h = ap (with_commit commit) h
-refusal-with_commit commit r n BadSize h = ap (with_commit commit) h
-refusal-with_commit commit r n BadPath h = ap (with_commit commit) h
-refusal-with_commit commit r n NoParent h = ap (with_commit commit) h
-refusal-with_commit commit r n Twice h = ap (with_commit commit) h
-refusal-with_commit commit r n TooManyLines h = ap (with_commit commit) h
+pub refusal-with_commit : (digest commit : List ℕ) (r : Result (List Line) ManifestFault) (n : ℕ) (kind : ManifestFaultKind) → IsRefusal r n kind → IsRefusal (with_commit digest commit r) n kind
+refusal-with_commit digest commit (Ok lines) n NoMemory h = tt
+refusal-with_commit digest commit (Err f) n NoMemory h = h
+refusal-with_commit digest commit r n NoCommit h = ap (with_commit digest commit) h
+refusal-with_commit digest commit r n BadLine h = ap (with_commit digest commit) h
+refusal-with_commit digest commit r n BadMode h = ap (with_commit digest commit) h
+refusal-with_commit digest commit r n BadSize h = ap (with_commit digest commit) h
+refusal-with_commit digest commit r n BadPath h = ap (with_commit digest commit) h
+refusal-with_commit digest commit r n NoParent h = ap (with_commit digest commit) h
+refusal-with_commit digest commit r n Twice h = ap (with_commit digest commit) h
+refusal-with_commit digest commit r n TooManyLines h = ap (with_commit digest commit) h
 
 -- a line after the first, and before the last, may have any fault
 pub among_lines : (count line : ℕ) (kind : ManifestFaultKind) → 1 < line → line < count → IsAmongLines count line kind
@@ -104,5 +104,5 @@ among_lines count line TooManyLines low high = (omega arith, omega arith)
 pub first_line : (text : List ℕ) → (0 < 1) × (1 ≤ length (lines_of text))
 first_line text = let r = some_part 10 text in (omega arith, rw r.2 (omega arith))
 
-pub after_commit-some : (commit rest : List ℕ) → after_commit (Some commit) (lines_of rest) ≡ with_commit commit (read_on [] 2 (lines_of rest))
-after_commit-some commit rest = let r = some_part 10 rest in rw r.2 refl
+pub after_commit-some : (digest commit rest : List ℕ) → after_commit digest (Some commit) (lines_of rest) ≡ with_commit digest commit (read_on [] 2 (lines_of rest))
+after_commit-some digest commit rest = let r = some_part 10 rest in rw r.2 refl

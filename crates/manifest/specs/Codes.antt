@@ -36,11 +36,12 @@ line_code =
     code_by (FileId × (List ℕ × File)) (coded× file_id_code (coded× (coded_list coded_ℕ) file_code))
     (λ l. (l.dir, (l.name, l.file))) (λ p. record { dir = p.0; name = p.1.0; file = p.1.1 }) (λ _. refl)
 
--- the coding of a manifest: commit and lines
+-- the coding of a manifest: commit, digest and lines
 abbrev pub manifest_code : Coded Manifest
 manifest_code =
-    code_by (List ℕ × List Line) (coded× (coded_list coded_ℕ) (coded_list line_code)) (λ m. (m.commit, m.lines))
-    (λ p. record { commit = p.0; lines = p.1 }) (λ _. refl)
+    code_by (List ℕ × (List ℕ × List Line))
+    (coded× (coded_list coded_ℕ) (coded× (coded_list coded_ℕ) (coded_list line_code)))
+    (λ m. (m.commit, (m.digest, m.lines))) (λ p. record { commit = p.0; digest = p.1.0; lines = p.1.1 }) (λ _. refl)
 
 -- the coding of a directory: its names, with their files
 abbrev pub directory_code : Coded (map.FinMap (slice_cmp nat_cmp) FileId)

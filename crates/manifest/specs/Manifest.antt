@@ -17,9 +17,11 @@ pub record Line : Type 0 where
   pub name : List ℕ
   pub file : File
 
--- a commit's name, and lines; the first line is that of file 2, and so on, since file 1 is the root, which has no line
+-- a commit's name, a digest of the text, and lines; the first line is that of file 2, and so on, since file 1 is the
+-- root, which has no line
 pub record Manifest : Type 0 where
   pub commit : List ℕ
+  pub digest : List ℕ
   pub lines : List Line
 
 -- how many lines may follow the commit's

@@ -7,7 +7,7 @@ use Rattle.eden_base.specs.declared.attr.Kind.{Kind}
 use Rattle.eden_base.specs.declared.attr.Kind.TheVariants.{Dir, File as RegularFile}
 use Rattle.eden_base.specs.declared.attr.Perm.{Perm}
 use Rattle.manifest.specs.Manifest.{File, Line, Manifest, IsManifest}
-use Rattle.manifest.specs.ManifestText.{manifest_of, tree_so_far}
+use Rattle.manifest.specs.ManifestText.{digest_of, manifest_of, tree_so_far}
 use Rattle.manifest.specs.Names.{is_name}
 use Rattle.manifest.specs.Tree.{file_at, root, root_file}
 
@@ -65,13 +65,14 @@ AreLinesForm above (line ∷ lines) text =
     (first rest : List ℕ) × IsLineForm above line first × (text ≡ first ++ 10 ∷ rest)
     × AreLinesForm (above ++ line ∷ []) lines rest
 
--- the text of a manifest: the line of the commit, and then the others
+-- the text of a manifest, which has its digest: the line of the commit, and then the others
 pub record IsManifestForm (m : Manifest) (text : List ℕ) : Type 0 where
   pub digits : List ℕ
   pub rest : List ℕ
   pub is_hex : IsHexText m.commit digits
   pub are_lines : AreLinesForm [] m.lines rest
   pub is : text ≡ codes "commit " ++ digits ++ 10 ∷ rest
+  pub has_digest : digest_of text ≡ m.digest
 
 -- each manifest that has this text is read from it
 abbrev pub AreFormsRead : List ℕ → Type 0

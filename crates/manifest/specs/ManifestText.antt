@@ -1,10 +1,11 @@
 -- The text of a manifest, line by line. (This project's own format. A commit is named by the twenty bytes of a hash,
 -- as in Git and EdenFS.)
-use Rattle.std.specs.Prelude.{◌≡◌, ℕ, ◌+◌, ◌<◌, ◌≤◌, not, nat_le, List, [], ◌∷◌, ◌++◌, length, codes, Option, Some, None, is_none, is_some, Result, Ok, Err, IsOk, IfErr, unwrap_or, if◌then◌else◌}
+use Rattle.std.specs.Prelude.{◌≡◌, ℕ, ◌+◌, ◌<◌, ◌≤◌, not, nat_le, List, [], ◌∷◌, ◌++◌, length, take, codes, Option, Some, None, is_none, is_some, Result, Ok, Err, IsOk, IfErr, unwrap_or, if◌then◌else◌}
 use Rattle.std.specs.Option.{option_map, option_and_then, option_or}
 use Rattle.std.specs.Result.{result_ok}
 use Rattle.std.specs.List.{list_all}
 use Rattle.hex.specs.Hex.{decode_sized}
+use Rattle.sha2.specs.Sha256.{sha256}
 use Rattle.eden_base.specs.declared.attr.Kind.{Kind}
 use Rattle.eden_base.specs.declared.attr.Kind.TheVariants.{Dir, File as RegularFile}
 use Rattle.eden_base.specs.declared.attr.Perm.{Perm}
@@ -67,7 +68,7 @@ entry_fault (Some e) =
 
 -- the tree of the lines so far
 abbrev pub tree_so_far : List Line → Tree
-tree_so_far lines = tree_of (record { commit = []; lines = lines })
+tree_so_far lines = tree_of (record { commit = []; digest = []; lines = lines })
 
 -- the file, if it is a directory
 abbrev pub only_dir : Tree → FileId → Option FileId
@@ -131,25 +132,30 @@ read_on lines number (text ∷ next ∷ more) =
     on_line (line_of_text lines text) (λ line. read_on (lines ++ line ∷ []) (number + 1) (next ∷ more))
     (λ fault. Err (fault_at number fault))
 
--- the manifest with this commit and these lines, or the fault of the lines
-abbrev pub with_commit : List ℕ → Result (List Line) ManifestFault → Result Manifest ManifestFault
-with_commit commit (Ok lines) = Ok (record { commit = commit; lines = lines })
-with_commit commit (Err fault) = Err fault
+-- the digest by which two daemons compare their manifests: the first twenty bytes of the SHA-256 of the text, since
+-- that is the room that an image has
+unfoldable pub digest_of : List ℕ → List ℕ
+digest_of text = take 20 (sha256 text)
+
+-- the manifest with this digest, this commit and these lines, or the fault of the lines
+abbrev pub with_commit : List ℕ → List ℕ → Result (List Line) ManifestFault → Result Manifest ManifestFault
+with_commit digest commit (Ok lines) = Ok (record { commit = commit; digest = digest; lines = lines })
+with_commit digest commit (Err fault) = Err fault
 
 -- the manifest with the commit of a first line, or the first fault; the first line has to name a commit and be ended
-abbrev pub after_commit : Option (List ℕ) → List (List ℕ) → Result Manifest ManifestFault
-after_commit None rest = Err (fault_at 1 NoCommit)
-after_commit (Some commit) [] = Err (fault_at 1 BadLine)
-after_commit (Some commit) (line ∷ more) = with_commit commit (read_on [] 2 (line ∷ more))
+abbrev pub after_commit : List ℕ → Option (List ℕ) → List (List ℕ) → Result Manifest ManifestFault
+after_commit digest None rest = Err (fault_at 1 NoCommit)
+after_commit digest (Some commit) [] = Err (fault_at 1 BadLine)
+after_commit digest (Some commit) (line ∷ more) = with_commit digest commit (read_on [] 2 (line ∷ more))
 
--- the manifest that the lines of a text say, or the first fault
-abbrev pub manifest_of_lines : List (List ℕ) → Result Manifest ManifestFault
-manifest_of_lines [] = Err (fault_at 1 NoCommit)
-manifest_of_lines (first ∷ rest) = after_commit (commit_of first) rest
+-- the manifest that the lines of a text with this digest say, or the first fault
+abbrev pub manifest_of_lines : List ℕ → List (List ℕ) → Result Manifest ManifestFault
+manifest_of_lines digest [] = Err (fault_at 1 NoCommit)
+manifest_of_lines digest (first ∷ rest) = after_commit digest (commit_of first) rest
 
 -- the manifest that a text is, or the first faulty line and its first fault
 abbrev pub manifest_of : List ℕ → Result Manifest ManifestFault
-manifest_of text = manifest_of_lines (lines_of text)
+manifest_of text = manifest_of_lines (digest_of text) (lines_of text)
 
 -- a line is refused with this fault: its first one, or NoMemory if it has none
 abbrev pub IsLineRefusal : Result Line ManifestFaultKind → ManifestFaultKind → Type 0

@@ -3,13 +3,14 @@ ghost use Rattle.std.specs.Prelude.{◌≡◌, ◌+◌, [], IfErr, IfOk, Ok, len
 ghost use Rattle.std.specs.FinMap.{get};
 ghost use Rattle.manifest.specs.Manifest.{IsManifest, kids_in};
 ghost use Rattle.manifest.specs.ManifestForm.{AreFormsRead, IsManifestForm};
-ghost use Rattle.manifest.specs.ManifestText.{commit_of, lines_of, manifest_of, read_on, with_commit, IsAmongLines, IsAtLine, IsManifestRefusal, IsRefusal};
+ghost use Rattle.manifest.specs.ManifestText.{commit_of, digest_of, lines_of, manifest_of, read_on, with_commit, IsAmongLines, IsAtLine, IsManifestRefusal, IsRefusal};
 
 use crate::field::after;
 use crate::line::content_of;
 use crate::lines::Lines;
 use crate::{Content, Line, ManifestFault, ManifestFaultKind};
 use eden_base::{FileId, NoMemory, cut};
+use sha2::{Digest, Sha256};
 use std::alloc::Global;
 use std::marker::Model;
 use std::sync::Arc;
@@ -18,6 +19,7 @@ use std::sync::Arc;
 /// manifest.
 pub struct Manifest {
     commit: [u8; 20],
+    digest: [u8; 20],
     lines: Arc<Lines>,
 }
 
@@ -25,6 +27,7 @@ impl Drop for Manifest {
     fn drop(self) {
         let Manifest {
             commit: _,
+            digest: _,
             lines: _,
         } = self;
     }
@@ -38,9 +41,9 @@ impl Model for Manifest {
 
     ghost coded = { manifest_code };
 
-    ghost view = { λ a. record { commit = a.commit; lines = a.lines.value } };
+    ghost view = { λ a. record { commit = a.commit; digest = a.digest; lines = a.lines.value } };
 
-    ghost invariant = { λ a. IsManifest (record { commit = a.commit; lines = a.lines.value }) };
+    ghost invariant = { λ a. IsManifest (record { commit = a.commit; digest = a.digest; lines = a.lines.value }) };
 }
 
 impl Manifest {
@@ -63,7 +66,11 @@ impl Manifest {
         let lines = read_lines(alloc, rest)?;
         let line = lines.len() + 1;
         match Arc::new(alloc, lines) {
-            Ok(lines) => Ok(Manifest { commit, lines }),
+            Ok(lines) => Ok(Manifest {
+                commit,
+                digest: digest_of(bytes),
+                lines,
+            }),
             Err(_) => Err(ManifestFault {
                 line,
                 kind: ManifestFaultKind::NoMemory,
@@ -77,6 +84,14 @@ impl Manifest {
         ensures is_manifest { IsManifest self.now }
     {
         self.commit
+    }
+
+    /// Returns the digest of the text that the manifest was read from: the first twenty bytes of its SHA-256. Manifests
+    /// of one commit with other lines differ in it.
+    pub fn digest(&self) -> [u8; 20]
+        ensures digest { result ≡ self.now.digest }
+    {
+        self.digest
     }
 
     /// Returns the lines: that of the file with id 2, and so on.
@@ -96,6 +111,7 @@ impl Manifest {
         let lines = Arc::try_clone(&self.lines)?;
         Ok(Manifest {
             commit: self.commit,
+            digest: self.digest,
             lines,
         })
     }
@@ -127,7 +143,7 @@ impl Manifest {
 /// Reads the line of the commit, and returns the commit and what follows that line.
 fn read_commit(bytes: &[u8]) -> Result<([u8; 20], &[u8]), ManifestFaultKind>
     ensures commit { IfOk result (λ p.
-        manifest_of bytes.now ≡ with_commit p.0 (read_on [] 2 (lines_of p.1.now))) }
+        manifest_of bytes.now ≡ with_commit (digest_of bytes.now) p.0 (read_on [] 2 (lines_of p.1.now))) }
     ensures behind { IfOk result (λ p.
         length (lines_of bytes.now) ≡ length (lines_of p.1.now) + 1) }
     ensures refused { IfErr result (IsRefusal (manifest_of bytes.now) 1) }
@@ -155,6 +171,17 @@ fn commit_of(line: &[u8]) -> Option<[u8; 20]>
         Ok(()) => Some(commit),
         Err(_) => None,
     }
+}
+
+/// Returns the first twenty bytes of the SHA-256 of `text`.
+#[tactic(auto, unfolding(crate::specs::ManifestText::digest_of))]
+fn digest_of(text: &[u8]) -> [u8; 20]
+    ensures { result ≡ digest_of text.now }
+{
+    let whole = Sha256::digest(text);
+    let mut digest = [0; 20];
+    digest.copy_from_slice(&whole[..20]);
+    digest
 }
 
 /// Reads the lines after the first.

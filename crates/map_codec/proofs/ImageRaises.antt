@@ -1,5 +1,5 @@
 -- From the image of what a daemon serves the same is raised over its manifest, and nothing stands against it.
-use Rattle.std.proofs.Common.{◌≡◌, ℕ, sym, subst}
+use Rattle.std.proofs.Common.{◌≡◌, ℕ, refl, sym, subst}
 use Rattle.checkout.proofs.GoodRounds.{changes_are_good}
 use Rattle.checkout.proofs.OwnTree.{tree_is_changed}
 use Rattle.checkout.specs.BadChanges.{IsBadChange}
@@ -11,11 +11,12 @@ use Rattle.entry_table.specs.declared.kept.Kept.{Kept}
 use Rattle.fuse_ops.specs.Served.{ServedState, plain}
 use Rattle.fuse_ops.specs.Soundness.{IsSound}
 use Rattle.map_codec.specs.Raising.{AreRaisable, IsRaisable, raised, tree_told}
-use Rattle.map_codec.specs.Taking.{IsImageOf}
+use Rattle.map_codec.specs.Taking.{IsImageOf, IsNameOf}
 use Rattle.map_image.specs.declared.image.Image.{Image}
+use Rattle.map_image.specs.declared.version.NamedBy.{NamedBy}
 use Rattle.map_codec.proofs.SoundRaises.{sound_raises}
 
-module _ (served : ServedState) (at : ℕ) (image : Image) (sound : IsSound served) (tree : IsTree served.tree) (manifest : IsManifest served.tree.manifest) (is : IsImageOf served at image) where
+module _ (served : ServedState) (at : ℕ) (image : Image) (sound : IsSound served) (tree : IsTree served.tree) (manifest : IsManifest served.tree.manifest) (by : NamedBy) (is : IsImageOf served at by image) where
   abbrev m : Manifest
   m = served.tree.manifest
 
@@ -28,7 +29,7 @@ module _ (served : ServedState) (at : ℕ) (image : Image) (sound : IsSound serv
   -- only a lack of memory prevents that the image is restored
   pub image_raises : IsRaisable m image
   image_raises = record {
-    tree = record { commit = is.commit; changes = good };
+    tree = record { name = subst (IsNameOf m) (sym is.name) refl; changes = good };
     entries =
         subst (λ (t : Tree). AreRaisable t image.entries image.next_number) (sym same_tree)
         (subst (λ (es : List Kept). AreRaisable served.tree es image.next_number) (sym is.entries)

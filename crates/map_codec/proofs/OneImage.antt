@@ -7,10 +7,11 @@ use Rattle.map_image.specs.ImageText.{IsImageText}
 use Rattle.map_codec.specs.Taking.{IsImageOf}
 use Rattle.map_image.specs.declared.fault.ImageFault.{ImageFault}
 use Rattle.map_image.specs.declared.image.Image.{Image}
+use Rattle.map_image.specs.declared.version.NamedBy.{NamedBy}
 
-pub one_of_served : (served : ServedState) (at : ℕ) (a b : Image) → IsImageOf served at a → IsImageOf served at b → b ≡ a
-one_of_served served at a b is other = λ i. record {
-  commit = (other.commit ∙ sym is.commit) i;
+pub one_of_served : (served : ServedState) (at : ℕ) (by : NamedBy) (a b : Image) → IsImageOf served at by a → IsImageOf served at by b → b ≡ a
+one_of_served served at by a b is other = λ i. record {
+  name = (other.name ∙ sym is.name) i;
   generation = (other.generation ∙ sym is.generation) i;
   next_number = (other.next_number ∙ sym is.next_number) i;
   entries = (other.entries ∙ sym is.entries) i;

@@ -9,7 +9,7 @@ use Rattle.manifest.specs.Manifest.{Manifest}
 use Rattle.manifest.specs.Tree.{Tree}
 use Rattle.map_codec.specs.Raising.{entries_told, fault_in, tree_told, AreRaisable, IsRaiseRefusal, StandsAgainst, TellsATree}
 use Rattle.map_codec.specs.declared.fault.RaiseFault.{RaiseFault}
-use Rattle.map_codec.specs.declared.fault.RaiseFault.TheVariants.{OtherCommit, BadChange, NoParent, NoLink, TwoNumbers, NumberTooHigh, NoMemory}
+use Rattle.map_codec.specs.declared.fault.RaiseFault.TheVariants.{OtherManifest, BadChange, NoParent, NoLink, TwoNumbers, NumberTooHigh, NoMemory}
 use Rattle.map_image.specs.declared.image.Image.{Image}
 
 -- changes without a bad one have none that is bad by itself
@@ -28,14 +28,14 @@ pub refusal-told : {X : Type 0} (m : Manifest) (image : Image) (found : Result (
 refusal-told m image (Ok (Ok files)) fault tells against e = let no : ⊥ = cc in absurd no
 refusal-told m image (Ok (Err found)) fault tells against e = subst (IsRaiseRefusal m image) (same_fault found fault (Err found) refl e) (refusal found against) where
   refusal : (f : RaiseFault) → StandsAgainst (tree_told m image) image.entries image.next_number (Some f) → IsRaiseRefusal m image f
-  refusal OtherCommit a = absurd a
+  refusal OtherManifest a = absurd a
   refusal (BadChange place) a = absurd a
   refusal NoParent a = (tells, a)
   refusal NoLink a = (tells, a)
   refusal TwoNumbers a = (tells, a)
   refusal NumberTooHigh a = (tells, a)
   refusal NoMemory a = absurd a
-refusal-told m image (Err lack) fault tells against e = subst (IsRaiseRefusal m image) (same_fault NoMemory fault (Err NoMemory) refl e) (tells.commit, good_itself m image.changes tells.changes)
+refusal-told m image (Err lack) fault tells against e = subst (IsRaiseRefusal m image) (same_fault NoMemory fault (Err NoMemory) refl e) (tells.name, good_itself m image.changes tells.changes)
 
 -- files that were told are those of entries that may be served
 pub files-told : {X : Type 0} (tree : Tree) (es : List Kept) (next : ℕ) (AreFiles : X → Type 0) (found : Result (Result X RaiseFault) Lack) (files : X) →

@@ -1,5 +1,5 @@
 -- The header of bytes that are an image.
-use Rattle.std.proofs.Common.{◌≡◌, ℕ, List, Result, Ok, sym, ap, ◌∙◌}
+use Rattle.std.proofs.Common.{◌≡◌, ℕ, List, Result, Ok, sym, ap, subst, ◌∙◌}
 use Rattle.manifest.specs.Manifest.{Manifest}
 use Rattle.map_image.proofs.HeaderLaws.{headed_text}
 use Rattle.map_image.specs.ImageText.{IsImageText}
@@ -7,11 +7,12 @@ use Rattle.map_image.specs.declared.fault.ImageFault.{ImageFault}
 use Rattle.map_image.specs.declared.header.Header.{Header}
 use Rattle.map_image.specs.declared.image.Image.{Image}
 use Rattle.map_codec.specs.Handover.{HasRightHeader}
+use Rattle.map_codec.specs.Taking.{IsNameOf}
 
-pub right_header : (m : Manifest) (at : ℕ) (bytes : List ℕ) (image : Image) (version : ℕ) → IsImageText image version bytes → image.generation ≡ at → image.commit ≡ m.commit → HasRightHeader m at bytes
-right_header m at bytes image version is generation commit =
+pub right_header : (m : Manifest) (at : ℕ) (bytes : List ℕ) (image : Image) (version : ℕ) → IsImageText image version bytes → image.generation ≡ at → IsNameOf m image.name → HasRightHeader m at bytes
+right_header m at bytes image version is generation name =
     let headed = headed_text image version bytes is in
-    record { header = headed.header; is = headed.is; generation = headed.generation ∙ generation; commit = headed.commit ∙ commit }
+    record { header = headed.header; is = headed.is; generation = headed.generation ∙ generation; name = subst (IsNameOf m) (sym headed.name) name }
 
 same_header : (a b : Header) → (let one : Result Header ImageFault = Ok a in one) ≡ Ok b → a ≡ b
 same_header a b e = cc

@@ -46,7 +46,7 @@ bad_apart m c place = else_apart (bad_itself m c) (Else (bad_by_other m c) (IsBa
 
 pub raise_refused : (m : Manifest) (image : Image) (fault : RaiseFault) → IsRaiseRefusal m image fault → IsServingRefusal m image (told_of_raise fault)
 raise_refused m image raising.NoMemory is = is
-raise_refused m image raising.OtherCommit is = λ may. is may.tree.commit
+raise_refused m image raising.OtherManifest is = λ may. is may.tree.name
 raise_refused m image (raising.BadChange place) is = λ may. bad_apart m image.changes place is.1 may.tree.changes
 raise_refused m image raising.NoParent is = λ may. let parents = may.entries.parents in let missing = is.1 in cc
 raise_refused m image raising.NoLink is = λ may. is.1.1 may.entries.files

@@ -6,14 +6,14 @@ use Rattle.fuse_ops.specs.Served.{ServedState}
 use Rattle.fuse_ops.specs.Soundness.{IsSound}
 use Rattle.map_image.specs.ImageReading.{HasHeader, header_of_bytes}
 use Rattle.map_image.specs.ImageText.{IsImageText}
-use Rattle.map_image.specs.Versions.{form_of}
+use Rattle.map_image.specs.Versions.{form_of, named_by}
 use Rattle.map_image.specs.declared.fault.ImageFault.{ImageFault}
 use Rattle.map_image.specs.declared.fault.ImageFault.TheVariants as reading
 use Rattle.map_image.specs.declared.fault.WriteFault.{WriteFault}
 use Rattle.map_image.specs.declared.fault.WriteFault.TheVariants as writing
 use Rattle.map_image.specs.declared.header.Header.{Header}
 use Rattle.map_codec.specs.Raising.{IsRaisable, IsRaised, IsRaiseRefusal}
-use Rattle.map_codec.specs.Taking.{IsImageOf}
+use Rattle.map_codec.specs.Taking.{IsImageOf, IsNameOf}
 use Rattle.map_image.specs.Writing.{refusal}
 use Rattle.map_image.specs.declared.image.Image.{Image}
 use Rattle.map_codec.specs.declared.fault.HandoverFault.{HandoverFault}
@@ -40,13 +40,14 @@ told_of_raise fault = Refused
 -- the bytes are the text of the image of what is served at a generation, in a version in which it may be written
 pub record IsHandedOver (served : ServedState) (at version : ℕ) (bytes : List ℕ) : Type 0 where
   pub image : Image
-  pub is_image : IsImageOf served at image
+  pub is_image : IsImageOf served at (named_by version) image
   pub accepted : refusal image version ≡ None
   pub text : IsImageText image version bytes
 
 -- the image of what is served has no text in this version that may be written
 abbrev pub CannotBeHandedOver : ServedState → ℕ → ℕ → Type 0
-CannotBeHandedOver served at version = (image : Image) → IsImageOf served at image → refusal image version ≢ None
+CannotBeHandedOver served at version =
+    (image : Image) → IsImageOf served at (named_by version) image → refusal image version ≢ None
 
 -- an image is not written for this cause: it has no such text, or memory was refused and there is no other cause
 abbrev pub IsTextRefusal : Image → ℕ → HandoverFault → Type 0
@@ -76,12 +77,12 @@ CannotBeTakenOver manifest at bytes =
     (image : Image) (version : ℕ) → IsImageText image version bytes → image.generation ≡ at →
     IsRaisable manifest image → ⊥
 
--- the header of the bytes is whole and right, of this generation and of the manifest's commit
+-- the header of the bytes is whole and right, of this generation and of the manifest
 pub record HasRightHeader (manifest : Manifest) (at : ℕ) (bytes : List ℕ) : Type 0 where
   pub header : Header
   pub is : header_of_bytes bytes ≡ Ok header
   pub generation : header.generation ≡ at
-  pub commit : header.commit ≡ manifest.commit
+  pub name : IsNameOf manifest header.name
 
 -- no image is read for this cause: the bytes are no image, or memory was refused after their header
 abbrev pub IsReadRefusal : List ℕ → HandoverFault → Type 0

@@ -1,6 +1,6 @@
 -- What a daemon serves that is restored from an image over a manifest, and why an image is not restored. (This
 -- project's own; EdenFS's daemon takes what it is sent as it is.)
-use Rattle.std.specs.Prelude.{◌≡◌, ◌≢◌, ℕ, ◌<◌, ◌&&◌, Bool, true, false, nat_lt, nat_le, List, slice_get, Option, Some, None, is_some, Result, Ok, Err}
+use Rattle.std.specs.Prelude.{◌≡◌, ℕ, ◌<◌, ◌&&◌, Bool, true, false, nat_lt, nat_le, List, slice_get, Option, Some, None, is_some, Result, Ok, Err}
 use Rattle.std.specs.List.{AllByRecursion, list_all}
 use Rattle.eden_base.specs.Limits.{end_of_numbers}
 use Rattle.eden_base.specs.declared.number.FileId.{FileId}
@@ -16,7 +16,8 @@ use Rattle.entry_table.specs.Entries.{AreFilesOf, IsFileOf, is_known}
 use Rattle.entry_table.specs.declared.kept.Kept.{Kept}
 use Rattle.fuse_ops.specs.Served.{ServedState, served_of}
 use Rattle.map_codec.specs.declared.fault.RaiseFault.{RaiseFault}
-use Rattle.map_codec.specs.declared.fault.RaiseFault.TheVariants.{OtherCommit, BadChange, NoParent, NoLink, TwoNumbers, NumberTooHigh, NoMemory}
+use Rattle.map_codec.specs.declared.fault.RaiseFault.TheVariants.{OtherManifest, BadChange, NoParent, NoLink, TwoNumbers, NumberTooHigh, NoMemory}
+use Rattle.map_codec.specs.Taking.{IsNameOf}
 use Rattle.map_image.specs.declared.image.Image.{Image}
 
 -- the tree of a manifest with the changes that an image has
@@ -95,9 +96,9 @@ abbrev pub entries_told : {X : Type 0} → Result (Result X RaiseFault) Lack →
 entries_told (Ok told) = told
 entries_told (Err lack) = Err NoMemory
 
--- the image is of the manifest's commit, and its changes make a tree
+-- the image is of the manifest, and its changes make a tree
 pub record TellsATree (m : Manifest) (image : Image) : Type 0 where
-  pub commit : image.commit ≡ m.commit
+  pub name : IsNameOf m image.name
   pub changes : IsBadChange m image.changes None
 
 -- an image may be restored over a manifest
@@ -115,12 +116,12 @@ pub record IsRaised (m : Manifest) (image : Image) (limit : ℕ) (served : Serve
   pub are : AreFilesOf (tree_told m image) image.entries files
   pub is : served ≡ raised m image limit files
 
--- an image is not restored for this cause: the first that applies; or NoMemory, if the commit is right and no change is
--- bad in itself
+-- an image is not restored for this cause: the first that applies; or NoMemory, if the manifest is right and no change
+-- is bad in itself
 abbrev pub IsRaiseRefusal : Manifest → Image → RaiseFault → Type 0
-IsRaiseRefusal m image OtherCommit = image.commit ≢ m.commit
-IsRaiseRefusal m image (BadChange place) = (image.commit ≡ m.commit) × IsBadChange m image.changes (Some place)
-IsRaiseRefusal m image NoMemory = (image.commit ≡ m.commit) × (bad_itself m image.changes ≡ None)
+IsRaiseRefusal m image OtherManifest = IsNameOf m image.name → ⊥
+IsRaiseRefusal m image (BadChange place) = IsNameOf m image.name × IsBadChange m image.changes (Some place)
+IsRaiseRefusal m image NoMemory = IsNameOf m image.name × (bad_itself m image.changes ≡ None)
 IsRaiseRefusal m image fault =
     TellsATree m image × StandsAgainst (tree_told m image) image.entries image.next_number (Some fault)
 

@@ -5,8 +5,8 @@ use thiserror::Error;
 /// is the fault.
 #[derive(Clone, Copy, Debug, PartialEq, Eq, Error)]
 pub enum RaiseFault {
-    #[error("the image is of another commit")]
-    OtherCommit,
+    #[error("the image is of another manifest")]
+    OtherManifest,
     /// The position of the change: 0 for the next file; from 1 on the files that were made and then the names that were
     /// changed.
     #[error("change {0} is bad")]

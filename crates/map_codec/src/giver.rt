@@ -8,7 +8,7 @@ ghost use Rattle.map_codec.specs.Handover.{told_of_write, CannotBeHandedOver, Is
 use crate::{HandoverFault, image_of};
 use eden_base::NoMemory;
 use fuse_ops::Served;
-use map_image::{Image, WriteFault, is_version, write};
+use map_image::{Image, WriteFault, is_version, named_by, write};
 use std::alloc::Global;
 
 /// Returns the fault of a handover for a fault of writing.
@@ -49,7 +49,7 @@ pub fn hand_over(
     if !is_version(version) {
         return Err(HandoverFault::Refused);
     }
-    match image_of(alloc, served, generation) {
+    match image_of(alloc, served, generation, named_by(version)) {
         Ok(image) => {
             let text = text_of(alloc, &image, version);
             drop(image);

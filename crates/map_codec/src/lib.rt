@@ -14,7 +14,7 @@ mod taker;
 
 pub use fault::{HandoverFault, RaiseFault};
 pub use giver::hand_over;
-pub use map_image::{Entries, Image, ImageFault, ImageReader, WriteFault, read, write};
+pub use map_image::{Entries, Image, ImageFault, ImageReader, NamedBy, WriteFault, read, write};
 pub use raising::raise;
 pub use served_image::image_of;
 pub use taker::{take_over, take_over_read};

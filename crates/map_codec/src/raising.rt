@@ -10,6 +10,7 @@ use crate::RaiseFault;
 use crate::directories::directories;
 use crate::entry_checks::{are_apart, are_right_marks, copy_of, is_next};
 use crate::named::named_files;
+use crate::served_image::is_name_of;
 use checkout::{ChangeFault, Tree};
 use eden_base::{FileId, NoMemory};
 use fuse_ops::Served;
@@ -65,8 +66,8 @@ fn tree_told(alloc: Global, image: &Image, manifest: &Manifest) -> Result<Tree, 
     ensures tells { OnOk result (TellsATree manifest.now image.now) }
     ensures refused { IfErr result (IsRaiseRefusal manifest.now image.now) }
 {
-    if image.commit != manifest.commit() {
-        return Err(RaiseFault::OtherCommit);
+    if !is_name_of(image.name, manifest) {
+        return Err(RaiseFault::OtherManifest);
     }
     match Tree::with_changes(alloc, manifest, &image.changes) {
         Ok(tree) => Ok(tree),

@@ -7,18 +7,19 @@ ghost use Rattle.map_codec.specs.Raising.{IsRaisable, IsRaised};
 ghost use Rattle.map_codec.specs.declared.fault.HandoverFault.TheVariants.{Refused};
 ghost use Rattle.map_codec.specs.Handover.{told_of_raise, told_of_read, HasRightHeader, IsReadRefusal, IsServingRefusal, IsTakenOver, IsTakingRefusal};
 
+use crate::served_image::is_name_of;
 use crate::{HandoverFault, RaiseFault, raise};
 use fuse_ops::Served;
 use manifest::Manifest;
 use map_image::{Image, ImageFault, ImageReader, read, read_header};
 use std::alloc::Global;
 
-/// Returns whether the header of `bytes` is whole and right, with this generation and the manifest's commit.
+/// Returns whether the header of `bytes` is whole and right, with this generation and the manifest's name.
 fn has_right_header(bytes: &[u8], manifest: &Manifest, generation: u64) -> bool
     ensures { IsTrue result ↔ HasRightHeader manifest.now generation bytes.now }
 {
     match read_header(bytes) {
-        Ok(header) => header.generation == generation && header.commit == manifest.commit(),
+        Ok(header) => header.generation == generation && is_name_of(header.name, manifest),
         Err(_) => false,
     }
 }

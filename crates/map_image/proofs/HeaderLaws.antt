@@ -13,11 +13,11 @@ use Rattle.map_image.proofs.ImageLaws.{image_again}
 pub record IsHeaded (bytes : List ℕ) (image : Image) : Type 0 where
   pub header : Header
   pub is : header_of_bytes bytes ≡ Ok header
-  pub commit : header.commit ≡ image.commit
+  pub name : header.name ≡ image.name
   pub generation : header.generation ≡ image.generation
 
 -- the fields in front of the lists, one after the other
-header_read : (bytes fields : List ℕ) (form : VersionForm × List ℕ) (header : Header × List ℕ) → magic_at bytes ≡ Ok fields → form_at fields ≡ Ok form → header_at form.1 ≡ Ok header → header_of_bytes bytes ≡ Ok header.0
+header_read : (bytes fields : List ℕ) (form : VersionForm × List ℕ) (header : Header × List ℕ) → magic_at bytes ≡ Ok fields → form_at fields ≡ Ok form → header_at form.0.named_by form.1 ≡ Ok header → header_of_bytes bytes ≡ Ok header.0
 unfolding header_of_bytes
 header_read bytes fields form header first second third = rw (first, second, third) refl
 
@@ -27,10 +27,10 @@ headed bytes =
     then_yields {Mid = λ (x : Image × List ℕ). IsHeaded bytes x.0} _ _ (
     then_yields _ _ (its_value (magic_at bytes)) (λ fields first.
     then_yields _ _ (its_value (form_at fields)) (λ form second.
-    then_yields _ _ (its_value (header_at form.1)) (λ header third.
+    then_yields _ _ (its_value (header_at form.0.named_by form.1)) (λ header third.
     then_yields _ _ (its_value (list_at (entry_at form.0) header.1)) (λ entries _.
     then_yields _ _ (its_value (changes_at header.0.next_file entries.1)) (λ changes _.
-    Value (record { header = header.0; is = header_read bytes fields form header first second third; commit = refl; generation = refl })))))))
+    Value (record { header = header.0; is = header_read bytes fields form header first second third; name = refl; generation = refl })))))))
     (λ image is.
     unless_yields (ltb 0 (length image.1)) Rest _ tt (λ _.
     if_yields (are_of_use image.0.entries) ZeroUse _ tt (λ _. Value is)))

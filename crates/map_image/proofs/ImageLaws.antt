@@ -28,6 +28,7 @@ use Rattle.map_image.specs.ImageText.{magic, entry_text, made_text, link_text, l
 use Rattle.map_image.specs.ImageReading.{entry_at, made_at, link_at, list_at, magic_at, known, form_at, header_at, changes_at, image_with, fields_at, are_of_use, image_of_bytes}
 use Rattle.map_image.specs.Versions.{IsForm, form_of}
 use Rattle.map_image.specs.declared.version.CountWidth.{CountWidth}
+use Rattle.map_image.specs.declared.version.NamedBy.{NamedBy}
 use Rattle.map_image.specs.declared.version.VersionForm.{VersionForm}
 use Rattle.map_image.proofs.VersionLaws.{row}
 use Rattle.map_image.proofs.FieldLaws.{of_eight, of_two}
@@ -92,37 +93,39 @@ form_again version form rest is =
     ap (λ (r : Result (ℕ × List ℕ) ImageFault). r >>= λ v. known (form_of v.0) v.1) (of_two.again version rest (row version form is).version_has_room)
     ∙ ap (λ (o : Option VersionForm). known o rest) is
 
--- ---- commit and numbers
+-- ---- name and numbers
 
 abbrev pub text_of_header : Header → List ℕ
-text_of_header h = h.commit ++ (number_bytes w64 h.generation ++ (number_bytes w64 h.next_number ++ number_bytes w64 h.next_file))
+text_of_header h = h.name.bytes ++ (number_bytes w64 h.generation ++ (number_bytes w64 h.next_number ++ number_bytes w64 h.next_file))
 
-pub record GoodHeader (h : Header) : Type 0 where
-  pub commit : length h.commit ≡ 20
+pub record GoodHeader (by : NamedBy) (h : Header) : Type 0 where
+  pub named : h.name.by ≡ by
+  pub name : length h.name.bytes ≡ 20
   pub generation : h.generation < 2 ^ 64
   pub next_number : h.next_number < 2 ^ 64
   pub next_file : h.next_file < 2 ^ 64
 
 -- the fields of a header that were read
-record IsHeader (commit : List ℕ) (generation number : ℕ) (h : Header) : Type 0 where
-  commit_is : h.commit ≡ commit
+record IsHeader (by : NamedBy) (name : List ℕ) (generation number : ℕ) (h : Header) : Type 0 where
+  by_is : h.name.by ≡ by
+  name_is : h.name.bytes ≡ name
   generation_is : h.generation ≡ generation
   number_is : h.next_number ≡ number
   file : h.next_file < 2 ^ 64
 
-of_header : IsCodec text_of_header GoodHeader header_at
+of_header : (by : NamedBy) → IsCodec text_of_header (GoodHeader by) (header_at by)
 unfolding header_at
-of_header =
-    codec_as text_of_header GoodHeader (
-    pair (λ (h : Header). h.commit) _ _ _ (of_bytes Short 20) (λ c h is. is.1.1.commit_is) (λ commit.
+of_header by =
+    codec_as text_of_header (GoodHeader by) (
+    pair (λ (h : Header). h.name.bytes) _ _ _ (of_bytes Short 20) (λ c h is. is.1.1.name_is) (λ name.
     pair (λ (h : Header). h.generation) _ _ _ of_eight (λ g h is. is.1.generation_is) (λ generation.
-    pair (λ (h : Header). h.next_number) _ (IsHeader commit generation) _ of_eight (λ n h is. is.number_is) (λ number.
-    made (IsHeader commit generation number) (λ (h : Header). h.next_file) (λ file. record { commit = commit; generation = generation; next_number = number; next_file = file }) of_eight
-    (λ file low. (refl, record { commit_is = refl; generation_is = refl; number_is = refl; file = low }))
-    (λ h is. (is.file, rw (sym is.commit_is, sym is.generation_is, sym is.number_is) refl))))))
+    pair (λ (h : Header). h.next_number) _ (IsHeader by name generation) _ of_eight (λ n h is. is.number_is) (λ number.
+    made (IsHeader by name generation number) (λ (h : Header). h.next_file) (λ file. record { name = record { by = by; bytes = name }; generation = generation; next_number = number; next_file = file }) of_eight
+    (λ file low. (refl, record { by_is = refl; name_is = refl; generation_is = refl; number_is = refl; file = low }))
+    (λ h is. (is.file, rw (sym is.by_is, sym is.name_is, sym is.generation_is, sym is.number_is) refl))))))
     (λ h is. refl)
-    (λ h is. record { commit = is.0; generation = is.1.0; next_number = is.1.1.0; next_file = is.1.1.1.file })
-    (λ h is. (is.commit, (is.generation, (is.next_number, record { commit_is = refl; generation_is = refl; number_is = refl; file = is.next_file }))))
+    (λ h is. record { named = is.1.1.1.by_is; name = is.0; generation = is.1.0; next_number = is.1.1.0; next_file = is.1.1.1.file })
+    (λ h is. (is.name, (is.generation, (is.next_number, record { by_is = is.named; name_is = refl; generation_is = refl; number_is = refl; file = is.next_file }))))
 
 -- ---- changes
 
@@ -154,15 +157,16 @@ of_changes file =
 
 -- ---- all fields
 
-pub record GoodImage (greatest : ℕ) (image : Image) : Type 0 where
-  pub commit : length image.commit ≡ 20
+pub record GoodImage (form : VersionForm) (image : Image) : Type 0 where
+  pub named : image.name.by ≡ form.named_by
+  pub name : length image.name.bytes ≡ 20
   pub numbers : FitsNumbers image
-  pub entries : IsGoodList (GoodEntry greatest) entry_follows image.entries
+  pub entries : IsGoodList (GoodEntry form.greatest_count) entry_follows image.entries
   pub made : IsGoodList FitsMade made_follows image.changes.made
   pub links : IsGoodList GoodLink link_follows image.changes.links
 
 abbrev header_of : Image → Header
-header_of image = record { commit = image.commit; generation = image.generation; next_number = image.next_number; next_file = image.changes.next_file.0 }
+header_of image = record { name = image.name; generation = image.generation; next_number = image.next_number; next_file = image.changes.next_file.0 }
 
 -- the fields of an image that were read
 record IsBody (h : Header) (entries : List Kept) (image : Image) : Type 0 where
@@ -172,7 +176,7 @@ record IsBody (h : Header) (entries : List Kept) (image : Image) : Type 0 where
 
 -- what stands after the version, in a form
 abbrev behind_form : VersionForm → List ℕ → Result (Image × List ℕ) ImageFault
-behind_form form bytes = header_at bytes >>= λ header. list_at (entry_at form) header.1 >>= λ entries. changes_at header.0.next_file entries.1 >>= λ changes. Ok (image_with header.0 entries.0 changes.0, changes.1)
+behind_form form bytes = header_at form.named_by bytes >>= λ header. list_at (entry_at form) header.1 >>= λ entries. changes_at header.0.next_file entries.1 >>= λ changes. Ok (image_with header.0 entries.0 changes.0, changes.1)
 
 abbrev body_text : CountWidth → Image → List ℕ
 body_text width image = text_of_header (header_of image) ++ (list_text (entry_text width) image.entries ++ changes_text image.changes)
@@ -184,7 +188,7 @@ body_made h entries c good = record {
   changes = record { next_file = refl; made = good.made; links = good.links };
 } where
   header_with : Header → ℕ → Header
-  header_with h file = record { commit = h.commit; generation = h.generation; next_number = h.next_number; next_file = file }
+  header_with h file = record { name = h.name; generation = h.generation; next_number = h.next_number; next_file = file }
 
 body_back : (h : Header) (entries : List Kept) (image : Image) → IsBody h entries image → GoodChanges h.next_file image.changes × (image_with h entries image.changes ≡ image)
 body_back h entries image is = (
@@ -192,23 +196,24 @@ body_back h entries image is = (
   ap (λ (h : Header). image_with h entries image.changes) (sym is.header_is) ∙ ap (λ (es : List Kept). image_with (header_of image) es image.changes) (sym is.entries_are),
 )
 
-of_body : (form : VersionForm) → IsForm form → IsCodec (body_text form.count_width) (GoodImage form.greatest_count) (behind_form form)
+of_body : (form : VersionForm) → IsForm form → IsCodec (body_text form.count_width) (GoodImage form) (behind_form form)
 of_body form keeps =
-    codec_as (body_text form.count_width) (GoodImage form.greatest_count) (
-    pair header_of _ _ _ of_header (λ h image is. is.1.header_is) (λ h.
+    codec_as (body_text form.count_width) (GoodImage form) (
+    pair header_of _ _ _ (of_header form.named_by) (λ h image is. is.1.header_is) (λ h.
     pair (λ (image : Image). image.entries) _ (IsBody h) _ (of_list (entry_at form) (entry_text form.count_width) (GoodEntry form.greatest_count) entry_follows (of_entry form keeps)) (λ entries image is. is.entries_are) (λ entries.
     made (IsBody h entries) (λ (image : Image). image.changes) (image_with h entries) (of_changes h.next_file)
     (λ c good. (refl, body_made h entries c good)) (body_back h entries))))
     (λ image is. refl)
     (λ image is. record {
-      commit = is.0.commit;
+      named = is.0.named;
+      name = is.0.name;
       numbers = record { generation = is.0.generation; next_number = is.0.next_number; next_file = is.0.next_file };
       entries = is.1.0;
       made = is.1.1.changes.made;
       links = is.1.1.changes.links;
     })
     (λ image is.
-    let header : GoodHeader (header_of image) = record { commit = is.commit; generation = is.numbers.generation; next_number = is.numbers.next_number; next_file = is.numbers.next_file } in
+    let header : GoodHeader form.named_by (header_of image) = record { named = is.named; name = is.name; generation = is.numbers.generation; next_number = is.numbers.next_number; next_file = is.numbers.next_file } in
     (header, (is.entries, record { header_is = refl; entries_are = refl; changes = record { next_file = refl; made = is.made; links = is.links } })))
 
 -- the text in front of the body
@@ -224,7 +229,7 @@ record FoundFields (bytes : List ℕ) (x : Image × List ℕ) : Type 0 where
   version : ℕ
   form : VersionForm
   known : form_of version ≡ Some form
-  found : Found (image_text form.count_width version) (GoodImage form.greatest_count) bytes x
+  found : Found (image_text form.count_width version) (GoodImage form) bytes x
 
 fields_found : (bytes : List ℕ) → AreBytes bytes → Yields Any (FoundFields bytes) (fields_at bytes)
 unfolding fields_at
@@ -246,7 +251,7 @@ fields_found bytes are =
       };
     })))
 
-fields_again : (version : ℕ) (form : VersionForm) (image : Image) → form_of version ≡ Some form → GoodImage form.greatest_count image → fields_at (image_text form.count_width version image) ≡ Ok (image, [])
+fields_again : (version : ℕ) (form : VersionForm) (image : Image) → form_of version ≡ Some form → GoodImage form image → fields_at (image_text form.count_width version image) ≡ Ok (image, [])
 unfolding fields_at
 fields_again version form image is good =
     let body = body_text form.count_width image in
@@ -265,7 +270,7 @@ Named kept = HasName kept.place
 abbrev NamedLink : LinkChange → Type 0
 NamedLink link = IsNameText link.name
 
-is_text : (image : Image) (version : ℕ) (form : VersionForm) (bytes : List ℕ) → form_of version ≡ Some form → GoodImage form.greatest_count image → are_of_use image.entries ≡ true → bytes ≡ image_text form.count_width version image → IsImageText image version bytes
+is_text : (image : Image) (version : ℕ) (form : VersionForm) (bytes : List ℕ) → form_of version ≡ Some form → GoodImage form image → are_of_use image.entries ≡ true → bytes ≡ image_text form.count_width version image → IsImageText image version bytes
 is_text image version form bytes known good of_use is = record {
   form = form;
   known = known;
@@ -277,7 +282,8 @@ is_text image version form bytes known good of_use is = record {
     links_rise = good.links.rise;
     links_have_names = all_weaker GoodLink NamedLink (λ link g. g.named) image.changes.links good.links.good;
   };
-  commit = good.commit;
+  named = good.named;
+  name = good.name;
   numbers = good.numbers;
   members = record {
     entries_few = good.entries.few;
@@ -290,13 +296,14 @@ is_text image version form bytes known good of_use is = record {
   is = is;
 }
 
-good_image : (greatest : ℕ) (image : Image) → IsFit image → length image.commit ≡ 20 → FitsNumbers image → FitsMembers greatest image → GoodImage greatest image
-good_image greatest image fit commit numbers members = record {
-  commit = commit;
+good_image : (form : VersionForm) (image : Image) → IsFit image → image.name.by ≡ form.named_by → length image.name.bytes ≡ 20 → FitsNumbers image → FitsMembers form.greatest_count image → GoodImage form image
+good_image form image fit named name numbers members = record {
+  named = named;
+  name = name;
   numbers = numbers;
   entries = record {
     few = members.entries_few;
-    good = each_two (FitsEntry greatest) Named (GoodEntry greatest) (λ kept f n. record { fits = f; named = n }) image.entries (recursion_from_All (FitsEntry greatest) image.entries members.entries) fit.entries_have_names;
+    good = each_two (FitsEntry form.greatest_count) Named (GoodEntry form.greatest_count) (λ kept f n. record { fits = f; named = n }) image.entries (recursion_from_All (FitsEntry form.greatest_count) image.entries members.entries) fit.entries_have_names;
     rise = fit.entries_rise;
   };
   made = record { few = members.made_few; good = recursion_from_All FitsMade image.changes.made members.made; rise = fit.made_rise };
@@ -326,10 +333,10 @@ image_yields bytes are =
 pub image_found : (bytes : List ℕ) (image : Image) → AreBytes bytes → image_of_bytes bytes ≡ Ok image → HasVersion image bytes
 image_found bytes image are e = yielded (image_of_bytes bytes) image (image_yields bytes are) e
 
-text_again : (version : ℕ) (form : VersionForm) (image : Image) → form_of version ≡ Some form → IsFit image → GoodImage form.greatest_count image → image_of_bytes (image_text form.count_width version image) ≡ Ok image
+text_again : (version : ℕ) (form : VersionForm) (image : Image) → form_of version ≡ Some form → IsFit image → GoodImage form image → image_of_bytes (image_text form.count_width version image) ≡ Ok image
 unfolding image_of_bytes
 text_again version form image is fit good = rw (fields_again version form image is good, fit.each_of_use) refl
 
 pub image_again : (image : Image) (version : ℕ) (bytes : List ℕ) → IsImageText image version bytes → image_of_bytes bytes ≡ Ok image
 image_again image version bytes is =
-    ap image_of_bytes is.is ∙ text_again version is.form image is.known is.is_fit (good_image is.form.greatest_count image is.is_fit is.commit is.numbers is.members)
+    ap image_of_bytes is.is ∙ text_again version is.form image is.known is.is_fit (good_image is.form image is.is_fit is.named is.name is.numbers is.members)

@@ -35,7 +35,7 @@ pub some : TextsAreSome
 some image version text is =
     let form = is.form in
     let header = header_text version image in
-    let fields = number_bytes w16 version ++ (image.commit ++ numbers_text image) in
+    let fields = number_bytes w16 version ++ (image.name.bytes ++ numbers_text image) in
     let lists = lists_text form.count_width image in
     let len : length (header ++ lists) ≡ 4 + length fields + length lists = omega (arith, length-append header lists, length-append magic fields, length-magic) in
     subst (λ (t : List ℕ). 1 ≤ length t) (sym is.is) (omega (arith, len))

@@ -9,6 +9,7 @@ use Rattle.eden_base.specs.Name.{name_fault}
 use Rattle.manifest.specs.declared.links.LinkChange.{LinkChange}
 use Rattle.entry_table.specs.declared.kept.Kept.{Kept}
 use Rattle.map_image.specs.declared.fault.ImageFault.TheVariants.{BadMark, BadName, BadVersion, NotRising, Short}
+use Rattle.map_image.specs.declared.version.NamedBy.{NamedBy}
 use Rattle.map_image.specs.declared.version.VersionForm.{VersionForm}
 use Rattle.map_image.specs.Feeding.{front_at}
 use Rattle.map_image.specs.Fit.{is_next_file, is_next_number, is_next_place}
@@ -102,20 +103,20 @@ steady_form : IsSteady form_at
 unfolding form_at
 steady_form = steady_bind (number_at Short w16) (λ version rest. known (form_of version) rest) (steady_number w16) (λ version. steady_known (form_of version))
 
-steady_header : IsSteady header_at
+steady_header : (by : NamedBy) → IsSteady (header_at by)
 unfolding header_at
-steady_header =
-    steady_bind (bytes_at Short 20) _ (steady_bytes 20) (λ commit.
+steady_header by =
+    steady_bind (bytes_at Short 20) _ (steady_bytes 20) (λ name.
     steady_bind (number_at Short w64) _ (steady_number w64) (λ generation.
     steady_bind (number_at Short w64) _ (steady_number w64) (λ number.
     steady_bind (number_at Short w64) _ (steady_number w64) (λ file.
-    steady_ok (record { commit = commit; generation = generation; next_number = number; next_file = file })))))
+    steady_ok (record { name = record { by = by; bytes = name }; generation = generation; next_number = number; next_file = file })))))
 
 pub steady_front : IsSteady front_at
 unfolding front_at
 steady_front =
     steady_magic _ (
     steady_bind form_at _ steady_form (λ form.
-    steady_bind header_at _ steady_header (λ header.
+    steady_bind (header_at form.named_by) _ (steady_header form.named_by) (λ header.
     steady_bind (number_at Short length_width) _ (steady_number length_width) (λ count.
     steady_ok (record { form = form; header = header; count = count })))))

@@ -75,25 +75,25 @@ behind_front front = entries_on front.0.form front.0.header [] [] [] front.0.cou
 abbrev front_of : VersionForm → Header → ℕ → Front
 front_of form header count = record { form = form; header = header; count = count }
 
-header_first : (form : VersionForm) (bytes : List ℕ) → ((header_at bytes >>= λ header. behind_header form header.0 header.1) >>= seen_whole) ≡ ((header_at bytes >>= λ header. number_at Short length_width header.1 >>= λ n. Ok (front_of form header.0 n.0, n.1)) >>= behind_front)
-header_first form bytes = in_ (header_at bytes) where
+header_first : (form : VersionForm) (bytes : List ℕ) → ((header_at form.named_by bytes >>= λ header. behind_header form header.0 header.1) >>= seen_whole) ≡ ((header_at form.named_by bytes >>= λ header. number_at Short length_width header.1 >>= λ n. Ok (front_of form header.0 n.0, n.1)) >>= behind_front)
+header_first form bytes = in_ (header_at form.named_by bytes) where
   in_ : (r : Result (Header × List ℕ) ImageFault) → ((r >>= λ (header : Header × List ℕ). behind_header form header.0 header.1) >>= seen_whole) ≡ ((r >>= λ (header : Header × List ℕ). number_at Short length_width header.1 >>= λ n. Ok (front_of form header.0 n.0, n.1)) >>= behind_front)
   in_ (Ok header) = lists_first form header.0 header.1 ∙ bind_assoc (number_at Short length_width header.1) (λ (n : ℕ × List ℕ). Ok (front_of form header.0 n.0, n.1)) behind_front
   in_ (Err fault) = refl
 
-form_first : (bytes : List ℕ) → ((form_at bytes >>= λ form. header_at form.1 >>= λ header. behind_header form.0 header.0 header.1) >>= seen_whole)
-    ≡ ((form_at bytes >>= λ form. header_at form.1 >>= λ header. number_at Short length_width header.1 >>= λ n. Ok (front_of form.0 header.0 n.0, n.1)) >>= behind_front)
+form_first : (bytes : List ℕ) → ((form_at bytes >>= λ form. header_at form.0.named_by form.1 >>= λ header. behind_header form.0 header.0 header.1) >>= seen_whole)
+    ≡ ((form_at bytes >>= λ form. header_at form.0.named_by form.1 >>= λ header. number_at Short length_width header.1 >>= λ n. Ok (front_of form.0 header.0 n.0, n.1)) >>= behind_front)
 form_first bytes = in_ (form_at bytes) where
-  in_ : (r : Result (VersionForm × List ℕ) ImageFault) → ((r >>= λ (form : VersionForm × List ℕ). header_at form.1 >>= λ header. behind_header form.0 header.0 header.1) >>= seen_whole)
-      ≡ ((r >>= λ (form : VersionForm × List ℕ). header_at form.1 >>= λ header. number_at Short length_width header.1 >>= λ n. Ok (front_of form.0 header.0 n.0, n.1)) >>= behind_front)
+  in_ : (r : Result (VersionForm × List ℕ) ImageFault) → ((r >>= λ (form : VersionForm × List ℕ). header_at form.0.named_by form.1 >>= λ header. behind_header form.0 header.0 header.1) >>= seen_whole)
+      ≡ ((r >>= λ (form : VersionForm × List ℕ). header_at form.0.named_by form.1 >>= λ header. number_at Short length_width header.1 >>= λ n. Ok (front_of form.0 header.0 n.0, n.1)) >>= behind_front)
   in_ (Ok form) = header_first form.0 form.1
   in_ (Err fault) = refl
 
 pub whole : (bytes : List ℕ) → image_of_bytes bytes ≡ resumed_at AtFront [] [] [] bytes
 unfolding image_of_bytes fields_at front_at
 whole bytes = in_ (magic_at bytes) where
-  in_ : (r : Result (List ℕ) ImageFault) → ((r >>= λ (fields : List ℕ). form_at fields >>= λ form. header_at form.1 >>= λ header. behind_header form.0 header.0 header.1) >>= seen_whole)
-      ≡ ((r >>= λ (fields : List ℕ). form_at fields >>= λ form. header_at form.1 >>= λ header. number_at Short length_width header.1 >>= λ n. Ok (front_of form.0 header.0 n.0, n.1)) >>= behind_front)
+  in_ : (r : Result (List ℕ) ImageFault) → ((r >>= λ (fields : List ℕ). form_at fields >>= λ form. header_at form.0.named_by form.1 >>= λ header. behind_header form.0 header.0 header.1) >>= seen_whole)
+      ≡ ((r >>= λ (fields : List ℕ). form_at fields >>= λ form. header_at form.0.named_by form.1 >>= λ header. number_at Short length_width header.1 >>= λ n. Ok (front_of form.0 header.0 n.0, n.1)) >>= behind_front)
   in_ (Ok fields) = form_first fields
   in_ (Err fault) = refl
 
@@ -106,9 +106,9 @@ err_first {F = F} (Err other) f g fault on e = let same : other ≡ fault = cc i
 fields_refused : (bytes : List ℕ) (fault : ImageFault) → header_of_bytes bytes ≡ Err fault → fields_at bytes ≡ Err fault
 unfolding header_of_bytes fields_at
 fields_refused bytes fault e =
-    err_first (magic_at bytes) (λ fields. form_at fields >>= λ form. header_at form.1 >>= λ header. Ok header.0) (λ fields. form_at fields >>= λ form. header_at form.1 >>= λ header. behind_header form.0 header.0 header.1) fault
-    (λ fields. err_first (form_at fields) (λ form. header_at form.1 >>= λ header. Ok header.0) (λ form. header_at form.1 >>= λ header. behind_header form.0 header.0 header.1) fault
-    (λ form. err_first (header_at form.1) (λ header. Ok header.0) (λ header. behind_header form.0 header.0 header.1) fault (λ header no. absurd cc))) e
+    err_first (magic_at bytes) (λ fields. form_at fields >>= λ form. header_at form.0.named_by form.1 >>= λ header. Ok header.0) (λ fields. form_at fields >>= λ form. header_at form.0.named_by form.1 >>= λ header. behind_header form.0 header.0 header.1) fault
+    (λ fields. err_first (form_at fields) (λ form. header_at form.0.named_by form.1 >>= λ header. Ok header.0) (λ form. header_at form.0.named_by form.1 >>= λ header. behind_header form.0 header.0 header.1) fault
+    (λ form. err_first (header_at form.0.named_by form.1) (λ header. Ok header.0) (λ header. behind_header form.0 header.0 header.1) fault (λ header no. absurd cc))) e
 
 -- the fault of a header is that of its image
 pub header_refused : (bytes : List ℕ) (fault : ImageFault) → header_of_bytes bytes ≡ Err fault → image_of_bytes bytes ≡ Err fault

@@ -98,7 +98,7 @@ unfoldable pub front_at : List ℕ → Result (Front × List ℕ) ImageFault
 front_at bytes = do
   fields ← magic_at bytes
   form ← form_at fields
-  header ← header_at form.1
+  header ← header_at form.0.named_by form.1
   count ← number_at Short length_width header.1
   Ok (record { form = form.0; header = header.0; count = count.0 }, count.1)
 

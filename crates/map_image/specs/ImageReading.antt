@@ -25,6 +25,7 @@ use Rattle.map_image.specs.declared.header.Header.{Header}
 use Rattle.map_image.specs.Fit.{is_next_number, is_next_file, is_next_place}
 use Rattle.map_image.specs.ImageText.{magic}
 use Rattle.map_image.specs.Versions.{form_of, length_width, width_of}
+use Rattle.map_image.specs.declared.version.NamedBy.{NamedBy}
 use Rattle.map_image.specs.declared.version.VersionForm.{VersionForm}
 
 -- reading gives this fault, or it is NoMemory, which may come instead of any result
@@ -192,16 +193,16 @@ form_at bytes = do
   version ← number_at Short w16 bytes
   known (form_of version.0) version.1
 
--- a header: commit, generation, next number, next file; and the rest
-unfoldable pub header_at : List ℕ → Result (Header × List ℕ) ImageFault
-header_at bytes = do
-  commit ← bytes_at Short 20 bytes
-  generation ← number_at Short w64 commit.1
+-- a header: what names the manifest, generation, next number, next file; and the rest
+unfoldable pub header_at : NamedBy → List ℕ → Result (Header × List ℕ) ImageFault
+header_at by bytes = do
+  name ← bytes_at Short 20 bytes
+  generation ← number_at Short w64 name.1
   number ← number_at Short w64 generation.1
   file ← number_at Short w64 number.1
   Ok (
     record {
-      commit = commit.0;
+      name = record { by = by; bytes = name.0 };
       generation = generation.0;
       next_number = number.0;
       next_file = file.0;
@@ -214,7 +215,7 @@ unfoldable pub header_of_bytes : List ℕ → Result Header ImageFault
 header_of_bytes bytes = do
   fields ← magic_at bytes
   form ← form_at fields
-  header ← header_at form.1
+  header ← header_at form.0.named_by form.1
   Ok header.0
 
 -- the bytes have a header that is whole and right
@@ -235,7 +236,7 @@ changes_at next_file bytes = do
 -- an image of these fields
 abbrev pub image_with : Header → List Kept → Changes → Image
 image_with header entries changes = record {
-  commit = header.commit;
+  name = header.name;
   generation = header.generation;
   next_number = header.next_number;
   entries = entries;
@@ -247,7 +248,7 @@ unfoldable pub fields_at : List ℕ → Result (Image × List ℕ) ImageFault
 fields_at bytes = do
   fields ← magic_at bytes
   form ← form_at fields
-  header ← header_at form.1
+  header ← header_at form.0.named_by form.1
   entries ← list_at (entry_at form.0) header.1
   changes ← changes_at header.0.next_file entries.1
   Ok (image_with header.0 entries.0 changes.0, changes.1)

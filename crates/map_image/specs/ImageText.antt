@@ -75,9 +75,9 @@ numbers_text image =
     number_bytes w64 image.generation
     ++ (number_bytes w64 image.next_number ++ number_bytes w64 image.changes.next_file.0)
 
--- what stands before the lists: magic, version, commit, and these numbers
+-- what stands before the lists: magic, version, what names the manifest, and these numbers
 abbrev pub header_text : ℕ → Image → List ℕ
-header_text version image = magic ++ (number_bytes w16 version ++ (image.commit ++ numbers_text image))
+header_text version image = magic ++ (number_bytes w16 version ++ (image.name.bytes ++ numbers_text image))
 
 -- the lists: entries, made files, changed names
 abbrev pub lists_text : CountWidth → Image → List ℕ
@@ -132,7 +132,8 @@ pub record IsImageText (image : Image) (version : ℕ) (bytes : List ℕ) : Type
   pub form : VersionForm
   pub known : form_of version ≡ Some form
   pub is_fit : IsFit image
-  pub commit : length image.commit ≡ 20
+  pub named : image.name.by ≡ form.named_by
+  pub name : length image.name.bytes ≡ 20
   pub numbers : FitsNumbers image
   pub members : FitsMembers form.greatest_count image
   pub is : bytes ≡ image_text form.count_width version image

@@ -1,10 +1,12 @@
 -- The versions of an image: how the texts of one version differ from those of another, a row for each. (This project's
 -- own.)
-use Rattle.std.specs.Prelude.{◌≡◌, ◌<◌, ◌≤◌, ℕ, ◌*◌, ◌-◌, ◌^◌, ◌==◌, List, length, Option, Some, None, if◌then◌else◌}
+use Rattle.std.specs.Prelude.{◌≡◌, ◌<◌, ◌≤◌, ℕ, ◌*◌, ◌-◌, ◌^◌, ◌==◌, Bool, true, false, List, length, Option, Some, None, if◌then◌else◌}
 use Rattle.std.specs.Int.{Width, w32, w64}
 use Rattle.eden_base.specs.Limits.{greatest_count as greatest_held}
 use Rattle.map_image.specs.declared.version.CountWidth.{CountWidth}
 use Rattle.map_image.specs.declared.version.CountWidth.TheVariants.{Four, Eight}
+use Rattle.map_image.specs.declared.version.NamedBy.{NamedBy}
+use Rattle.map_image.specs.declared.version.NamedBy.TheVariants.{Commit, Digest}
 use Rattle.map_image.specs.declared.version.Sending.TheVariants.{Parts, Whole}
 use Rattle.map_image.specs.declared.version.VersionForm.{VersionForm}
 
@@ -31,9 +33,16 @@ most_parts = 65536
 
 -- ---- the versions
 
--- the form of version 1: counts of four bytes, and a text that is sent in one message
+-- the form of version 1: a manifest that is named by its commit, counts of four bytes, and a text that is sent in one
+-- message
 abbrev pub first_form : VersionForm
-first_form = record { count_width = Four; greatest_count = 2 ^ 32 - 1; longest = 65000; sending = Whole }
+first_form = record {
+  named_by = Commit;
+  count_width = Four;
+  greatest_count = 2 ^ 32 - 1;
+  longest = 65000;
+  sending = Whole;
+}
 
 -- the form of version 2: the same counts, and a longer text, which is sent in parts
 abbrev pub second_form : VersionForm
@@ -43,13 +52,33 @@ second_form = record first_form { longest = 268435456; sending = Parts }
 abbrev pub third_form : VersionForm
 third_form = record second_form { count_width = Eight; greatest_count = greatest_held }
 
+-- the form of version 4: a manifest that is named by the digest of its text; the rest is as in version 3
+abbrev pub fourth_form : VersionForm
+fourth_form = record third_form { named_by = Digest }
+
 -- the form of a version, if there is such a version: a row for each
 abbrev pub form_of : ℕ → Option VersionForm
 form_of version =
     if version == 1 then Some first_form
     else if version == 2 then Some second_form
     else if version == 3 then Some third_form
+    else if version == 4 then Some fourth_form
     else None
+
+-- by what images of this form name their manifest; the commit where there is no form
+abbrev pub namer_of : Option VersionForm → NamedBy
+namer_of (Some form) = form.named_by
+namer_of None = Commit
+
+-- by what images of a version name their manifest
+abbrev pub named_by : ℕ → NamedBy
+named_by version = namer_of (form_of version)
+
+-- whether an image that names its manifest so is one of a form that names it like this
+abbrev pub is_named_so : NamedBy → NamedBy → Bool
+is_named_so Commit Commit = true
+is_named_so Digest Digest = true
+is_named_so by other = false
 
 -- ---- the same in each version
 

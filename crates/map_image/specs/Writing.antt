@@ -1,12 +1,12 @@
 -- Which images have no text that may be written, and the room that a text takes.
-use Rattle.std.specs.Prelude.{◌≡◌, ◌<◌, ◌≤◌, ℕ, ◌+◌, nat_lt, Bool, length, Option, Some, None, if◌then◌else◌}
+use Rattle.std.specs.Prelude.{◌≡◌, ◌<◌, ◌≤◌, ℕ, ◌+◌, not, nat_lt, Bool, length, Option, Some, None, if◌then◌else◌}
 use Rattle.std.specs.List.{list_any}
 use Rattle.entry_table.specs.declared.kept.Kept.{Kept}
 use Rattle.map_image.specs.declared.fault.WriteFault.{WriteFault}
-use Rattle.map_image.specs.declared.fault.WriteFault.TheVariants.{NoSuchVersion, CountTooLarge, TooLong, NoMemory}
+use Rattle.map_image.specs.declared.fault.WriteFault.TheVariants.{NoSuchVersion, NamedOtherwise, CountTooLarge, TooLong, NoMemory}
 use Rattle.map_image.specs.declared.image.Image.{Image}
 use Rattle.map_image.specs.ImageText.{image_text}
-use Rattle.map_image.specs.Versions.{form_of, length_limit}
+use Rattle.map_image.specs.Versions.{form_of, is_named_so, length_limit}
 use Rattle.map_image.specs.declared.version.VersionForm.{VersionForm}
 
 -- ---- refusals
@@ -18,7 +18,8 @@ is_too_large greatest kept = nat_lt greatest kept.count
 -- why an image is not written in this form, if there is a cause other than memory
 abbrev pub form_fault : Image → ℕ → VersionForm → Option WriteFault
 form_fault image version form =
-    if list_any (is_too_large form.greatest_count) image.entries then Some CountTooLarge
+    if not (is_named_so image.name.by form.named_by) then Some NamedOtherwise
+    else if list_any (is_too_large form.greatest_count) image.entries then Some CountTooLarge
     else if nat_lt form.longest (length (image_text form.count_width version image)) then Some TooLong
     else None
 

@@ -6,6 +6,8 @@ use thiserror::Error;
 pub enum WriteFault {
     #[error("no such version")]
     NoSuchVersion,
+    #[error("this version names the manifest by something else")]
+    NamedOtherwise,
     #[error("a count is too large for this version")]
     CountTooLarge,
     #[error("the text is too long for this version")]

@@ -4,14 +4,14 @@ ghost use Rattle.byte_codec.specs.Reading.{bytes_at};
 ghost use Rattle.map_image.specs.declared.fault.ImageFault.TheVariants.{Short};
 ghost use Rattle.map_image.specs.ImageReading.{Tells, magic_at, form_at, header_at, header_of_bytes};
 
-use crate::{ImageFault, VersionForm, form_of};
+use crate::{ImageFault, ManifestName, NamedBy, VersionForm, form_of};
 use byte_codec::{u16_at, u64_at};
 
 /// What is known of an image before its lists are read.
 #[derive(Clone, Copy)]
 pub struct Header {
-    /// The manifest's commit.
-    pub commit: [u8; 20],
+    /// The manifest that the checkout stands on.
+    pub name: ManifestName,
     /// The generation at which the daemon that wrote the image has the seat.
     pub generation: u64,
     /// The number that is given next.
@@ -47,31 +47,32 @@ pub(crate) fn form_at(bytes: &[u8]) -> Result<(VersionForm, &[u8]), ImageFault>
     }
 }
 
-/// Reads a commit, and returns it and the rest.
+/// Reads what names a manifest, twenty bytes, and returns these and the rest.
 #[tactic(auto, unfolding(byte_codec::specs::Reading::bytes_at))]
-fn commit_at(bytes: &[u8]) -> Result<([u8; 20], &[u8]), ImageFault>
+fn name_bytes_at(bytes: &[u8]) -> Result<([u8; 20], &[u8]), ImageFault>
     ensures { Tells (λ x. (x.0, x.1.now)) result (bytes_at Short 20 bytes.now) }
 {
     if bytes.len() < 20 {
         return Err(ImageFault::Short);
     }
     let (field, rest) = bytes.split_at(20);
-    let mut commit = [0; 20];
-    commit.copy_from_slice(field);
-    Ok((commit, rest))
+    let mut name = [0; 20];
+    name.copy_from_slice(field);
+    Ok((name, rest))
 }
 
-/// Reads the commit, the generation, the next number and the next file, and returns these and the rest.
+/// Reads what names the manifest, which is as `by` says, the generation, the next number and the next file, and returns
+/// these and the rest.
 #[tactic(auto, unfolding(crate::specs::ImageReading::header_at))]
-pub(crate) fn header_at(bytes: &[u8]) -> Result<(Header, &[u8]), ImageFault>
-    ensures { Tells (λ x. (x.0, x.1.now)) result (header_at bytes.now) }
+pub(crate) fn header_at(by: NamedBy, bytes: &[u8]) -> Result<(Header, &[u8]), ImageFault>
+    ensures { Tells (λ x. (x.0, x.1.now)) result (header_at by bytes.now) }
 {
-    let (commit, rest) = commit_at(bytes)?;
+    let (name, rest) = name_bytes_at(bytes)?;
     let (generation, rest) = u64_at(rest, ImageFault::Short)?;
     let (next_number, rest) = u64_at(rest, ImageFault::Short)?;
     let (next_file, rest) = u64_at(rest, ImageFault::Short)?;
     let header = Header {
-        commit,
+        name: ManifestName { by, bytes: name },
         generation,
         next_number,
         next_file,
@@ -85,7 +86,7 @@ pub fn read_header(bytes: &[u8]) -> Result<Header, ImageFault>
     ensures exact { Tells (λ header. header) result (header_of_bytes bytes.now) }
 {
     let rest = magic_at(bytes)?;
-    let (_form, rest) = form_at(rest)?;
-    let (header, _rest) = header_at(rest)?;
+    let (form, rest) = form_at(rest)?;
+    let (header, _rest) = header_at(form.named_by, rest)?;
     Ok(header)
 }

@@ -1,6 +1,7 @@
 //! What a daemon hands over: the numbers that it gave, and what it changed in its checkout.
 ghost use Rattle.std.specs.Prelude.{◌≡◌};
 
+use crate::NamedBy;
 use checkout::Changes;
 use entry_table::Kept;
 use std::marker::Model;
@@ -43,11 +44,19 @@ impl Entries {
     }
 }
 
+/// What tells which manifest an image belongs to.
+#[derive(Clone, Copy)]
+pub struct ManifestName {
+    pub by: NamedBy,
+    /// The manifest's commit or digest.
+    pub bytes: [u8; 20],
+}
+
 /// All that a daemon knows of its mount, as it is handed to the next daemon.
 #[derive(Drop)]
 pub struct Image {
-    /// The manifest's commit.
-    pub commit: [u8; 20],
+    /// The manifest that the checkout stands on.
+    pub name: ManifestName,
     /// The generation at which the daemon has the seat.
     pub generation: u64,
     /// The number that is given next.

@@ -48,12 +48,12 @@ fn put_numbers(out: &mut Vec<u8>, image: &Image)
 fn put_header(out: &mut Vec<u8>, version: u16, image: &Image)
     requires { HasRoom out.old (length (header_text version image.now)) }
     ensures text { Puts out.old out.new (header_text version image.now) }
-    ensures commit { length image.now.commit ≡ 20 }
+    ensures name { length image.now.name.bytes ≡ 20 }
     ensures fits { FitsNumbers image.now }
 {
     put_magic(out);
     put_u16(out, version);
-    put_slice(out, &image.commit);
+    put_slice(out, &image.name.bytes);
     put_numbers(out, image);
 }
 
@@ -80,7 +80,7 @@ fn put_image(out: &mut Vec<u8>, version: u16, form: VersionForm, image: &Image)
     requires counts { list_any (is_too_large form.greatest_count) image.now.entries ≡ false }
     requires room { HasRoom out.old (length (image_text form.count_width version image.now)) }
     ensures text { Puts out.old out.new (image_text form.count_width version image.now) }
-    ensures commit { length image.now.commit ≡ 20 }
+    ensures name { length image.now.name.bytes ≡ 20 }
     ensures numbers { FitsNumbers image.now }
     ensures members { FitsMembers form.greatest_count image.now }
 {
@@ -99,6 +99,9 @@ pub fn write(alloc: Global, image: &Image, version: u16) -> Result<Vec<u8>, Writ
     let Some(form) = form_of(version) else {
         return Err(WriteFault::NoSuchVersion);
     };
+    if !image.name.by.is(form.named_by) {
+        return Err(WriteFault::NamedOtherwise);
+    }
     if has_large_count(image.entries.as_slice(), form.greatest_count) {
         return Err(WriteFault::CountTooLarge);
     }

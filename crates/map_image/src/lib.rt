@@ -23,9 +23,9 @@ mod version;
 
 pub use fault::{ImageFault, WriteFault};
 pub use header::{Header, read_header};
-pub use image::{Entries, Image};
+pub use image::{Entries, Image, ManifestName};
 pub use image_reader::{ImageReader, read};
 pub use image_writer::write;
 pub use part_reader::PartReader;
 pub use parts::{PART_LEN, cut};
-pub use version::{CountWidth, Sending, VersionForm, form_of, is_version};
+pub use version::{CountWidth, NamedBy, Sending, VersionForm, form_of, is_version, named_by};

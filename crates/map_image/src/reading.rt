@@ -73,7 +73,7 @@ fn front_at(bytes: &[u8]) -> Result<(Front, &[u8]), ImageFault>
 {
     let rest = magic_at(bytes)?;
     let (form, rest) = form_at(rest)?;
-    let (header, rest) = header_at(rest)?;
+    let (header, rest) = header_at(form.named_by, rest)?;
     let (count, rest) = u32_at(rest, ImageFault::Short)?;
     let front = Front {
         form,
@@ -278,9 +278,9 @@ impl Reading {
         if !all_of_use(entries.as_slice(), parents.as_slice()) {
             return Err(ImageFault::ZeroUse);
         }
-        let commit = header.commit;
+        let name = header.name;
         Ok(Image {
-            commit,
+            name,
             generation: header.generation,
             next_number: header.next_number,
             entries: Entries::of(entries),

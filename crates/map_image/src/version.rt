@@ -1,7 +1,7 @@
 //! The versions of an image.
 ghost use Rattle.std.specs.Prelude.{◌≡◌, ◌≤◌, ℕ, IfSome, is_some, length};
 ghost use Rattle.byte_codec.specs.Field.{number_bytes};
-ghost use Rattle.map_image.specs.Versions.{form_of, width_of, IsForm};
+ghost use Rattle.map_image.specs.Versions.{form_of, is_named_so, named_by, width_of, IsForm};
 
 use eden_base::GREATEST_COUNT;
 
@@ -10,6 +10,15 @@ use eden_base::GREATEST_COUNT;
 pub enum CountWidth {
     Four,
     Eight,
+}
+
+/// By what an image names the manifest that it belongs to.
+#[derive(Clone, Copy)]
+pub enum NamedBy {
+    /// The commit of the manifest.
+    Commit,
+    /// The digest of the manifest's text, which tells manifests of one commit with other lines apart.
+    Digest,
 }
 
 /// How a text is sent to the next daemon.
@@ -24,6 +33,7 @@ pub enum Sending {
 /// How the texts of one version differ from those of another.
 #[derive(Clone, Copy)]
 pub struct VersionForm {
+    pub named_by: NamedBy,
     pub count_width: CountWidth,
     /// A greater count is neither written nor read.
     pub greatest_count: u64,
@@ -34,6 +44,7 @@ pub struct VersionForm {
 
 /// The form of version 1.
 const FIRST: VersionForm = VersionForm {
+    named_by: NamedBy::Commit,
     count_width: CountWidth::Four,
     greatest_count: u32::MAX as u64,
     longest: 65_000,
@@ -54,6 +65,12 @@ const THIRD: VersionForm = VersionForm {
     ..SECOND
 };
 
+/// The form of version 4: the manifest is named by its digest.
+const FOURTH: VersionForm = VersionForm {
+    named_by: NamedBy::Digest,
+    ..THIRD
+};
+
 /// Returns the form of `version`, if there is such a version.
 pub fn form_of(version: u16) -> Option<VersionForm>
     ensures row { result ≡ form_of version }
@@ -63,6 +80,7 @@ pub fn form_of(version: u16) -> Option<VersionForm>
         1 => Some(FIRST),
         2 => Some(SECOND),
         3 => Some(THIRD),
+        4 => Some(FOURTH),
         _ => None,
     }
 }
@@ -72,6 +90,28 @@ pub fn is_version(version: u16) -> bool
     ensures is { result ≡ is_some (form_of version) }
 {
     form_of(version).is_some()
+}
+
+/// Returns by what images of `version` name their manifest; `Commit` if there is no such version.
+pub fn named_by(version: u16) -> NamedBy
+    ensures by { result ≡ named_by version }
+{
+    match form_of(version) {
+        Some(form) => form.named_by,
+        None => NamedBy::Commit,
+    }
+}
+
+impl NamedBy {
+    /// Returns whether `other` names a manifest by the same.
+    pub(crate) fn is(self, other: NamedBy) -> bool
+        ensures { result ≡ is_named_so self other }
+    {
+        match self {
+            NamedBy::Commit => matches!(other, NamedBy::Commit),
+            NamedBy::Digest => matches!(other, NamedBy::Digest),
+        }
+    }
 }
 
 impl CountWidth {

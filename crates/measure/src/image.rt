@@ -14,7 +14,7 @@ use eden_base::NoMemory;
 use fuse_ops::Served;
 use manifest::Manifest;
 use map_codec::{RaiseFault, image_of, raise};
-use map_image::{Image, ImageFault, ImageReader, WriteFault, read, write};
+use map_image::{Image, ImageFault, ImageReader, NamedBy, WriteFault, read, write};
 use std::alloc::{AllocError, Global};
 
 /// Returns how many attributes may be loaded. If the caller wrote this number itself, the proof of `image_raised` would
@@ -189,7 +189,7 @@ fn image_raised(alloc: Global, image: Image, manifest: &Manifest) -> Result<Serv
 fn image_taken(alloc: Global, served: &Served) -> Result<Image, NoMemory>
     ensures fit { IfOk result IsFit }
 {
-    image_of(alloc, served, 1)
+    image_of(alloc, served, 1, NamedBy::Commit)
 }
 
 #[inline(never)]

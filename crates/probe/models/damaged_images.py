@@ -5,11 +5,28 @@ fault, and `against` what stands against restoring it over the manifest of CHECK
 damaged image is read whole, in two pieces and byte by byte, and is written as the same bytes if it is one. If a daemon
 is restored from it, it is handed over and taken over as the same bytes, and tells the attributes of each number.
 """
+import hashlib
+
 COMMIT = bytes.fromhex("0123456789abcdef0123456789abcdef01234567")
 CHECKOUT = [("dir", 0o755, 0, 1, "src"), ("file", 0o644, 12, 2, "a"), ("file", 0o755, 0, 2, "b"), ("file", 0o644, 7, 1, "README")]
-GREATEST = {1: 2**32 - 1, 2: 2**32 - 1, 3: 2**63 - 1}
+GREATEST = {1: 2**32 - 1, 2: 2**32 - 1, 3: 2**63 - 1, 4: 2**63 - 1}
 LAST_FILE = len(CHECKOUT) + 1
 END = 2**63 - 1
+
+
+def checkout_lines():
+    """The lines of the manifest."""
+    names = {1: ""}
+    yield f"commit {COMMIT.hex()}"
+    for index, (kind, perm, size, parent, name) in enumerate(CHECKOUT):
+        names[index + 2] = names[parent] + name + "/"
+        yield f"dir {names[parent]}{name}" if kind == "dir" else f"file {perm:04o} {size} {names[parent]}{name}"
+
+
+def name_in(version):
+    """What names the manifest in a version: its commit, or from version 4 on a digest of its text."""
+    text = "".join(f"{line}\n" for line in checkout_lines())
+    return COMMIT if version < 4 else hashlib.sha256(text.encode()).digest()[:20]
 
 
 class Fault(Exception):
@@ -50,7 +67,7 @@ def entry(reader, version, last):
     if number <= (last[0] if last else 1):
         raise Fault("NotRising")
     mark = reader.mark()
-    count = reader.number(8 if version == 3 else 4)
+    count = reader.number(8 if version >= 3 else 4)
     if count > GREATEST[version]:
         raise Fault("BadMark")
     if mark:
@@ -92,14 +109,14 @@ def fields(reader):
     version = reader.number(2)
     if version not in GREATEST:
         raise Fault("BadVersion")
-    commit, generation, number, file = reader.take(20), reader.number(), reader.number(), reader.number()
+    name, generation, number, file = reader.take(20), reader.number(), reader.number(), reader.number()
     lists = [members(reader, member, version) for member in (entry, made, link)]
     if reader.at < len(reader.data):
         raise Fault("Rest")
     parents = {parent for _, _, parent, _ in lists[0] if parent is not None}
     if any(count == 0 and (parent is None or number not in parents) for number, count, parent, _ in lists[0]):
         raise Fault("ZeroUse")
-    return version, commit, generation, number, file, lists
+    return version, name, generation, number, file, lists
 
 
 def read(data):
@@ -135,10 +152,10 @@ def named(number, entries, names):
 
 def against(image):
     """The first thing that stands against restoring an image, or none."""
-    _, commit, _, number, file, lists = image
+    version, name, _, number, file, lists = image
     assert not lists[2]
-    if commit != COMMIT:
-        return "OtherCommit"
+    if name != name_in(version):
+        return "OtherManifest"
     if not LAST_FILE < file <= END:
         return "BadChange 0"
     for index, (each, _, _) in enumerate(lists[1]):
@@ -192,9 +209,9 @@ def rows_of(data, version):
 def image_of(version):
     """The image that is damaged: `src`, `README` with count 3, and a made file that was unlinked."""
     be = lambda value, width=8: value.to_bytes(width, "big")
-    count = 8 if version == 3 else 4
+    count = 8 if version >= 3 else 4
     linked = lambda number, held, name: be(number) + b"\0" + be(held, count) + be(1) + be(len(name), 1) + name
-    return (b"EDTK" + be(version, 2) + COMMIT + be(1) + be(5) + be(7)
+    return (b"EDTK" + be(version, 2) + name_in(version) + be(1) + be(5) + be(7)
             + be(3, 4) + linked(2, 1, b"src") + linked(3, 3, b"README") + be(4) + b"\1" + be(1, count) + be(6)
             + be(1, 4) + be(6) + b"\0" + be(0o600, 2) + be(0, 4))
 
@@ -206,12 +223,9 @@ def main():
     print("# Images with one byte set to 00, set to ff, or with its lowest bit flipped (models/damaged_images.py). Each is")
     print("# refused, whole, in two pieces and byte by byte, or its bytes are just those that are written for what is read. If a")
     print("# daemon can be restored from it, it is handed over and taken over as the same bytes, and knows each of its numbers.")
-    print("|checkout commit", COMMIT.hex())
-    names = {1: ""}
-    for index, (kind, perm, size, parent, name) in enumerate(CHECKOUT):
-        names[index + 2] = names[parent] + name + "/"
-        print("|checkout", f"dir {names[parent]}{name}" if kind == "dir" else f"file {perm:04o} {size} {names[parent]}{name}")
-    for version in (1, 2, 3):
+    for line in checkout_lines():
+        print("|checkout", line)
+    for version in (1, 2, 3, 4):
         image = image_of(version)
         for turn, turned in TURNS:
             others = bytes(map(turned, image))

@@ -30,6 +30,7 @@ pub(crate) fn image_word(fault: ImageFault) -> Result<&'static str, Fault> {
 pub(crate) fn write_word(fault: WriteFault) -> Result<&'static str, Fault> {
     match fault {
         WriteFault::NoSuchVersion => Ok("NoSuchVersion"),
+        WriteFault::NamedOtherwise => Ok("NamedOtherwise"),
         WriteFault::CountTooLarge => Ok("CountTooLarge"),
         WriteFault::TooLong => Ok("TooLong"),
         WriteFault::NoMemory => Err(Fault::NoMemory),
@@ -39,7 +40,7 @@ pub(crate) fn write_word(fault: WriteFault) -> Result<&'static str, Fault> {
 /// Writes why nothing is restored from an image.
 pub(crate) fn tell_raise_fault(told: &mut Told, fault: RaiseFault) -> Result<(), Fault> {
     match fault {
-        RaiseFault::OtherCommit => told.word("OtherCommit"),
+        RaiseFault::OtherManifest => told.word("OtherManifest"),
         RaiseFault::BadChange(place) => {
             told.word("BadChange");
             told.number(place as u64);

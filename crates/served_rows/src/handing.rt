@@ -11,7 +11,7 @@ use crate::faults::{handover_word, image_word, tell_raise_fault, write_word};
 use crate::hosted::{Hosted, taken};
 use crate::{read_usize, read_version};
 use map_codec::{HandoverFault, hand_over, image_of};
-use map_image::{read, write};
+use map_image::{named_by, read, write};
 use row_words::{Fault, Told, Words};
 
 /// Hands over.
@@ -31,7 +31,12 @@ fn image(hosted: &Hosted, words: &mut Words<'_>, told: &mut Told) -> Result<(), 
     let generation = words.number();
     let version = read_version(words);
     words.end()?;
-    let image = image_of(hosted.alloc(), hosted.served(), generation)?;
+    let image = image_of(
+        hosted.alloc(),
+        hosted.served(),
+        generation,
+        named_by(version),
+    )?;
     let written = write(hosted.alloc(), &image, version);
     drop(image);
     match written {

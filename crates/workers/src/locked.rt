@@ -31,7 +31,7 @@ impl Opening for Brand {
     ghost use Rattle.std.specs.Prelude.{[]};
     ghost use Rattle.fuse_ops.specs.Served.{new_served};
 
-    ghost opening = { new_served (record { commit = []; lines = [] }) 1 };
+    ghost opening = { new_served (record { commit = []; digest = []; lines = [] }) 1 };
 
     ghost turns = { 0 };
 }

@@ -11,7 +11,7 @@ sys.path.insert(0, os.path.dirname(os.path.dirname(os.path.abspath(__file__))))
 from plain_world import Script, print_text  # noqa: E402
 
 MANIFEST = ["commit 0123456789abcdef0123456789abcdef01234567", "dir d", "file 0644 12 d/a", "file 0644 7 b"]
-VERSIONS = ("1", "1 2", "1 2 3")
+VERSIONS = ("1", "1 2", "1 2 3", "1 2 3 4")
 TAKEOVERS, REQUESTS = 39, 100
 
 
@@ -92,7 +92,7 @@ def main():
             new = [(place, file) for place, file in daemon.served.links.items() if before.get(place) != file]
             moves += any(file in before.values() for _, file in new)
             replaced += any(place in before for place, _ in new)
-        hand_on(script, VERSIONS[turn % 3])
+        hand_on(script, VERSIONS[turn % 4])
         script.play("show")
     assert daemon.served.next_number > 200 and moves > 200 and replaced > 20
 

@@ -2,7 +2,7 @@ use Rattle.std.proofs.Common.{◌≡◌, ℕ, true, Result, Ok, Err, Vec, Global
 use Rattle.std.specs.Prelude.{IfErr, None, is_some}
 use Rattle.fuse_ops.specs.Served.{ServedState}
 use Rattle.map_codec.specs.Taking.{IsImageOf}
-use Rattle.map_image.specs.Versions.{form_of}
+use Rattle.map_image.specs.Versions.{form_of, named_by}
 use Rattle.map_image.specs.Writing.{refusal}
 use Rattle.map_image.specs.declared.image.Image.{Image}
 use Rattle.map_codec.specs.Handover.{IsHandingRefusal, IsTextRefusal}
@@ -12,10 +12,10 @@ use Rattle.map_codec.proofs.OneImage.{one_of_served}
 use Rattle.map_codec.proofs.giver.hand_over.Goals as goal
 
 -- of one image that was refused, no other can be written; and memory was wanted in a version that there is
-handing_refused : (served : ServedState) (at version : ℕ) (image : Image) → is_some (form_of version) ≡ true → IsImageOf served at image → (r : Result (Vec ℕ Global) HandoverFault) → IfErr r (IsTextRefusal image version) → IfErr r (IsHandingRefusal served at version)
+handing_refused : (served : ServedState) (at version : ℕ) (image : Image) → is_some (form_of version) ≡ true → IsImageOf served at (named_by version) image → (r : Result (Vec ℕ Global) HandoverFault) → IfErr r (IsTextRefusal image version) → IfErr r (IsHandingRefusal served at version)
 handing_refused served at version image known is (Ok bytes) refused = tt
 handing_refused served at version image known is (Err Refused) refused = λ other of_other none.
-    refused (subst (λ (i : Image). refusal i version ≡ None) (one_of_served served at image other is of_other) none)
+    refused (subst (λ (i : Image). refusal i version ≡ None) (one_of_served served at (named_by version) image other is of_other) none)
 handing_refused served at version image known is (Err NoMemory) refused = known
 
 pub returns-in-Ok-clause-refused : goal.returns-in-Ok-clause-refused

@@ -12,7 +12,7 @@ use Rattle.map_codec.proofs.taker.take_over.Goals as goal
 
 -- bytes without a right header are no image that may be taken over
 wrong_header : (m : Manifest) (at : ℕ) (bytes : List ℕ) → (HasRightHeader m at bytes → ⊥) → CannotBeTakenOver m at bytes
-wrong_header m at bytes wrong image version is same may = wrong (right_header m at bytes image version is same may.tree.commit)
+wrong_header m at bytes wrong image version is same may = wrong (right_header m at bytes image version is same may.tree.name)
 
 -- nothing was read
 none_read : (m : Manifest) (at : ℕ) (bytes : List ℕ) → HasRightHeader m at bytes → (fault : HandoverFault) → IsReadRefusal bytes fault → IsTakingRefusal m at bytes fault

@@ -1,6 +1,7 @@
-use Rattle.std.proofs.Common.{List, ℕ, ◌++◌, ap, sym, ◌∙◌}
+use Rattle.std.proofs.Common.{List, ℕ, ◌++◌, ap, sym, ◌∙◌, rules}
 use Rattle.map_image.specs.ImageText.{image_text}
 use Rattle.map_image.proofs.ImageLaws.{image_again}
+use Rattle.map_image.proofs.VersionLaws.{named_alike}
 use Rattle.map_image.proofs.image_writer.write.Goals as goal
 
 pub returns-clause-text : goal.returns-clause-text
@@ -13,7 +14,8 @@ returns-clause-text c =
       form = form;
       known = sym c.form_of.ensures.row ∙ c.in-Some.is;
       is_fit = c.requires;
-      commit = c.put_image.ensures.commit;
+      named = named_alike image.name.by form.named_by (search rules);
+      name = c.put_image.ensures.name;
       numbers = c.put_image.ensures.numbers;
       members = c.put_image.ensures.members;
       is = c.put_image.ensures.text.items ∙ ap (λ (t : List ℕ). t ++ text) c.in-Ok.ensures.items;

@@ -6,4 +6,4 @@ use Rattle.manifest.proofs.manifest.Manifest.share.Goals as goal
 
 pub returns-clause-makes_tree : goal.returns-clause-makes_tree
 returns-clause-makes_tree c =
-    tree_of-IsTree _ (subst (λ (lines : List Line). IsManifest (record { commit = c.self.inside.commit; lines = lines })) (sym c.in_ok-lines.ensures) c.self.invariant)
+    tree_of-IsTree _ (subst (λ (lines : List Line). IsManifest (record { commit = c.self.inside.commit; digest = c.self.inside.digest; lines = lines })) (sym c.in_ok-lines.ensures) c.self.invariant)
