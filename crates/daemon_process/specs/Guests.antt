@@ -1,5 +1,5 @@
 -- The connections of other daemons that wait to be conversed with. (This project's own.)
-use Rattle.std.specs.Prelude.{◌≡◌, ◌⊎◌, ℕ, ◌+◌, ◌==◌, ◌&&◌, Bool, true, false, List, ◌∷◌, ◌++◌, [], length, nat_lt, remove, Option, Some, None, if◌then◌else◌}
+use Rattle.std.specs.Prelude.{◌≡◌, ◌⊎◌, ℕ, ◌+◌, ◌==◌, ◌&&◌, not, Bool, true, false, List, ◌∷◌, ◌++◌, [], length, nat_lt, remove, Option, Some, None, if◌then◌else◌}
 use Rattle.std.specs.List.{position_from}
 use Rattle.frames.specs.declared.frame.Frame.{Frame}
 use Rattle.frames.specs.declared.frame.Frame.TheVariants.{Takeover}
@@ -21,6 +21,21 @@ admission silent offers is_late =
     if nat_lt (silent + offers) 64 then Enters
     else if is_late && nat_lt 0 silent then Replaces
     else Waits
+
+-- whether a connection may come, which becomes so of it
+abbrev pub has_place : Admission → Bool
+has_place Waits = false
+has_place admission = true
+
+-- those that said nothing yet, once a connection may come
+abbrev pub silent_for : Admission → List Guest → List Guest
+silent_for Replaces silent = remove silent 0
+silent_for admission silent = silent
+
+-- whether the connection that is served is sent away, by whether it has a takeover under way, and by how many offered and
+-- wait
+abbrev pub gives_way : Bool → ℕ → Bool
+gives_way is_engaged offers = not is_engaged && nat_lt 0 offers
 
 -- whether a connection has this number
 abbrev pub has_number : ℕ → Guest → Bool

@@ -1,4 +1,7 @@
 //! The connections of other daemons.
+ghost use Rattle.std.specs.Prelude.{◌≡◌, ◌||◌, false, true, not, length, IsSome, None};
+ghost use Rattle.daemon_process.specs.Guests.{TakesFirst, admission, gives_way, has_place, silent_for};
+
 use crate::guests::{Admission, Guests, Offer};
 use links::Frame;
 use std::alloc::Global;
@@ -51,7 +54,12 @@ pub(crate) enum Entrance {
 
 impl State {
     /// Shuts down the connection that is served now, if another one offered and no takeover is under way.
-    fn send_away(&mut self) {
+    fn send_away(&mut self)
+        ensures sent { self.new.is_sent_away ≡ (self.old.is_sent_away
+            || gives_way self.old.is_engaged (length self.old.guests.offers.items)) }
+        ensures engaged { self.new.is_engaged ≡ self.old.is_engaged }
+        ensures guests { self.new.guests ≡ self.old.guests }
+    {
         if self.is_engaged || !self.guests.has_offer() {
             return;
         }
@@ -62,7 +70,12 @@ impl State {
     }
 
     /// Takes the connection that offered first.
-    fn take(&mut self) -> Option<Offer> {
+    fn take(&mut self) -> Option<Offer>
+        ensures first { TakesFirst result self.old.guests.offers.items self.new.guests.offers.items }
+        ensures silent { self.new.guests.silent.items ≡ self.old.guests.silent.items }
+        ensures engaged { IsSome result → self.new.is_engaged ≡ false }
+        ensures sent { IsSome result → self.new.is_sent_away ≡ false }
+    {
         let offer = self.guests.take()?;
         self.current = offer.stream.try_clone().ok();
         self.is_engaged = false;
@@ -71,7 +84,14 @@ impl State {
     }
 
     /// Makes a place for a connection that comes, if there may be one by now. Returns whether there is.
-    fn has_place(&mut self, is_late: bool) -> bool {
+    fn has_place(&mut self, is_late: bool) -> bool
+        ensures place { result ≡ has_place (admission (length self.old.guests.silent.items)
+            (length self.old.guests.offers.items) is_late) }
+        ensures silent { self.new.guests.silent.items ≡ silent_for (admission
+            (length self.old.guests.silent.items) (length self.old.guests.offers.items) is_late)
+            self.old.guests.silent.items }
+        ensures offers { self.new.guests.offers.items ≡ self.old.guests.offers.items }
+    {
         match self.guests.admission(is_late) {
             Admission::Enters => true,
             Admission::Replaces => {
@@ -80,6 +100,31 @@ impl State {
             }
             Admission::Waits => false,
         }
+    }
+
+    /// Notes that the served connection has a takeover under way, unless that was sent away. Returns whether it may stay.
+    fn stay(&mut self) -> bool
+        ensures stays { result ≡ not self.old.is_sent_away }
+        ensures engaged { self.new.is_engaged ≡ (self.old.is_engaged || not self.old.is_sent_away) }
+        ensures sent { self.new.is_sent_away ≡ self.old.is_sent_away }
+        ensures guests { self.new.guests ≡ self.old.guests }
+    {
+        if self.is_sent_away {
+            return false;
+        }
+        self.is_engaged = true;
+        true
+    }
+
+    /// Notes that the served connection has no takeover under way, and sends it away if another one offered.
+    fn make_way(&mut self)
+        ensures sent { self.new.is_sent_away ≡ (self.old.is_sent_away
+            || gives_way false (length self.old.guests.offers.items)) }
+        ensures engaged { self.new.is_engaged ≡ false }
+        ensures guests { self.new.guests ≡ self.old.guests }
+    {
+        self.is_engaged = false;
+        self.send_away();
     }
 }
 
@@ -162,19 +207,12 @@ impl Lobby {
     /// Notes that the served connection has a takeover under way, unless that connection was sent away. Returns whether
     /// it may stay.
     pub(crate) fn stay<R: Wait>(&self, rt: &R) -> bool {
-        let mut state = self.state.lock(rt);
-        if state.is_sent_away {
-            return false;
-        }
-        state.is_engaged = true;
-        true
+        self.state.lock(rt).stay()
     }
 
     /// Notes that the served connection has no takeover under way, and sends it away if another one offered.
     pub(crate) fn make_way<R: Wait>(&self, rt: &R) {
-        let mut state = self.state.lock(rt);
-        state.is_engaged = false;
-        state.send_away();
+        self.state.lock(rt).make_way();
     }
 
     /// Notes that the connection that was served is served no more.
