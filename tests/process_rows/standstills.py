@@ -4,7 +4,7 @@ import signal
 import time
 
 from process_rows.checks import row, same
-from process_rows.daemons import ends_by_takeover, mounted_by_hand, offered, serving
+from process_rows.daemons import mounted_by_hand, offered, serving
 from process_rows.frames import ALL_VERSIONS, frame, u32, u64
 
 
@@ -96,11 +96,3 @@ def a_daemon_that_stands_still_within_a_frame(room):
     stands_still(daemon, 7)
     worker.end.sendall(text[3:])
     daemon.ends(["serving 1", "ended"])
-
-
-@row
-def a_takeover_behind_a_standstill(room):
-    """A daemon that stood still serves on, and is taken over from."""
-    broker, daemon = serving(room, "--patience", "500")
-    stands_still(daemon, 3)
-    ends_by_takeover(room, broker, daemon)
