@@ -161,3 +161,34 @@ def a_broker_may_be_killed(room):
     daemon.printed("serving 1")
     broker.kill()
     daemon.ends(["serving 1", "fault: broken"], 1)
+
+
+@row
+def a_silent_broker_is_told_of_once(room):
+    """A daemon says on standard error that its broker has not answered for five seconds, and then that it answers again:
+    each once, though two connections wait."""
+    listener = room.listen(room.broker_at)
+    daemon = room.mount("--workers", "2")
+    first = room.accept(listener)
+    same(first.read()[0], "Attach")
+    first.send("Attached", u64(1))
+    workers = []
+    for _ in range(2):
+        workers.append(room.accept(listener))
+        same(workers[-1].read()[0], "Attach")
+        workers[-1].send("Attached", u64(1))
+    same(first.read()[0], "Mount")
+    first.send("Mounted", u64(1))
+    for worker in workers:
+        same(worker.read(), ("Take", u64(1)))
+    time.sleep(4)
+    for worker in workers:
+        same(worker.ask("Empty"), ("Take", u64(1)))
+    time.sleep(7)
+    for worker in workers:
+        same(worker.ask("Empty"), ("Take", u64(1)))
+    time.sleep(1)
+    for worker in workers:
+        worker.send("Ended")
+    daemon.ends(["serving 1", "ended"])
+    same(daemon.said(), "edend: the broker does not answer; waiting for it\nedend: the broker answers again\n")

@@ -1,4 +1,5 @@
 """Rows: words and places that are refused, and what the system refuses."""
+import glob
 import mmap
 import os
 import socket
@@ -232,3 +233,21 @@ def too_few_descriptors(room):
         room.program = program
         daemon.ends(["fault: no broker"], 1, "Too many open files")
     room.mount("--workers", "16").printed("serving 1")
+
+
+@row
+def an_empty_folder_that_is_old_is_removed(room):
+    """A folder beside a socket that a killed process left empty is removed by the next one that listens there, unless it is
+    less than a minute old: then who made it may be about to listen."""
+    room.broker("seat 1", "seat 2")
+    old, young, full = (f"{room.takeover_at}.{number}" for number in (1, 2, 3))
+    for path in (old, young, full):
+        os.mkdir(path)
+    room.write(f"{os.path.basename(full)}/kept", b"")
+    for path in (old, full):
+        os.utime(path, (1, time.time() - 90))
+    os.utime(young, (1, time.time() - 20))
+    daemon = room.mount()
+    daemon.printed("serving 1")
+    same([os.path.exists(path) for path in (old, young, full)], [False, True, True])
+    same(sorted(glob.glob(f"{room.takeover_at}.*")), [young, full])

@@ -278,6 +278,7 @@ impl Hall {
         frame: &Frame,
         hold: Deadline,
     ) -> Response {
+        let mut hold = hold;
         for _ in rt.forever() {
             let seen = self.asks.notifications();
             let response = self.hear(rt, visit, frame);

@@ -4,9 +4,11 @@ use crate::fault::DaemonFault;
 use crate::orders::Orders;
 use crate::patient::Patient;
 use crate::shared::Shared;
+use crate::silence::Silences;
+use crate::watched::Watched;
 use eden_base::DaemonId;
 use links::{Frame, SocketChannel};
-use sockets::{Connection, Deadline, Timed, connect};
+use sockets::{Connection, Deadline, Timed, Writer, connect};
 use std::alloc::Global;
 use std::io::{self, BufReader, ErrorKind};
 use std::net::Net;
@@ -29,6 +31,9 @@ fn broker_patience() -> Duration {
 pub(crate) fn answer_by<R: Clock>(clock: &R) -> Deadline {
     Deadline::after(clock, broker_patience())
 }
+
+/// How many bytes a worker reads ahead.
+const AHEAD: usize = 65_536;
 
 /// The channel of a worker.
 pub(crate) type Worker<'a, R> = Patient<Asking<'a, R>>;
@@ -159,33 +164,36 @@ fn attach<R: Clock + Wait>(
 
 /// Makes a channel at `generation` for each worker's connection, patient until `stop` is asked. No frame that was sent
 /// on these connections may still lack its answer.
-pub(crate) fn channels<'a, R: Clock>(
+pub(crate) fn channels<'a, R: Wait + Clock>(
     rt: &'a R,
     alloc: Global,
+    silences: &'a Silences,
     workers: &[UnixStream],
     generation: u64,
     stop: &Arc<Stop>,
 ) -> io::Result<Vec<Worker<'a, R>>> {
     let mut channels = Vec::with_capacity(alloc, workers.len())?;
     for worker in workers {
-        let channel = channel(rt, alloc, worker, generation)?;
+        let channel = channel(rt, alloc, silences, worker, generation)?;
         channels.push(Patient::new(channel, Arc::try_clone(stop)?))?;
     }
     Ok(channels)
 }
 
 /// A worker's channel, which asks the broker once for each take.
-type Asking<'a, R> = SocketChannel<BufReader<Timed<'a, R>>, UnixStream>;
+type Asking<'a, R> = SocketChannel<BufReader<Watched<'a, R>>, Writer<'a, R>>;
 
 /// Returns a channel at a generation over a worker's connection. It waits for the broker for as long as that stands.
-fn channel<'a, R: Clock>(
+fn channel<'a, R: Wait + Clock>(
     rt: &'a R,
     alloc: Global,
+    silences: &'a Silences,
     worker: &UnixStream,
     generation: u64,
 ) -> io::Result<Asking<'a, R>> {
-    let connection = Connection::over(alloc, rt, worker.try_clone()?, None)?;
-    let (reader, writer) = connection.into_ends();
+    let writer = Writer::over(rt, worker.try_clone()?, None)?;
+    let timed = Timed::over(rt, worker.try_clone()?);
+    let reader = BufReader::with_capacity(alloc, AHEAD, Watched::over(rt, timed, silences))?;
     match SocketChannel::new(alloc, reader, writer, generation) {
         Ok(channel) => Ok(channel),
         Err(_refused) => Err(io::Error::from(ErrorKind::OutOfMemory)),

@@ -128,7 +128,7 @@ fn reach<'a, R: Net + Clock>(
 }
 
 /// Listens at a hidden socket beside `path`.
-fn hide<R: Files + Net>(rt: &R, alloc: Global, path: &str) -> Result<Hidden, Exit> {
+fn hide<R: Files + Net + Clock>(rt: &R, alloc: Global, path: &str) -> Result<Hidden, Exit> {
     match Hidden::beside(rt, alloc, path) {
         Ok(hidden) => Ok(hidden),
         Err(error) if is_no_memory(&error) => Err(Exit::Faulty(DaemonFault::NoMemory)),

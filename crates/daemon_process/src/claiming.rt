@@ -1,8 +1,9 @@
 //! A claim of the seat.
 use crate::arrival::answer_by;
 use crate::shared::Shared;
+use crate::watched::ask;
 use daemon_desk::Claiming;
-use sockets::{Connection, Deadline};
+use sockets::Connection;
 use std::rt::Clock;
 use std::sync::Wait;
 use std::thread;
@@ -18,7 +19,7 @@ pub(crate) fn claim<R: Wait + Clock>(
     shared: &Shared,
     broker: &mut Connection<'_, R>,
 ) -> Claiming {
-    let deadline = answer_by(rt);
+    let mut deadline = answer_by(rt);
     for _ in rt.forever() {
         match claim_once(rt, shared, broker) {
             Claiming::Waits if !deadline.is_over(rt) => {
@@ -39,7 +40,7 @@ fn claim_once<R: Wait + Clock>(
     let Some(frame) = shared.claim(rt) else {
         return Claiming::Broken;
     };
-    match broker.ask(&frame, Deadline::Never) {
+    match ask(rt, shared.silences(), broker, &frame) {
         Some(answer) => shared.take_claim(rt, &answer),
         None => Claiming::Broken,
     }

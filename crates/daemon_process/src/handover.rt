@@ -6,6 +6,7 @@ ghost use Rattle.daemon_process.specs.Takeovers.{times_of};
 use crate::claiming::claim;
 use crate::exit::Exit;
 use crate::fault::DaemonFault;
+use crate::guests::Offer;
 use crate::lobby::Lobby;
 use crate::shared::Shared;
 use crate::telling::tell_all;
@@ -22,7 +23,7 @@ use takeover_core::Phase;
 /// A silence may last for this many times the patience once the data is out.
 const LONGER: u32 = 10;
 
-/// Serves the connections of other daemons one after another, until the daemon ends.
+/// Serves the connections of other daemons that offered one after another, until the daemon ends.
 pub(crate) fn hand_over_all<R: Wait + Clock>(
     rt: &R,
     alloc: Global,
@@ -33,11 +34,11 @@ pub(crate) fn hand_over_all<R: Wait + Clock>(
 ) {
     let mut broker = broker;
     for _ in rt.forever() {
-        let Some(stream) = lobby.next(rt) else {
+        let Some(Offer { stream, frame }) = lobby.next(rt) else {
             return;
         };
         if let Ok(mut connection) = Connection::over(alloc, rt, stream, Some(patience)) {
-            attend(rt, shared, lobby, &mut connection, patience);
+            attend(rt, shared, lobby, &mut connection, frame, patience);
         }
         lobby.finish(rt);
         claim_back(rt, shared, &mut broker);
@@ -45,46 +46,52 @@ pub(crate) fn hand_over_all<R: Wait + Clock>(
     unreachable!()
 }
 
-/// Serves the connection of another daemon until it ends. A takeover that is still under way is given up then.
+/// Serves the connection of another daemon, which began by `first`, until it ends. A takeover that is still under way is
+/// given up then.
 fn attend<R: Wait + Clock>(
     rt: &R,
     shared: &Shared,
     lobby: &Lobby,
     connection: &mut Connection<'_, R>,
+    first: Frame,
     patience: Duration,
 ) {
-    converse(rt, shared, lobby, connection, patience);
+    converse(rt, shared, lobby, connection, first, patience);
     if let Some(told) = shared.give_up(rt) {
         let _told = connection.write(&told);
     }
     connection.end();
 }
 
-/// Hears the frames of another daemon and answers them. It returns when the connection ends, the other daemon is silent
-/// for too long, or this daemon is to claim the seat.
+/// Hears the frames of another daemon from the first one on, and answers them. It returns when the connection ends, the
+/// other daemon is silent for too long, or this daemon is to claim the seat.
 fn converse<R: Wait + Clock>(
     rt: &R,
     shared: &Shared,
     lobby: &Lobby,
     connection: &mut Connection<'_, R>,
+    first: Frame,
     patience: Duration,
 ) {
     let mut phase = shared.phase(rt);
-    let mut deadline = Deadline::after(rt, patience);
+    let mut frame = first;
+    connection.end_by(Deadline::after(rt, patience));
     for _ in rt.forever() {
-        let Ok(Some(frame)) = connection.read(deadline) else {
-            return;
-        };
         if !lobby.stay(rt) || !answer(rt, shared, connection, &frame) {
             return;
         }
         let now = shared.phase(rt);
         if now != phase {
             phase = now;
-            deadline = Deadline::after(rt, patience.saturating_mul(times_of(phase)));
+            let silence = patience.saturating_mul(times_of(phase));
+            connection.end_by(Deadline::after(rt, silence));
         }
         if let Phase::Serving { .. } = now {
             lobby.make_way(rt);
+        }
+        match connection.read_next() {
+            Ok(Some(next)) => frame = next,
+            _ => return,
         }
     }
     unreachable!()

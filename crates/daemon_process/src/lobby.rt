@@ -1,12 +1,20 @@
 //! The connections of other daemons.
+ghost use Rattle.std.specs.Prelude.{◌≡◌, ◌||◌, false, true, not, length, IsSome, None};
+ghost use Rattle.daemon_process.specs.Guests.{TakesFirst, admission, gives_way, has_place, silent_for};
+
+use crate::guests::{Admission, Guests, Offer};
+use links::Frame;
+use std::alloc::Global;
 use std::net::Shutdown;
-use std::os::unix::net::{UnixListener, UnixStream};
-use std::rt::Clock;
+use std::os::unix::net::UnixStream;
 use std::sync::{Condvar, Mutex, Wait};
-use std::thread;
 use std::time::Duration;
 
-/// How long no connection is accepted after an accept failed, in milliseconds.
+/// How long a connection waits for a place before it takes that of another one, in microseconds. Each of 64 that said
+/// nothing yet so has 12 milliseconds to offer, however many come.
+const MOMENT: u64 = 200;
+
+/// How long a connection waits for a place where all others offered, in milliseconds.
 const PAUSE: u64 = 10;
 
 /// The longest sleep of a thread that waits, in milliseconds.
@@ -15,28 +23,44 @@ const LONGEST_SLEEP: u64 = 60_000;
 /// What the lock protects.
 #[derive(Drop)]
 struct State {
-    /// The connection that is served next.
-    waiting: Option<UnixStream>,
+    guests: Guests,
     /// A handle of the connection that is served now.
     current: Option<UnixStream>,
     /// Whether the connection that is served now has a takeover under way.
     is_engaged: bool,
-    /// Whether the connection that is served now was sent away: it was shut down, since another one waits.
+    /// Whether the connection that is served now was sent away: it was shut down, since another one offered.
     is_sent_away: bool,
     is_over: bool,
 }
 
-/// The connections of other daemons: at most one is served, and at most one waits to be served next.
+/// The connections of other daemons: at most 64 are heard side by side, and of those that offered one is served at a
+/// time.
 #[derive(Drop)]
 pub(crate) struct Lobby {
     state: Mutex<State>,
     changes: Condvar,
 }
 
+/// How a connection enters.
+#[derive(Clone, Copy)]
+pub(crate) enum Entrance {
+    /// It is heard by this number.
+    Heard(u64),
+    /// Memory was refused.
+    Refused,
+    /// The lobby is over.
+    Over,
+}
+
 impl State {
-    /// Shuts down the connection that is served now, if another one waits and no takeover is under way.
-    fn send_away(&mut self) {
-        if self.is_engaged || self.waiting.is_none() {
+    /// Shuts down the connection that is served now, if another one offered and no takeover is under way.
+    fn send_away(&mut self)
+        ensures sent { self.new.is_sent_away ≡ (self.old.is_sent_away
+            || gives_way self.old.is_engaged (length self.old.guests.offers.items)) }
+        ensures engaged { self.new.is_engaged ≡ self.old.is_engaged }
+        ensures guests { self.new.guests ≡ self.old.guests }
+    {
+        if self.is_engaged || !self.guests.has_offer() {
             return;
         }
         if let Some(current) = &self.current {
@@ -45,22 +69,71 @@ impl State {
         self.is_sent_away = true;
     }
 
-    /// Takes the connection that waits.
-    fn take(&mut self) -> Option<UnixStream> {
-        let stream = self.waiting.take()?;
-        self.current = stream.try_clone().ok();
+    /// Takes the connection that offered first.
+    fn take(&mut self) -> Option<Offer>
+        ensures first { TakesFirst result self.old.guests.offers.items self.new.guests.offers.items }
+        ensures silent { self.new.guests.silent.items ≡ self.old.guests.silent.items }
+        ensures engaged { IsSome result → self.new.is_engaged ≡ false }
+        ensures sent { IsSome result → self.new.is_sent_away ≡ false }
+    {
+        let offer = self.guests.take()?;
+        self.current = offer.stream.try_clone().ok();
         self.is_engaged = false;
         self.is_sent_away = false;
-        Some(stream)
+        Some(offer)
+    }
+
+    /// Makes a place for a connection that comes, if there may be one by now. Returns whether there is.
+    fn has_place(&mut self, is_late: bool) -> bool
+        ensures place { result ≡ has_place (admission (length self.old.guests.silent.items)
+            (length self.old.guests.offers.items) is_late) }
+        ensures silent { self.new.guests.silent.items ≡ silent_for (admission
+            (length self.old.guests.silent.items) (length self.old.guests.offers.items) is_late)
+            self.old.guests.silent.items }
+        ensures offers { self.new.guests.offers.items ≡ self.old.guests.offers.items }
+    {
+        match self.guests.admission(is_late) {
+            Admission::Enters => true,
+            Admission::Replaces => {
+                self.guests.replace();
+                true
+            }
+            Admission::Waits => false,
+        }
+    }
+
+    /// Notes that the served connection has a takeover under way, unless that was sent away. Returns whether it may stay.
+    fn stay(&mut self) -> bool
+        ensures stays { result ≡ not self.old.is_sent_away }
+        ensures engaged { self.new.is_engaged ≡ (self.old.is_engaged || not self.old.is_sent_away) }
+        ensures sent { self.new.is_sent_away ≡ self.old.is_sent_away }
+        ensures guests { self.new.guests ≡ self.old.guests }
+    {
+        if self.is_sent_away {
+            return false;
+        }
+        self.is_engaged = true;
+        true
+    }
+
+    /// Notes that the served connection has no takeover under way, and sends it away if another one offered.
+    fn make_way(&mut self)
+        ensures sent { self.new.is_sent_away ≡ (self.old.is_sent_away
+            || gives_way false (length self.old.guests.offers.items)) }
+        ensures engaged { self.new.is_engaged ≡ false }
+        ensures guests { self.new.guests ≡ self.old.guests }
+    {
+        self.is_engaged = false;
+        self.send_away();
     }
 }
 
 impl Lobby {
     /// Returns a lobby where nobody waits.
-    pub(crate) fn new() -> Lobby {
+    pub(crate) fn new(alloc: Global) -> Lobby {
         Lobby {
             state: Mutex::new(State {
-                waiting: None,
+                guests: Guests::new(alloc),
                 current: None,
                 is_engaged: false,
                 is_sent_away: false,
@@ -70,54 +143,63 @@ impl Lobby {
         }
     }
 
-    /// Waits for a change.
-    fn sleep<R: Wait>(&self, rt: &R, seen: u64) {
-        self.changes
-            .sleep(rt, seen, Duration::from_millis(LONGEST_SLEEP));
-    }
-
-    /// Waits until no connection waits to be served. Returns whether the lobby is still open.
-    fn has_room<R: Wait>(&self, rt: &R) -> bool {
+    /// Lets a connection in by a handle of it, once there is a place. Where all are taken it soon takes that of the oldest
+    /// one that said nothing yet.
+    pub(crate) fn enter<R: Wait>(&self, rt: &R, stream: UnixStream) -> Entrance {
+        let mut pause = Duration::from_micros(MOMENT);
+        let mut is_late = false;
         for _ in rt.forever() {
             let seen = self.changes.notifications();
-            let state = self.state.lock(rt);
+            let mut state = self.state.lock(rt);
             if state.is_over {
-                return false;
+                return Entrance::Over;
             }
-            if state.waiting.is_none() {
-                return true;
+            if state.has_place(is_late) {
+                return match state.guests.enter(stream) {
+                    Some(number) => Entrance::Heard(number),
+                    None => Entrance::Refused,
+                };
             }
             drop(state);
-            self.sleep(rt, seen);
+            self.changes.sleep(rt, seen, pause);
+            pause = Duration::from_millis(PAUSE);
+            is_late = true;
         }
         unreachable!()
     }
 
-    /// Lets a connection wait. If the served connection has no takeover under way, it is sent away, and the new one is
-    /// next.
-    fn enter<R: Wait>(&self, rt: &R, stream: UnixStream) {
+    /// Notes that a connection ended, or said what is no offer.
+    pub(crate) fn leave<R: Wait>(&self, rt: &R, number: u64) {
+        let left = self.state.lock(rt).guests.leave(number);
+        drop(left);
+        self.changes.notify_all();
+    }
+
+    /// Notes that a connection offered by `frame`. If the served connection has no takeover under way, it is sent away.
+    pub(crate) fn offer<R: Wait>(&self, rt: &R, number: u64, frame: Frame) {
         let mut state = self.state.lock(rt);
-        state.waiting = Some(stream);
+        state.guests.offer(number, frame);
         state.send_away();
         drop(state);
         self.changes.notify_all();
     }
 
-    /// Returns the next connection, which is served from then on; none where the lobby is over.
-    pub(crate) fn next<R: Wait>(&self, rt: &R) -> Option<UnixStream> {
+    /// Returns the connection that offered first, which is served from then on; none where the lobby is over.
+    pub(crate) fn next<R: Wait>(&self, rt: &R) -> Option<Offer> {
         for _ in rt.forever() {
             let seen = self.changes.notifications();
             let mut state = self.state.lock(rt);
             if state.is_over {
                 return None;
             }
-            if let Some(stream) = state.take() {
+            if let Some(offer) = state.take() {
                 drop(state);
                 self.changes.notify_all();
-                return Some(stream);
+                return Some(offer);
             }
             drop(state);
-            self.sleep(rt, seen);
+            self.changes
+                .sleep(rt, seen, Duration::from_millis(LONGEST_SLEEP));
         }
         unreachable!()
     }
@@ -125,19 +207,12 @@ impl Lobby {
     /// Notes that the served connection has a takeover under way, unless that connection was sent away. Returns whether
     /// it may stay.
     pub(crate) fn stay<R: Wait>(&self, rt: &R) -> bool {
-        let mut state = self.state.lock(rt);
-        if state.is_sent_away {
-            return false;
-        }
-        state.is_engaged = true;
-        true
+        self.state.lock(rt).stay()
     }
 
-    /// Notes that the served connection has no takeover under way, and sends it away if another one waits.
+    /// Notes that the served connection has no takeover under way, and sends it away if another one offered.
     pub(crate) fn make_way<R: Wait>(&self, rt: &R) {
-        let mut state = self.state.lock(rt);
-        state.is_engaged = false;
-        state.send_away();
+        self.state.lock(rt).make_way();
     }
 
     /// Notes that the connection that was served is served no more.
@@ -152,25 +227,16 @@ impl Lobby {
     pub(crate) fn end<R: Wait>(&self, rt: &R) {
         let mut state = self.state.lock(rt);
         state.is_over = true;
-        let waiting = state.waiting.take();
+        state.guests.end_all();
         if let Some(current) = &state.current {
             let _ended = current.shutdown(Shutdown::Both);
         }
         drop(state);
-        drop(waiting);
         self.changes.notify_all();
     }
 
-    /// Lets in whoever connects, until the lobby is over.
-    pub(crate) fn receive<R: Wait + Clock>(&self, rt: &R, listener: &UnixListener) {
-        for stream in listener.incoming() {
-            if !self.has_room(rt) {
-                return;
-            }
-            match stream {
-                Ok(stream) => self.enter(rt, stream),
-                Err(_failed) => thread::sleep(rt, Duration::from_millis(PAUSE)),
-            }
-        }
+    /// Returns whether no connection is let in any more.
+    pub(crate) fn is_over<R: Wait>(&self, rt: &R) -> bool {
+        self.state.lock(rt).is_over
     }
 }

@@ -10,6 +10,7 @@ use crate::fault::DaemonFault;
 use crate::handover::hand_over_all;
 use crate::lobby::Lobby;
 use crate::orders::Orders;
+use crate::reception::receive_all;
 use crate::serving::serve;
 use crate::shared::Shared;
 use daemon_desk::DaemonDesk;
@@ -150,7 +151,7 @@ fn run<R: Threads + Wait + Clock + Sync, W: Write + Drop>(
             return Service { out, ending };
         }
     };
-    let lobby = Lobby::new();
+    let lobby = Lobby::new(alloc);
     let (patience, until_closed) = (orders.patience, orders.until_closed);
     let (lobby, listener, closer) = (&lobby, &listener, &closer);
     let workers = workers.as_slice();
@@ -179,7 +180,7 @@ fn run<R: Threads + Wait + Clock + Sync, W: Write + Drop>(
     )
 }
 
-/// Serves the mount in this thread, and takeovers in two more: one accepts connections, one serves them.
+/// Serves the mount in this thread, and takeovers in two more: one accepts connections, one serves those that offer.
 fn run_within<'s, 'e: 's, R: Threads + Wait + Clock + Sync + 's, W: Write + Drop>(
     scope: &Scope<'s, &'e ()>,
     rt: &'e R,
@@ -198,7 +199,7 @@ fn run_within<'s, 'e: 's, R: Threads + Wait + Clock + Sync + 's, W: Write + Drop
     ensures heeds { IsHeeded until_closed result.ending }
 {
     let mut out = out;
-    let receiving = scope.spawn(move || lobby.receive(rt, listener));
+    let receiving = scope.spawn(move || receive_all(rt, alloc, lobby, listener, patience));
     let handing = scope.spawn(move || hand_over_all(rt, alloc, shared, lobby, broker, patience));
     let are_made = receiving.is_ok() && handing.is_ok();
     let ending = serve_if(rt, alloc, shared, workers, are_made, until_closed, &mut out);

@@ -11,6 +11,7 @@ use crate::fault::DaemonFault;
 use crate::hears_end::HearsEnd;
 use crate::rounds::{exit_of, serve_one};
 use crate::shared::{Next, Shared};
+use crate::silence::Silences;
 use daemon::Lease;
 use std::alloc::Global;
 use std::io::{self, Write};
@@ -79,7 +80,7 @@ pub(crate) fn serve<R: Threads + Wait + Clock + Sync, W: Write>(
 fn serve_lease<'a, R: Threads + Wait + Clock + Sync, W: Write>(
     rt: &'a R,
     alloc: Global,
-    shared: &Shared,
+    shared: &'a Shared,
     workers: &[UnixStream],
     crew: &mut Crew<Worker<'a, R>>,
     lease: Lease,
@@ -91,7 +92,8 @@ fn serve_lease<'a, R: Threads + Wait + Clock + Sync, W: Write>(
         (crew.new.generation, crew.new.stops) (W.contents out.old) (W.contents out.new) result }
 {
     let generation = lease.generation;
-    let Ok(is_new) = man(rt, alloc, workers, crew, generation, stop, stops) else {
+    let silences = shared.silences();
+    let Ok(is_new) = man(rt, alloc, silences, workers, crew, generation, stop, stops) else {
         shared.take_back(rt, lease);
         thread::sleep(rt, Duration::from_millis(PAUSE));
         return None;
@@ -131,9 +133,10 @@ fn serve_crew<C: Channel + HearsEnd + Drop + Send, R: Threads + Wait + Sync>(
 
 /// Makes channels at `generation` if the present ones are of another generation, else makes the present ones heed
 /// `stop`. Returns whether the daemon begins to serve: at another generation, or again after a round was asked to stop.
-fn man<'a, R: Clock>(
+fn man<'a, R: Wait + Clock>(
     rt: &'a R,
     alloc: Global,
+    silences: &'a Silences,
     workers: &[UnixStream],
     crew: &mut Crew<Worker<'a, R>>,
     generation: u64,
@@ -155,7 +158,7 @@ fn man<'a, R: Clock>(
         crew.stops = stops;
         return Ok(is_new);
     }
-    crew.channels = channels(rt, alloc, workers, generation, stop)?;
+    crew.channels = channels(rt, alloc, silences, workers, generation, stop)?;
     crew.generation = generation;
     crew.stops = stops;
     Ok(true)

@@ -10,10 +10,12 @@ ghost use Rattle.daemon_process.specs.declared.shared.Next.TheVariants.{Close};
 
 use crate::exit::{Ending, Exit};
 use crate::fault::DaemonFault;
+use crate::silence::Silences;
 use daemon::Lease;
 use daemon_desk::{Claiming, DaemonDesk, Hearing, Mounting};
 use eden_base::NoMemory;
 use links::Frame;
+use non_blocking::Notes;
 use std::alloc::Global;
 use std::mem;
 use std::net::Shutdown;
@@ -62,6 +64,7 @@ pub(crate) enum Next {
 pub(crate) struct Shared {
     state: Mutex<State>,
     changes: Condvar,
+    silences: Silences,
 }
 
 impl State {
@@ -175,7 +178,13 @@ impl Shared {
                 waits_at: None,
             }),
             changes: Condvar::new(),
+            silences: Silences::new(Notes::none()),
         }
+    }
+
+    /// Returns where it is noted that the broker is silent.
+    pub(crate) fn silences(&self) -> &Silences {
+        &self.silences
     }
 
     /// Returns how many changes were signalled.

@@ -62,17 +62,17 @@ fn get_data<R: Wait + Clock>(
     patience: Duration,
 ) -> Result<(), Exit> {
     shared.wait_at(rt, old.handle().ok())?;
-    let mut deadline = Deadline::after(rt, patience);
+    old.end_by(Deadline::after(rt, patience));
     if old.write(&shared.offer(rt)).is_err() {
         return Err(FAILED);
     }
     for _ in rt.forever() {
-        let Ok(Some(frame)) = old.read(deadline) else {
+        let Ok(Some(frame)) = old.read_next() else {
             return Err(FAILED);
         };
         match hear(rt, shared, old, &frame)? {
             Step::Holds => return Ok(()),
-            Step::Ponged => deadline = Deadline::after(rt, patience.saturating_mul(LONGER)),
+            Step::Ponged => old.end_by(Deadline::after(rt, patience.saturating_mul(LONGER))),
             Step::Waits => {}
         }
     }

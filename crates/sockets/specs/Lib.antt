@@ -1,1 +1,4 @@
+pub mod Allowance
+pub mod Folders
 pub mod Passage
+pub mod Waits

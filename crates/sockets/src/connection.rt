@@ -1,10 +1,10 @@
 //! A connection that carries frames.
-use crate::Deadline;
 use crate::timed::Timed;
+use crate::{Deadline, Writer};
 use links::{Frame, FrameFault, read_frame, write_frame};
 use std::alloc::Global;
 use std::io::{self, BufReader};
-use std::net::{Net, Shutdown};
+use std::net::Net;
 use std::os::unix::net::UnixStream;
 use std::rt::Clock;
 use std::time::Duration;
@@ -17,7 +17,7 @@ const AHEAD: usize = 65_536;
 pub struct Connection<'a, R> {
     alloc: Global,
     reader: BufReader<Timed<'a, R>>,
-    writer: UnixStream,
+    writer: Writer<'a, R>,
 }
 
 /// Connects to the socket at a path.
@@ -33,8 +33,7 @@ impl<'a, R: Clock> Connection<'a, R> {
         stream: UnixStream,
         patience: Option<Duration>,
     ) -> io::Result<Connection<'a, R>> {
-        let writer = stream.try_clone()?;
-        writer.set_write_timeout(patience)?;
+        let writer = Writer::over(clock, stream.try_clone()?, patience)?;
         let reader = BufReader::with_capacity(alloc, AHEAD, Timed::over(clock, stream))?;
         Ok(Connection {
             alloc,
@@ -46,8 +45,28 @@ impl<'a, R: Clock> Connection<'a, R> {
     /// Reads the next frame, every byte of which has to come by `deadline`. Returns none if the other end closed the
     /// connection before the frame. After a fault the caller has to close the connection.
     pub fn read(&mut self, deadline: Deadline) -> Result<Option<Frame>, FrameFault> {
+        self.end_by(deadline);
+        self.read_next()
+    }
+
+    /// Lets all frames that `read_next` reads from this call on come by `deadline`.
+    pub fn end_by(&mut self, deadline: Deadline) {
         self.reader.get_mut().end_by(deadline);
+    }
+
+    /// Lets the frames that `read_next` reads from this call on begin by `deadline`, each with five seconds for its rest.
+    pub fn begin_by(&mut self, deadline: Deadline) {
+        self.reader.get_mut().begin_by(deadline);
+    }
+
+    /// Reads the next frame as `read` does, by the deadline that was set.
+    pub fn read_next(&mut self) -> Result<Option<Frame>, FrameFault> {
         read_frame(self.alloc, &mut self.reader)
+    }
+
+    /// Returns whether the last read gave up at its deadline before a frame began. It may be made again then.
+    pub fn is_silent(&self) -> bool {
+        self.reader.get_ref().is_silent()
     }
 
     /// Writes `frame`. After a fault the caller has to close the connection.
@@ -71,24 +90,18 @@ impl<'a, R: Clock> Connection<'a, R> {
         self.alloc
     }
 
-    /// Returns the handle to which frames are written.
-    pub fn writer(&mut self) -> &mut UnixStream {
+    /// Returns the end to which frames are written.
+    pub fn writer(&mut self) -> &mut Writer<'a, R> {
         &mut self.writer
     }
 
     /// Returns another handle of the connection's socket.
     pub fn handle(&self) -> io::Result<UnixStream> {
-        self.writer.try_clone()
+        self.writer.handle()
     }
 
     /// Shuts the connection down for both ends.
     pub fn end(&self) {
-        let _ended = self.writer.shutdown(Shutdown::Both);
-    }
-
-    /// Returns the reader, which keeps what it read ahead, and the handle to which frames are written. A channel is
-    /// made of both.
-    pub fn into_ends(self) -> (BufReader<Timed<'a, R>>, UnixStream) {
-        (self.reader, self.writer)
+        self.writer.end();
     }
 }

@@ -1,15 +1,23 @@
 //! A socket that listens.
+ghost use Rattle.std.specs.Prelude.{◌≡◌};
+ghost use Rattle.std.specs.Time.{system_time_nanos};
+ghost use Rattle.sockets.specs.Folders.{is_old};
+
 use std::alloc::Global;
 use std::fs::{self, DirBuilder, Permissions};
 use std::io::{self, ErrorKind};
 use std::net::Net;
 use std::os::unix::fs::{DirBuilderExt, FileTypeExt, PermissionsExt};
 use std::os::unix::net::{UnixListener, UnixStream};
-use std::rt::Files;
-use std::time::SystemTime;
+use std::rt::{Clock, Files};
+use std::time::{Duration, SystemTime};
 
 /// How many folders of other processes may stand beside a socket.
 const MOST_FOLDERS: usize = 64;
+
+/// How old an empty folder is at least that a process left which is gone, in seconds. Who makes a folder listens there at
+/// once.
+const OLD: u64 = 60;
 
 /// A socket that listens in a folder of its own, where nobody finds it yet.
 #[derive(Drop)]
@@ -21,12 +29,16 @@ pub struct Hidden {
 
 /// Listens at `path`, for this user alone. A socket at `path` is replaced, and there is one at every moment. Any other
 /// file at `path` is left alone, and is an error.
-pub fn listen_at<R: Files + Net>(rt: &R, alloc: Global, path: &str) -> io::Result<UnixListener> {
+pub fn listen_at<R: Files + Net + Clock>(
+    rt: &R,
+    alloc: Global,
+    path: &str,
+) -> io::Result<UnixListener> {
     Hidden::beside(rt, alloc, path)?.show(rt, path)
 }
 
 /// Listens at `path` as `listen_at` does, unless another process listens there: that is an error.
-pub fn listen_alone_at<R: Files + Net>(
+pub fn listen_alone_at<R: Files + Net + Clock>(
     rt: &R,
     alloc: Global,
     path: &str,
@@ -73,7 +85,7 @@ fn make_folder<R: Files>(rt: &R, alloc: Global, path: &str) -> io::Result<String
 }
 
 /// Removes the folders beside `path` that processes left which are gone.
-fn clear_folders<R: Files + Net>(rt: &R, alloc: Global, path: &str) -> io::Result<()> {
+fn clear_folders<R: Files + Net + Clock>(rt: &R, alloc: Global, path: &str) -> io::Result<()> {
     for number in 1..=MOST_FOLDERS {
         let folder = format!(in alloc; "{path}.{number}")?;
         clear_left(rt, alloc, folder.as_str())?;
@@ -81,17 +93,38 @@ fn clear_folders<R: Files + Net>(rt: &R, alloc: Global, path: &str) -> io::Resul
     Ok(())
 }
 
-/// Removes `folder` if a process left it that is gone: nobody listens any more at the socket in it.
-fn clear_left<R: Files + Net>(rt: &R, alloc: Global, folder: &str) -> io::Result<()> {
+/// Removes `folder` if a process left it that is gone: nobody listens any more at the socket in it, or no socket is in it
+/// though it is old.
+fn clear_left<R: Files + Net + Clock>(rt: &R, alloc: Global, folder: &str) -> io::Result<()> {
     let name = format!(in alloc; "{folder}/s")?;
     match UnixStream::connect(rt, name.as_str()) {
         Err(error) if error.kind() == ErrorKind::ConnectionRefused => {
             let _removed = fs::remove_file(rt, name.as_str());
             let _removed = fs::remove_dir(rt, folder);
         }
+        Err(error) if error.kind() == ErrorKind::NotFound => clear_empty(rt, folder),
         _ => {}
     }
     Ok(())
+}
+
+/// Removes `folder` if it is old and empty.
+fn clear_empty<R: Files + Clock>(rt: &R, folder: &str) {
+    if let (Some(changed), Ok(now)) = (changed_at(rt, folder), SystemTime::now(rt)) {
+        if is_old(changed, now) {
+            let _removed = fs::remove_dir(rt, folder);
+        }
+    }
+}
+
+/// Returns whether a folder is old at `now` that was changed last at `changed`.
+fn is_old(changed: SystemTime, now: SystemTime) -> bool
+    ensures old { result ≡ is_old (system_time_nanos changed) (system_time_nanos now) }
+{
+    match now.duration_since(changed) {
+        Ok(age) => age.as_nanos() > Duration::from_secs(OLD).as_nanos(),
+        Err(_later) => false,
+    }
 }
 
 /// Listens at `name`, for this user alone.
@@ -103,7 +136,7 @@ fn bind_private<R: Files + Net>(rt: &R, name: &str) -> io::Result<UnixListener> 
 
 impl Hidden {
     /// Listens in a new folder beside `path`. So a failure to listen comes before anyone can find the socket.
-    pub fn beside<R: Files + Net>(rt: &R, alloc: Global, path: &str) -> io::Result<Hidden> {
+    pub fn beside<R: Files + Net + Clock>(rt: &R, alloc: Global, path: &str) -> io::Result<Hidden> {
         check_place(rt, path)?;
         clear_folders(rt, alloc, path)?;
         let folder = make_folder(rt, alloc, path)?;

@@ -1,8 +1,9 @@
 //! The reading end of a socket.
-ghost use Rattle.std.specs.Prelude.{◌≡◌, ◌≢◌, true};
+ghost use Rattle.std.specs.Prelude.{◌≡◌};
 ghost use Rattle.sockets.specs.Passage.{is_between};
-ghost use Rattle.sockets.specs.declared.deadline.Deadline.TheVariants.{Never};
+ghost use Rattle.sockets.specs.Waits.{term_of};
 
+use crate::allowance::slice_of;
 use crate::passage::Passage;
 use crate::{Deadline, Left};
 use std::io::{self, ErrorKind, Read};
@@ -13,18 +14,52 @@ use std::time::Duration;
 /// How long the rest of a frame may take once the frame began to come, in milliseconds.
 const REST: u64 = 5000;
 
-/// The reading end of a socket, which gives up at a deadline: a read that would end later fails with `WouldBlock`.
-/// Without a deadline a frame may begin at any time. The rest of the frame then has to come within five seconds.
+/// The reading end of a socket, which gives up at a deadline: a read that would end later fails with `WouldBlock`. It
+/// waits in slices, so that a deadline counts only time in which this process ran. The deadline is that of whole frames,
+/// or else one by which a frame has to begin. The rest of such a frame has to come within five seconds.
 #[derive(Drop)]
 pub struct Timed<'a, R> {
     clock: &'a R,
     stream: UnixStream,
-    deadline: Deadline,
-    passage: Passage,
-    /// The deadline for the rest of a frame that has begun to come. The first read of that rest sets it.
+    /// By when whole frames have to come.
+    whole: Deadline,
+    /// By when a frame has to begin, where whole frames have no deadline.
+    begin: Deadline,
+    /// By when the rest of a frame has to come that began. The first read of that rest sets it.
     rest: Option<Deadline>,
-    /// Whether the socket may have a timeout.
-    is_timed: bool,
+    passage: Passage,
+    timeout: Timeout,
+    /// Whether the last read gave up at its deadline.
+    is_late: bool,
+}
+
+/// Which deadline a byte has.
+#[derive(Clone, Copy)]
+pub(crate) enum Term {
+    /// That of whole frames.
+    Whole,
+    /// The one by which a frame has to begin.
+    Begin,
+    /// That of the rest of a frame.
+    Rest,
+}
+
+/// How long the system lets a read wait.
+#[derive(Clone, Copy)]
+enum Timeout {
+    Unknown,
+    Endless,
+    Slice(Duration),
+}
+
+impl Timeout {
+    /// Returns whether a read ends after `slice`.
+    fn is_slice(self, slice: Duration) -> bool {
+        match self {
+            Timeout::Slice(set) => set.as_nanos() == slice.as_nanos(),
+            Timeout::Unknown | Timeout::Endless => false,
+        }
+    }
 }
 
 impl<'a, R: Clock> Timed<'a, R> {
@@ -33,66 +68,113 @@ impl<'a, R: Clock> Timed<'a, R> {
         Timed {
             clock,
             stream,
-            deadline: Deadline::Never,
-            passage: Passage::new(),
+            whole: Deadline::Never,
+            begin: Deadline::Never,
             rest: None,
-            is_timed: true,
+            passage: Passage::new(),
+            timeout: Timeout::Unknown,
+            is_late: false,
         }
     }
 
     /// Lets all reads from this call on end by `deadline`.
     pub fn end_by(&mut self, deadline: Deadline) {
-        self.deadline = deadline;
+        self.whole = deadline;
+        self.begin = Deadline::Never;
     }
 
-    /// Returns the deadline of the next byte: the one that was set, or else that of the frame that began to come.
-    fn by(&mut self) -> Deadline
-        ensures given { self.old.deadline ≢ Never → result ≡ self.old.deadline }
-        ensures between { is_between self.old.passage ≡ true → result ≡ self.old.deadline }
+    /// Lets the next frames begin by `deadline`, each with five seconds for its rest.
+    pub fn begin_by(&mut self, deadline: Deadline) {
+        self.whole = Deadline::Never;
+        self.begin = deadline;
+    }
+
+    /// Returns whether the last read gave up at its deadline before a frame began. It may be made again then.
+    pub fn is_silent(&self) -> bool {
+        self.is_late && self.passage.is_between()
+    }
+
+    /// Returns which deadline the next byte has.
+    fn term(&self) -> Term
+        ensures term { result ≡ term_of self.now.whole (is_between self.now.passage) }
     {
-        match self.deadline {
-            Deadline::Never if !self.passage.is_between() => self.rest(),
-            deadline => deadline,
+        match self.whole {
+            Deadline::Never if self.passage.is_between() => Term::Begin,
+            Deadline::Never => Term::Rest,
+            Deadline::Within(_) | Deadline::Passed => Term::Whole,
+        }
+    }
+
+    /// Looks at the clock, and returns how much longer the next byte may take.
+    fn left(&mut self) -> Left {
+        match self.term() {
+            Term::Whole => self.whole.left(self.clock),
+            Term::Begin => self.begin.left(self.clock),
+            Term::Rest => {
+                let mut rest = self.rest();
+                let left = rest.left(self.clock);
+                self.rest = Some(rest);
+                left
+            }
         }
     }
 
     /// Returns the deadline for the rest of the frame that began to come.
-    fn rest(&mut self) -> Deadline {
-        if let Some(rest) = self.rest {
-            return rest;
+    fn rest(&self) -> Deadline {
+        match self.rest {
+            Some(rest) => rest,
+            None => Deadline::after(self.clock, Duration::from_millis(REST)),
         }
-        let rest = Deadline::after(self.clock, Duration::from_millis(REST));
-        self.rest = Some(rest);
-        rest
     }
 
-    /// Gives the socket a timeout, by which its next read ends at the deadline.
+    /// Lets the system end the next read after a slice of what is left of its time.
     fn set_timeout(&mut self) -> io::Result<()> {
-        match self.by().left(self.clock) {
+        match self.left() {
             Left::Forever => {
-                if self.is_timed {
+                if !matches!(self.timeout, Timeout::Endless) {
                     self.stream.set_read_timeout(None)?;
-                    self.is_timed = false;
+                    self.timeout = Timeout::Endless;
                 }
                 Ok(())
             }
-            Left::For(left) => {
-                self.stream.set_read_timeout(Some(left))?;
-                self.is_timed = true;
-                Ok(())
+            Left::For(left) => self.set_slice(slice_of(left)),
+            Left::Nothing => {
+                self.is_late = true;
+                Err(io::Error::from(ErrorKind::WouldBlock))
             }
-            Left::Nothing => Err(io::Error::from(ErrorKind::WouldBlock)),
         }
+    }
+
+    /// Takes in the bytes that a read gave, if it gave some, and returns its result.
+    fn note(&mut self, read: io::Result<usize>, bytes: &[u8]) -> io::Result<usize> {
+        let count = read?;
+        if self.passage.pass_all(&bytes[..count]) {
+            self.rest = None;
+        }
+        Ok(count)
+    }
+
+    /// Lets the system end each read after `slice`.
+    fn set_slice(&mut self, slice: Duration) -> io::Result<()> {
+        if self.timeout.is_slice(slice) {
+            return Ok(());
+        }
+        self.stream.set_read_timeout(Some(slice))?;
+        self.timeout = Timeout::Slice(slice);
+        Ok(())
     }
 }
 
 impl<R: Clock> Read for Timed<'_, R> {
     fn read(&mut self, bytes: &mut [u8]) -> io::Result<usize> {
-        self.set_timeout()?;
-        let count = self.stream.read(bytes)?;
-        if self.passage.pass_all(&bytes[..count]) {
-            self.rest = None;
+        self.is_late = false;
+        for _slice in 0..u64::MAX {
+            self.set_timeout()?;
+            match self.stream.read(bytes) {
+                Err(error) if error.kind() == ErrorKind::WouldBlock => {}
+                read => return self.note(read, bytes),
+            }
         }
-        Ok(count)
+        Err(io::Error::from(ErrorKind::WouldBlock))
     }
 }

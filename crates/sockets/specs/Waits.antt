@@ -1,0 +1,13 @@
+-- By which deadline a byte of a stream of frames has to come. (This project's own.)
+use Rattle.std.specs.Prelude.{Bool, true, false}
+use Rattle.sockets.specs.declared.deadline.Deadline.{Deadline}
+use Rattle.sockets.specs.declared.deadline.Deadline.TheVariants.{Never}
+use Rattle.sockets.specs.declared.timed.Term.{Term}
+use Rattle.sockets.specs.declared.timed.Term.TheVariants.{Whole, Begin, Rest}
+
+-- the deadline of the next byte, by that of whole frames, and by whether the byte begins a frame: that of whole frames
+-- where there is one, else the one by which a frame begins, or that of the rest of a frame
+abbrev pub term_of : Deadline → Bool → Term
+term_of Never true = Begin
+term_of Never false = Rest
+term_of whole is_between = Whole
