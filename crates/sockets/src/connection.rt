@@ -3,7 +3,7 @@ use crate::Deadline;
 use crate::timed::Timed;
 use links::{Frame, FrameFault, read_frame, write_frame};
 use std::alloc::Global;
-use std::io::{self, BufReader};
+use std::io::{self, BufRead, BufReader};
 use std::net::{Net, Shutdown};
 use std::os::unix::net::UnixStream;
 use std::rt::Clock;
@@ -48,6 +48,13 @@ impl<'a, R: Clock> Connection<'a, R> {
     pub fn read(&mut self, deadline: Deadline) -> Result<Option<Frame>, FrameFault> {
         self.reader.get_mut().end_by(deadline);
         read_frame(self.alloc, &mut self.reader)
+    }
+
+    /// Waits until something comes, or the other end closes the connection. Returns whether that was so by `deadline`. What
+    /// came is kept for the next read.
+    pub fn hears(&mut self, deadline: Deadline) -> bool {
+        self.reader.get_mut().end_by(deadline);
+        self.reader.fill_buf().is_ok()
     }
 
     /// Writes `frame`. After a fault the caller has to close the connection.
