@@ -62,14 +62,14 @@ def a_reply_that_cannot_be_read_is_not_asked(room):
 
 @row
 def strangers_and_workers_are_few(room):
-    """At most 64 connections that didn't attach, and 16 of a daemon's workers; a silent stranger is closed."""
+    """At most 64 connections that didn't attach: the oldest goes for one more. At most 16 of a daemon's workers; a silent
+    stranger is closed."""
     broker = room.broker("seat 1")
     first = room.peer()
     daemon = first.attach()
     began = time.monotonic()
-    strangers = [room.peer() for _ in range(64)]
-    time.sleep(0.2)
-    same(room.peer().is_closed(), True)
+    strangers = [room.peer() for _ in range(65)]
+    same(strangers.pop(0).is_closed(), True)
     took_between(0, time.monotonic() - began, 1.5, "the stranger that was too many was closed")
     for it in strangers[:16]:
         same(it.ask("Attach", u64(daemon)), ("Attached", u64(daemon)))

@@ -109,3 +109,42 @@ def a_mount_listens_where_its_words_say(room):
         same([os.path.getsize(f"{inner.path}/{file}") for file in held], [0] * len(held))
         same((it.is_running(), it.lines), (True, []))
         inner.clear()
+
+
+# The commands by which a broker mounts, but for `mount`.
+COMMANDS = ("sh", "findmnt", "sed", "cat", "grep", "dirname", "basename", "umount", "stat")
+
+
+def commands_in(room, mount=None):
+    """Returns a PATH of the commands that a broker runs. `mount` is a script with this text, or isn't there."""
+    os.mkdir(f"{room.path}/bin")
+    for name in COMMANDS:
+        os.symlink(shutil.which(name), f"{room.path}/bin/{name}")
+    if mount:
+        room.write("bin/mount", mount)
+        os.chmod(f"{room.path}/bin/mount", 0o755)
+    return {**os.environ, "PATH": f"{room.path}/bin"}
+
+
+def serves_nothing(room, env, *errors):
+    """Shows that a daemon says of no mount that it serves it where none is made, and that the broker says why."""
+    broker = room.mount_broker(env=env)
+    room.await_socket(room.broker_at)
+    daemon = room.run("daemon", "--mount", "broker.sock", "t0", "m")
+    daemon.ends(["fault: broken"], 1)
+    broker.ends(["fault: cannot mount"], 1)
+    said = broker.said()
+    same([error in said for error in ("mnt", *errors)], [True] * (1 + len(errors)))
+    same((mounts_below(room.path), os.path.exists(room.broker_at)), ([], False))
+
+
+@row
+def a_command_that_is_not_there(room):
+    """Without a command that mounts, the broker says that it can't, and no daemon says that it serves."""
+    serves_nothing(room, commands_in(room), "o such file")
+
+
+@row
+def a_command_that_fails(room):
+    """Where the command that mounts fails, its cause is told, and no daemon says that it serves."""
+    serves_nothing(room, commands_in(room, b"#!/bin/sh\nsleep 1\necho 'mount: no more mounts' >&2\nexit 32\n"), "no more mounts")

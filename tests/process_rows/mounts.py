@@ -73,7 +73,7 @@ def can_mount():
 def tried():
     """Makes a mount on an empty folder, and returns the status of the command that mounts."""
     leave_others_alone()
-    options = "fd=0,rootmode=40000,user_id=0,group_id=0,allow_other"
+    options = "fd=0,rootmode=40000,user_id=0,group_id=0,allow_other,default_permissions"
     with tempfile.TemporaryDirectory(dir="/tmp") as point, open(DEVICE, "r+b", buffering=0) as device:
         words = ["mount", "-i", "-t", "fuse", "-o", options, "edend", point]
         status = subprocess.run(words, stdin=device, stderr=subprocess.DEVNULL, check=False).returncode
@@ -300,12 +300,12 @@ class Tap(Proxy):
 class Mount:
     """A checkout that is mounted, and the daemon that serves it."""
 
-    def __init__(self, room, *options):
+    def __init__(self, room, *options, owner=None):
         self.room = room
         self.options = options if "--patience" in options else ("--patience", PATIENCE, *options)
         self.path = room.mountpoint
         is_left = os.path.exists(room.broker_at)
-        self.broker = room.mount_broker("--held", "held")
+        self.broker = room.mount_broker("--held", "held", *(("--owner", owner) if owner else ()))
         room.await_socket(room.broker_at, is_left)
         self.number = 0
         self.generation = 1

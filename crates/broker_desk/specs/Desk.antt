@@ -1,6 +1,6 @@
 -- Who is attached to the broker, and how each frame of a daemon is answered, with a row for each kind of frame. Which
 -- calls of the broker give the answers, and by which rules daemons get their numbers, is this project's own.
-use Rattle.std.specs.Prelude.{◌≡◌, ℕ, ◌+◌, ◌-◌, Bool, true, false, ◌||◌, ◌⊎◌, ◌==◌, not, nat_le, List, [], ◌∷◌, ◌++◌, length, slice_get, slice_set, Option, Some, None, Result, Ok, Err, if◌then◌else◌}
+use Rattle.std.specs.Prelude.{◌≡◌, ℕ, ◌+◌, Bool, true, false, ◌||◌, ◌⊎◌, ◌==◌, not, nat_le, List, [], ◌∷◌, ◌++◌, length, position, remove, Option, Some, None, is_some, Result, Ok, Err, if◌then◌else◌}
 use Rattle.std.specs.Option.{option_map_or}
 use Rattle.std.specs.List.{AllByRecursion}
 use Rattle.eden_base.specs.declared.number.DaemonId.{DaemonId}
@@ -21,28 +21,37 @@ use Rattle.broker_core.specs.declared.fault.TakeFault.TheVariants as take
 use Rattle.broker_core.specs.declared.fault.PostFault.{PostFault}
 use Rattle.broker_core.specs.declared.fault.PostFault.TheVariants as post
 use Rattle.frames.specs.declared.frame.Frame.{Frame}
-use Rattle.frames.specs.declared.frame.Frame.TheVariants.{Take, Ask, Empty, Post, Posted, Ended, Stale, NotAsked, Claim, Claimed, Unanswered, LastGeneration, Mount, Mounted, Seated, Attach, Attached}
+use Rattle.frames.specs.declared.frame.Frame.TheVariants.{Take, Ask, Empty, Post, Posted, Ended, Stale, NotAsked, Claim, Claimed, Unanswered, LastGeneration, Mount, Mounted, Seated, Attach, Attached, Takeover}
+use Rattle.takeover_core.specs.declared.message.Message.TheVariants.{Busy}
 use Rattle.broker_desk.specs.declared.peer.Peer.{Peer}
 use Rattle.broker_desk.specs.declared.peer.Peer.TheVariants.{Stranger, Daemon, Worker}
 use Rattle.broker_desk.specs.declared.peer.Response.{Response}
 use Rattle.broker_desk.specs.declared.peer.Response.TheVariants.{Tells, Closes}
-use Rattle.broker_desk.specs.declared.peer.Standing.{Standing}
-use Rattle.broker_desk.specs.declared.peer.Standing.TheVariants.{Runs, Gone}
 
--- The kernel's side; whether each daemon that got a number still runs, number 1 first; and whether the desk is closed,
--- so that every daemon is told that the mount is over.
+-- The kernel's side; the daemons that got a number and still run, in the order in which they came; the number of the one
+-- that came last; how many may come; and whether the desk is closed, so that every daemon is told that the mount is over.
 pub record DeskState : Type 0 where
   pub broker : BrokerState
-  pub daemons : List Standing
+  pub daemons : List DaemonId
+  pub last : ℕ
+  pub most : ℕ
   pub is_closed : Bool
 
--- how many daemons get a number
+-- how many daemons run at once
 abbrev pub most_daemons : ℕ
 most_daemons = 1024
 
--- a desk at which nothing is mounted, and to which no daemon came
+-- a desk at which nothing is mounted, and to which no daemon came of the most that may
+abbrev pub desk_of : ℕ → DeskState
+desk_of most = record { broker = new_broker; daemons = []; last = 0; most = most; is_closed = false }
+
+-- a desk for a script: as many daemons come as may run at once
 abbrev pub new_desk : DeskState
-new_desk = record { broker = new_broker; daemons = []; is_closed = false }
+new_desk = desk_of most_daemons
+
+-- a desk for a mount: as many daemons come as there are numbers of 64 bits
+abbrev pub mount_desk : DeskState
+mount_desk = desk_of 18446744073709551615
 
 -- the frame that hands out an ask, or Empty if there is none
 abbrev pub frame_taken : Option FuseAsk → Frame
@@ -51,30 +60,37 @@ frame_taken None = Empty
 
 -- ---- daemons
 
--- a daemon of this standing still runs
-abbrev pub is_running : Standing → Bool
-is_running Runs = true
-is_running Gone = false
+-- this is the daemon with the number
+abbrev pub has_number : ℕ → DaemonId → Bool
+has_number number daemon = daemon.0 == number
 
--- the standing of the daemon with this number, if a daemon got the number
-abbrev pub standing_of : DeskState → ℕ → Option Standing
-standing_of desk number = if number == 0 then None else slice_get desk.daemons (number - 1)
+-- where the daemon stands among those that run, if it does
+abbrev pub place_of : DeskState → DaemonId → Option ℕ
+place_of desk daemon = position (has_number daemon.0) desk.daemons
 
 -- a daemon got this number, and still runs
 abbrev pub is_present : DeskState → DaemonId → Bool
-is_present desk daemon = option_map_or is_running (standing_of desk daemon.0) false
+is_present desk daemon = is_some (place_of desk daemon)
 
 -- the mount is over for this daemon: the desk is closed, or the daemon does not run
 abbrev pub is_over_for : DeskState → DaemonId → Bool
 is_over_for desk daemon = desk.is_closed || not (is_present desk daemon)
 
+-- the mount is over for each daemon that comes: the desk is closed, or as many came as may
+abbrev pub is_over : DeskState → Bool
+is_over desk = desk.is_closed || nat_le desk.most desk.last
+
+-- as many daemons run as may
+abbrev pub is_crowded : DeskState → Bool
+is_crowded desk = nat_le most_daemons (length desk.daemons)
+
 -- no further daemon gets a number
 abbrev pub is_full : DeskState → Bool
-is_full desk = desk.is_closed || nat_le most_daemons (length desk.daemons)
+is_full desk = is_over desk || is_crowded desk
 
 -- the number that the next daemon gets
 abbrev pub next_daemon : DeskState → DaemonId
-next_daemon desk = record { 0 = length desk.daemons + 1 }
+next_daemon desk = record { 0 = desk.last + 1 }
 
 -- ---- the results of frames
 
@@ -153,13 +169,15 @@ hears desk daemon frame =
     else if is_over_for desk daemon then tells desk Ended
     else serves desk daemon frame
 
--- the result of the Attach of a new daemon: the daemon gets the next number, or Ended if the desk is full
+-- the result of the Attach of a new daemon: the daemon gets the next number; or it is told Ended if the mount is over for
+-- it, and Busy if as many run as may
 abbrev pub enrolls : DeskState → Turn
 enrolls desk =
-    if is_full desk then tells desk Ended
+    if is_over desk then tells desk Ended
+    else if is_crowded desk then tells desk (Takeover Busy)
     else record {
       told = Some (Attached (next_daemon desk));
-      desk = record desk { daemons = desk.daemons ++ Runs ∷ [] };
+      desk = record desk { daemons = desk.daemons ++ next_daemon desk ∷ []; last = desk.last + 1 };
     }
 
 -- the result of a stranger's Attach; 0 is a new daemon's, any other number that of a daemon which got it before
@@ -231,14 +249,15 @@ Answers old peer frame response new =
 
 -- ---- the end of a connection
 
--- the standings, with Gone for the daemon of this number
-abbrev pub struck : List Standing → ℕ → List Standing
-struck daemons number = if number == 0 then daemons else slice_set daemons (number - 1) Gone
+-- the daemons without the one at this place, if there is one
+abbrev pub struck : List DaemonId → Option ℕ → List DaemonId
+struck daemons (Some place) = remove daemons place
+struck daemons None = daemons
 
 -- the desk after this daemon is gone; the mount is over if the daemon had the seat
 abbrev pub without : DeskState → DaemonId → DeskState
 without desk daemon =
-    record desk { broker = without_daemon desk.broker daemon; daemons = struck desk.daemons daemon.0 }
+    record desk { broker = without_daemon desk.broker daemon; daemons = struck desk.daemons (place_of desk daemon) }
 
 -- the desk after a connection ended; if it was the first one of a daemon, that daemon is gone
 abbrev pub left_by : DeskState → Peer → DeskState
@@ -248,9 +267,8 @@ left_by desk (Worker daemon) = desk
 
 -- the desk after the mount ended for all
 abbrev pub closed : DeskState → DeskState
-closed desk = record {
+closed desk = record desk {
   broker = option_map_or (λ seat. without_daemon desk.broker seat.daemon) desk.broker.seat desk.broker;
-  daemons = desk.daemons;
   is_closed = true;
 }
 

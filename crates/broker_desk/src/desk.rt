@@ -1,15 +1,15 @@
 //! The broker's desk, which answers frames.
-ghost use Rattle.std.specs.Prelude.{◌≡◌, ◌+◌, ◌<◌, ◌⊎◌, Some, None, false, length, count_by, IfOk, IfErr, OnOk, OnErr, if◌then◌else◌};
+ghost use Rattle.std.specs.Prelude.{◌≡◌, ◌<◌, ◌⊎◌, Some, None, false, length, IfOk, IfErr, OnOk, OnErr, if◌then◌else◌};
 ghost use Rattle.std.specs.Option.{IfSome};
 ghost use Rattle.frames.specs.declared.frame.Frame.TheVariants.{Take as ATake};
 ghost use Rattle.fuse_wire.specs.ReplyReading.{reply_of};
 ghost use Rattle.fuse_wire.specs.Request.{IsSendable};
 ghost use Rattle.broker_core.specs.Broker.{claim_fault, delivered, issued, issue_fault, mount_fault, take_fault, unique_of, IsDeliverRefusal, IsIssueRefusal};
 ghost use Rattle.broker_core.specs.Traffic.{front};
-ghost use Rattle.broker_desk.specs.Desk.{new_desk, closed, left_by, is_present, is_running, is_over_for, is_full, next_daemon, struck, peer_after, enrolls, meets, hears, takes, posts, claims, mounts, is_sent_by_daemons, Answers, Makes, TakesLater};
+ghost use Rattle.broker_desk.specs.Desk.{new_desk, mount_desk, desk_of, closed, left_by, is_present, is_over_for, is_full, next_daemon, place_of, struck, peer_after, enrolls, meets, hears, takes, posts, claims, mounts, is_sent_by_daemons, Answers, Makes, TakesLater};
 ghost use Rattle.broker_desk.specs.declared.peer.Peer.TheVariants.{Stranger, Daemon as ADaemon};
 
-use crate::peer::{Peer, Response, Standing};
+use crate::peer::{Peer, Response};
 use broker_core::{Broker, DeliverFault, IssueFault, MountFault, PostFault, TakeFault};
 use byte_codec::Bytes;
 use eden_base::{ClaimFault, DaemonId, NoMemory};
@@ -17,15 +17,21 @@ use frames::Frame;
 use fuse_wire::{Reply, Request, RequestRoom, read_reply, write_request_to};
 use std::alloc::Global;
 use std::marker::Model;
+use takeover_core::Message;
 
-/// How many daemons get a number. A daemon that is gone still counts.
+/// How many daemons run at once, and how many may come at all to the desk of a script.
 pub const MAX_DAEMONS: usize = 1024;
 
-/// The broker, the daemons that attached to it, and whether the desk is closed for all. Contracts see a `DeskState`.
+/// The broker, the daemons that attached to it and still run, and whether the desk is closed for all. Contracts see a
+/// `DeskState`.
 pub struct Desk {
     alloc: Global,
     broker: Broker,
-    daemons: Vec<Standing>,
+    daemons: Vec<DaemonId>,
+    /// The number of the daemon that came last, or 0.
+    last: u64,
+    /// How many daemons may come.
+    most: u64,
     is_closed: bool,
 }
 
@@ -35,6 +41,8 @@ impl Drop for Desk {
             alloc: _,
             broker: _,
             daemons: _,
+            last: _,
+            most: _,
             is_closed: _,
         } = self;
     }
@@ -52,6 +60,8 @@ impl Model for Desk {
     ghost view = { λ desk. record {
       broker = desk.broker;
       daemons = desk.daemons.items;
+      last = desk.last;
+      most = desk.most;
       is_closed = desk.is_closed;
     } };
 
@@ -61,9 +71,23 @@ impl Model for Desk {
 }
 
 impl Desk {
-    /// Makes a desk to which no daemon came yet, with room for all of them.
+    /// Makes a desk for a script, to which no daemon came yet, with room for all of them.
     pub fn new(alloc: Global) -> Result<Desk, NoMemory>
         ensures new { IfOk result (λ desk. desk ≡ new_desk) }
+    {
+        Desk::of(alloc, MAX_DAEMONS as u64)
+    }
+
+    /// Makes a desk for a mount, to which no daemon came yet: as many may come, one after another, as there are numbers.
+    pub fn for_mount(alloc: Global) -> Result<Desk, NoMemory>
+        ensures new { IfOk result (λ desk. desk ≡ mount_desk) }
+    {
+        Desk::of(alloc, u64::MAX)
+    }
+
+    /// Makes a desk to which at most `most` daemons come, with room for all that run at once.
+    fn of(alloc: Global, most: u64) -> Result<Desk, NoMemory>
+        ensures new { IfOk result (λ desk. desk ≡ desk_of most) }
     {
         let daemons = Vec::with_capacity(alloc, MAX_DAEMONS)?;
         let broker = Broker::new(alloc)?;
@@ -71,6 +95,8 @@ impl Desk {
             alloc,
             broker,
             daemons,
+            last: 0,
+            most,
             is_closed: false,
         })
     }
@@ -84,12 +110,9 @@ impl Desk {
 
     /// Returns how many daemons got a number and still run. Each has its first connection open.
     pub fn running(&self) -> usize
-        ensures count { result ≡ count_by is_running self.now.daemons }
+        ensures count { result ≡ length self.now.daemons }
     {
-        self.daemons
-            .iter()
-            .filter(|standing| **standing == Standing::Runs)
-            .count()
+        self.daemons.len()
     }
 
     /// Accepts a request of the kernel, as `Broker::issue` does. An `Other` must have an opcode that no other variant
@@ -167,17 +190,22 @@ impl Desk {
         Response::Tells(Frame::Attached(*daemon))
     }
 
-    /// Gives a new daemon its number, or answers Ended if the desk is closed or no number is left.
+    /// Gives a new daemon its number. Answers Ended if the desk is closed or no number is left, and Busy if as many daemons
+    /// run as may.
     fn enroll(&mut self, peer: &mut Peer) -> Response
         requires stranger { peer.old ≡ Stranger }
         ensures enrolls { Makes (enrolls self.old) result self.new }
         ensures peer { peer.new ≡ (if is_full self.old then Stranger else ADaemon (next_daemon self.old)) }
     {
-        if self.is_closed || self.daemons.len() >= MAX_DAEMONS {
+        if self.is_closed || self.last >= self.most {
             return Response::Tells(Frame::Ended);
         }
-        let daemon = DaemonId(self.daemons.len() as u64 + 1);
-        self.daemons.push_reserved(Standing::Runs);
+        if self.daemons.len() >= MAX_DAEMONS {
+            return Response::Tells(Frame::Takeover(Message::Busy));
+        }
+        self.last += 1;
+        let daemon = DaemonId(self.last);
+        self.daemons.push_reserved(daemon);
         *peer = Peer::Daemon(daemon);
         Response::Tells(Frame::Attached(daemon))
     }
@@ -193,10 +221,7 @@ impl Desk {
     fn is_present(&self, daemon: DaemonId) -> bool
         ensures { result ≡ is_present self.now daemon }
     {
-        match self.index_of(daemon) {
-            Some(index) => self.daemons[index] == Standing::Runs,
-            None => false,
-        }
+        self.place_of(daemon).is_some()
     }
 
     /// Answers a frame of an attached daemon.
@@ -289,23 +314,19 @@ impl Desk {
 
     /// Notes that `daemon` is gone.
     fn strike(&mut self, daemon: DaemonId)
-        ensures { self.new ≡ record self.old { daemons = struck self.old.daemons daemon.0 } }
+        ensures { self.new ≡ record self.old { daemons = struck self.old.daemons (place_of self.old daemon) } }
     {
-        if let Some(index) = self.index_of(daemon) {
-            self.daemons[index] = Standing::Gone;
+        if let Some(place) = self.place_of(daemon) {
+            self.daemons.remove(place);
         }
     }
 
-    /// Returns the index of `daemon`, if it got a number.
-    fn index_of(&self, daemon: DaemonId) -> Option<usize>
-        ensures index { IfSome result (λ index. daemon.0 ≡ index + 1) }
-        ensures below { IfSome result (λ index. index < length self.now.daemons) }
-        ensures none { result ≡ None → (daemon.0 ≡ 0) ⊎ (length self.now.daemons < daemon.0) }
+    /// Returns where `daemon` stands among those that run, if it does.
+    fn place_of(&self, daemon: DaemonId) -> Option<usize>
+        ensures place { result ≡ place_of self.now daemon }
+        ensures below { IfSome result (λ place. place < length self.now.daemons) }
     {
-        if daemon.0 == 0 || daemon.0 > self.daemons.len() as u64 {
-            return None;
-        }
-        Some(daemon.0 as usize - 1)
+        self.daemons.iter().position(|known| known.0 == daemon.0)
     }
 }
 

@@ -21,10 +21,3 @@ pub enum Response {
     /// The peer may not send such a frame: the connection is closed.
     Closes,
 }
-
-/// Whether a daemon that got a number still runs.
-#[derive(Clone, Copy, PartialEq, Eq)]
-pub(crate) enum Standing {
-    Runs,
-    Gone,
-}

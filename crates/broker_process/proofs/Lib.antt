@@ -1,3 +1,4 @@
 mod MountingLemmas
 mod PlayingLemmas
 mod ServingSteps
+mod WritingSteps

@@ -1,11 +1,13 @@
 -- What a read and a write of a kernel's device do (fs/fuse/dev.c of Linux: a read gives one message, and a write takes
 -- one reply).
-use Rattle.std.specs.Prelude.{◌≡◌, ℕ, ℤ, Bool, false, ◌||◌, pos, List, Option, Result, is_ok, if◌then◌else◌}
+use Rattle.std.specs.Prelude.{◌≡◌, ℕ, ℤ, Bool, false, ◌||◌, pos, List, Option, Result, Ok, Err, if◌then◌else◌}
 use Rattle.std.specs.Io.KnownBytes.{Consumes, Keeps, WriteAppends}
 use Rattle.std.specs.IoError.{raw_os_error}
 use Rattle.std.specs.Option.{option_map_or}
 use Rattle.std.specs.Ordering.{int_eq}
 use Rattle.std.specs.declared.io.Error.{Error as IoError}
+use Rattle.broker_process.specs.declared.device.Given.{Given}
+use Rattle.broker_process.specs.declared.device.Given.TheVariants as given
 use Rattle.broker_process.specs.declared.device.Taken.{Taken}
 use Rattle.broker_process.specs.declared.device.Taken.TheVariants.{Message, Again, Unmounted, Broken}
 
@@ -26,7 +28,17 @@ abbrev pub Takes : Option (List ℕ) → Option (List ℕ) → Taken → Type 0
 Takes old new (Message bytes) = Consumes old new bytes.now
 Takes old new taken = (error : IoError) × (taken ≡ taken_by error) × Keeps old new
 
--- a reply was written by one call, which succeeded or failed
-abbrev pub Gives : List ℕ → Bool → Option (List ℕ) → Option (List ℕ) → Type 0
-Gives text took old new =
-    (written : Result ℕ IoError) × (took ≡ is_ok written) × WriteAppends old new written text
+-- what became of a reply whose write failed: ENOENT (2) says that the kernel wants it no more, since its request was
+-- withdrawn or the mount is gone; by any other error the device refused it
+abbrev pub refused_by : IoError → Given
+refused_by error = if has_number error (pos 2) then given.Withdrawn else given.Refused error
+
+-- what became of a reply, by the result of its write
+abbrev pub given_by : Result ℕ IoError → Given
+given_by (Ok len) = given.Taken
+given_by (Err error) = refused_by error
+
+-- a reply was written by one call
+abbrev pub Gives : List ℕ → Given → Option (List ℕ) → Option (List ℕ) → Type 0
+Gives text given old new =
+    (written : Result ℕ IoError) × (given ≡ given_by written) × WriteAppends old new written text

@@ -1,7 +1,11 @@
--- What wakes the script of a broker. (This project's own.)
-use Rattle.std.specs.Prelude.{Bool, true, false}
+-- What wakes the script of a broker, and what a daemon is told that mounts. (This project's own.)
+use Rattle.std.specs.Prelude.{ℕ, ◌==◌, Bool, true, false, if◌then◌else◌}
 use Rattle.frames.specs.declared.frame.Frame.{Frame}
 use Rattle.frames.specs.declared.frame.Frame.TheVariants.{Ask, Posted, Claimed, Mounted}
+use Rattle.broker_process.specs.declared.hall.Agreed.{Agreed}
+use Rattle.broker_process.specs.declared.hall.Agreed.TheVariants.{Always, NotYet, To}
+use Rattle.broker_process.specs.declared.hall.Granted.{Granted}
+use Rattle.broker_process.specs.declared.hall.Granted.TheVariants.{Now, Later, Never}
 use Rattle.broker_process.specs.declared.hall.Waiting.{Waiting}
 use Rattle.broker_process.specs.declared.hall.Waiting.TheVariants.{Reply, Seat, Idle}
 
@@ -13,3 +17,10 @@ wakes Seat (Mounted generation) = true
 wakes Seat (Claimed generation) = true
 wakes Idle (Ask text) = true
 wakes waiting frame = false
+
+-- what a daemon is told that mounted at this generation, by what the kernel agreed to and by whether nobody has the seat:
+-- where the kernel did not agree to this mount, it may yet, unless the mount is over
+abbrev pub granted_by : Agreed → Bool → ℕ → Granted
+granted_by Always is_free generation = Now
+granted_by NotYet is_free generation = if is_free then Never else Later
+granted_by (To made) is_free generation = if made == generation then Now else if is_free then Never else Later

@@ -4,3 +4,4 @@ pub mod Mounting
 pub mod Playing
 pub mod Serving
 pub mod Visitors
+pub mod Writing

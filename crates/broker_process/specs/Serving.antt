@@ -7,13 +7,15 @@ use Rattle.mount_desk.specs.declared.hearing.Progress.TheVariants.{Done, Answers
 use Rattle.mount_desk.specs.declared.pair.Pair.{Pair}
 use Rattle.mount_wire.specs.Message.{Reads}
 use Rattle.mount_wire.specs.declared.message.Message.{Message}
-use Rattle.broker_process.specs.Device.{Gives, Takes}
+use Rattle.broker_process.specs.Device.{Takes}
+use Rattle.broker_process.specs.Writing.{Writes}
 use Rattle.broker_process.specs.declared.device.Taken.{Taken}
 use Rattle.broker_process.specs.declared.device.Taken.TheVariants as taken
 use Rattle.broker_process.specs.declared.fault.MountFault.{MountFault}
 use Rattle.broker_process.specs.declared.fault.MountFault.TheVariants.{Broken, NoMemory}
 use Rattle.broker_process.specs.declared.service.MountEnd.{MountEnd}
 use Rattle.broker_process.specs.declared.service.MountEnd.TheVariants.{Unmounted, Dead}
+use Rattle.broker_process.specs.declared.writing.Written.{Written}
 
 -- ---- one message
 
@@ -42,12 +44,12 @@ IsHeardToTheEnd message end = (turns : ℕ) × IsHeardIn turns message end
 -- what the program writes of its own at a message's end, and whether the mount goes on
 abbrev pub Tells : Progress → Bool → Option (List ℕ) → Option (List ℕ) → Type 0
 Tells Done goes_on old new = (goes_on ≡ true) × (new ≡ old)
-Tells (Answers text) goes_on old new = (goes_on ≡ true) × (took : Bool) × Gives text took old new
+Tells (Answers text) goes_on old new = (goes_on ≡ true) × (told : Written) × Writes text text told old new
 Tells NotMounted goes_on old new = (goes_on ≡ false) × (new ≡ old)
 Tells (Leaves message) goes_on old new = ⊥
 
 -- the bytes of one message were read as a message, which was heard to its end; an answer of the program's own was written
--- by one call
+-- until the kernel took it
 pub record Handles (bytes : List ℕ) (goes_on : Bool) (old new : Option (List ℕ)) : Type 0 where
   pub message : Message
   pub reads : Reads bytes message

@@ -1,10 +1,12 @@
 //! The kernel's end of a mount: `/dev/fuse`, and the commands that mount and unmount.
 ghost use Rattle.std.specs.Prelude.{◌≡◌};
-ghost use Rattle.broker_process.specs.Device.{Gives, Takes, taken_by};
+ghost use Rattle.broker_process.specs.Device.{Gives, Takes, given_by, refused_by, taken_by};
 
+use mount_wire::FileOwner;
 use std::alloc::Global;
 use std::fs::{self, File, OpenOptions};
 use std::io::{self, ErrorKind, Read, Write};
+use std::os::unix::fs::MetadataExt;
 use std::process::{Command, Processes, Stdio};
 use std::rt::Files;
 
@@ -14,9 +16,14 @@ pub const DEVICE: &str = "/dev/fuse";
 /// The length of the buffer into which requests are read, in bytes. The longest request is a batch of forgets.
 pub(crate) const BUFFER_LEN: usize = 128 * 1024;
 
-/// The options of the mount: the device is the command's standard input, and the root is a directory of root's that
-/// every user may look at. Neither set-uid files nor device files have an effect.
-const OPTIONS: &str = "fd=0,rootmode=40000,user_id=0,group_id=0,allow_other,nosuid,nodev";
+/// The options of the mount: the device is the command's standard input, and every user may come in. The kernel checks
+/// modes, and neither set-uid files nor device files have an effect. The root is a directory, whose mode and owner the
+/// kernel asks for before it lets anybody in.
+const OPTIONS: &str =
+    "fd=0,rootmode=40000,user_id=0,group_id=0,allow_other,default_permissions,nosuid,nodev";
+
+/// The folder of this process, which belongs to its user and its group (`proc(5)`).
+const OWN_FOLDER: &str = "/proc/self";
 
 /// The error number of a device whose mount is gone.
 const ENODEV: i32 = 19;
@@ -42,9 +49,29 @@ pub(crate) enum Taken<'b> {
     Broken(io::Error),
 }
 
+/// What became of a reply that was written to the device.
+#[derive(Clone, Copy)]
+pub(crate) enum Given {
+    /// The kernel took it.
+    Taken,
+    /// The kernel wants it no more: the request was withdrawn, or the mount is gone.
+    Withdrawn,
+    /// The device refused it, and the request may wait for another one.
+    Refused(io::Error),
+}
+
 /// Opens the device for reading and writing.
 pub(crate) fn open_device<R: Files<File = File>>(rt: &R) -> io::Result<File> {
     OpenOptions::new().read(true).write(true).open(rt, DEVICE)
+}
+
+/// Returns the user and the group of this process.
+pub(crate) fn own_user<R: Files>(rt: &R) -> io::Result<FileOwner> {
+    let folder = fs::metadata(rt, OWN_FOLDER)?;
+    Ok(FileOwner {
+        user: folder.uid(),
+        group: folder.gid(),
+    })
 }
 
 /// Mounts at `mountpoint` what `device` serves, by the name `source`. The command that mounts says on standard error why
@@ -132,9 +159,29 @@ fn taken_by<'b>(error: io::Error) -> Taken<'b>
     }
 }
 
-/// Writes a reply to the kernel by one call. Returns whether the kernel took it.
-pub(crate) fn give<D: Write>(device: &mut D, reply: &[u8]) -> bool
+/// Writes a reply to the kernel by one call, and returns what became of it.
+pub(crate) fn give<D: Write>(device: &mut D, reply: &[u8]) -> Given
     ensures gives { Gives reply.now result (D.contents device.old) (D.contents device.new) }
 {
-    device.write(reply).is_ok()
+    given_by(device.write(reply))
+}
+
+/// Returns what became of a reply, by the result of its write.
+fn given_by(written: io::Result<usize>) -> Given
+    ensures given { result ≡ given_by written }
+{
+    match written {
+        Ok(_len) => Given::Taken,
+        Err(error) => refused_by(error),
+    }
+}
+
+/// Returns what became of a reply whose write failed with `error`.
+fn refused_by(error: io::Error) -> Given
+    ensures given { result ≡ refused_by error }
+{
+    match error.raw_os_error() {
+        Some(ENOENT) => Given::Withdrawn,
+        _ => Given::Refused(error),
+    }
 }

@@ -38,7 +38,7 @@ pub fn run_broker<R: Threads + Wait + Clock + Files + Net + Sync, W: Write + Dro
     requires sendable { All IsSendableLine script.now }
     ensures runs { RunsBroker script.now result.ended (W.contents out) (W.contents result.out) }
 {
-    let hall = match Hall::new(alloc, None) {
+    let hall = match Hall::of_script(alloc) {
         Ok(hall) => hall,
         Err(NoMemory) => return fails(out, BrokerFault::NoMemory),
     };

@@ -3,7 +3,7 @@ ghost use Rattle.std.specs.Prelude.{◌≡◌, ◌↔◌, ◌&&◌, false, is_no
 ghost use Rattle.std.specs.Option.{option_map_or};
 ghost use Rattle.broker_desk.specs.Desk.{told_by};
 ghost use Rattle.broker_core.specs.Broker.{BrokerState};
-ghost use Rattle.broker_process.specs.Hall.{wakes};
+ghost use Rattle.broker_process.specs.Hall.{granted_by, wakes};
 ghost use Rattle.broker_process.specs.Playing.{Began, HasCome};
 ghost use Rattle.broker_script.specs.Beginning.{Begins};
 ghost use Rattle.broker_script.specs.Printed.{PrintsBegun};
@@ -12,7 +12,7 @@ ghost use Rattle.script_lines.specs.BrokerLine.{IsSendableLine};
 
 mod mounted;
 
-use crate::visitors::Visitors;
+use crate::visitors::{Heard, Visitors};
 use broker_desk::{Desk, Peer, Response};
 use broker_script::{Awaited, Begun, BrokerLine, Came, begin, look, print_begun, print_held};
 use eden_base::NoMemory;
@@ -69,9 +69,32 @@ struct State {
     kernel: Kernel,
     /// Whether a kernel has a mount that stands.
     is_mounted: bool,
+    agreed: Agreed,
     /// Where it is noted at each takeover what the kernel holds, if it is.
     log: Option<BufWriter<File>>,
     is_over: bool,
+}
+
+/// Whether the kernel agreed to what the daemon of the seat mounts.
+#[derive(Clone, Copy, PartialEq, Eq)]
+pub(crate) enum Agreed {
+    /// A script plays the kernel, and agrees to every mount.
+    Always,
+    /// It did not yet.
+    NotYet,
+    /// It agreed to the mount for the seat at this generation.
+    To(u64),
+}
+
+/// What a daemon is told that mounts.
+#[derive(Clone, Copy, PartialEq, Eq)]
+pub(crate) enum Granted {
+    /// It serves the mount.
+    Now,
+    /// Nothing, until the kernel agrees.
+    Later,
+    /// Nothing any more: no mount was made.
+    Never,
 }
 
 /// One connection: its number, and who the desk knows at its other end.
@@ -99,7 +122,7 @@ pub(crate) struct Hall {
 impl State {
     /// Answers a frame of a connection, and returns whether the answer wakes the script.
     fn answer(&mut self, visit: &mut Visit, frame: &Frame) -> (Response, bool) {
-        if visit.is_strange() && !self.has_place(frame) {
+        if visit.is_strange() && !self.may_attach(visit.number, frame) {
             return (Response::Closes, false);
         }
         if !visit.is_strange() && self.has_dead_mount() && matches!(frame, Frame::Mount) {
@@ -135,11 +158,29 @@ impl State {
         self.is_mounted && self.desk.broker().seat().is_none()
     }
 
-    /// Returns whether the connection that a stranger's Attach asks for is within the limit.
-    fn has_place(&self, frame: &Frame) -> bool {
-        match frame {
+    /// Returns whether stranger `number` did not have to go, and the connection that its Attach asks for is within the
+    /// limit.
+    fn may_attach(&self, number: u64, frame: &Frame) -> bool {
+        let has_place = match frame {
             Frame::Attach(daemon) => daemon.0 == 0 || self.visitors.has_place(*daemon),
             _ => true,
+        };
+        has_place && self.visitors.knows(number)
+    }
+
+    /// Returns what the daemon is told that mounted at `generation`.
+    fn granted(&self, generation: u64) -> Granted
+        ensures granted { result ≡ granted_by self.now.agreed (is_none self.now.desk.broker.seat) generation }
+    {
+        match self.agreed {
+            Agreed::Always => Granted::Now,
+            Agreed::To(made) if made == generation => Granted::Now,
+            Agreed::To(_) | Agreed::NotYet => {
+                if self.desk.broker().seat().is_none() {
+                    return Granted::Never;
+                }
+                Granted::Later
+            }
         }
     }
 
@@ -212,9 +253,23 @@ fn finds_nothing(response: &Response) -> bool {
 }
 
 impl Hall {
-    /// Makes a hall without connections, which notes what the kernel holds in `log` if there is one.
-    pub(crate) fn new(alloc: Global, log: Option<BufWriter<File>>) -> Result<Hall, NoMemory> {
-        let desk = Desk::new(alloc)?;
+    /// Makes a hall without connections, in which a script plays the kernel.
+    pub(crate) fn of_script(alloc: Global) -> Result<Hall, NoMemory> {
+        Hall::of(alloc, Desk::new(alloc)?, Agreed::Always, None)
+    }
+
+    /// Makes a hall without connections for mounts of a kernel, which notes what that holds in `log` if there is one.
+    pub(crate) fn of_mount(alloc: Global, log: Option<BufWriter<File>>) -> Result<Hall, NoMemory> {
+        Hall::of(alloc, Desk::for_mount(alloc)?, Agreed::NotYet, log)
+    }
+
+    /// Makes a hall without connections over a `desk`.
+    fn of(
+        alloc: Global,
+        desk: Desk,
+        agreed: Agreed,
+        log: Option<BufWriter<File>>,
+    ) -> Result<Hall, NoMemory> {
         let kernel = Kernel::new(alloc)?;
         Ok(Hall {
             state: Mutex::new(State {
@@ -224,6 +279,7 @@ impl Hall {
                 waiting: Waiting::Nothing,
                 kernel,
                 is_mounted: false,
+                agreed,
                 log,
                 is_over: false,
             }),
@@ -245,6 +301,23 @@ impl Hall {
         })
     }
 
+    /// Waits until a connection may come, or none may any more.
+    pub(crate) fn wait_for_room<R: Wait + Clock>(&self, rt: &R) {
+        for _ in rt.forever() {
+            let state = self.state.lock(rt);
+            if state.is_over || state.visitors.has_room() {
+                return;
+            }
+            drop(state);
+            thread::sleep(rt, Duration::from_millis(PAUSE));
+        }
+    }
+
+    /// Notes what came by a connection that did not attach.
+    pub(crate) fn note_heard<R: Wait>(&self, rt: &R, visit: &Visit, heard: Heard) {
+        self.state.lock(rt).visitors.note(visit.number, heard);
+    }
+
     /// Notes that a connection ended.
     pub(crate) fn leave<R: Wait>(&self, rt: &R, visit: Visit) {
         let mut state = self.state.lock(rt);
@@ -255,7 +328,8 @@ impl Hall {
         self.events.notify_all();
     }
 
-    /// Answers a frame of a connection. A Take that finds the queue empty is held for a while.
+    /// Answers a frame of a connection. A Take that finds the queue empty is held for a while, and a daemon that mounts is
+    /// told so once the kernel agreed.
     pub(crate) fn answer<R: Wait + Clock>(
         &self,
         rt: &R,
@@ -263,6 +337,9 @@ impl Hall {
         frame: &Frame,
     ) -> Response {
         let response = self.hear(rt, visit, frame);
+        if let Response::Tells(Frame::Mounted { generation }) = response {
+            return self.answer_mount(rt, generation);
+        }
         if !finds_nothing(&response) {
             return response;
         }

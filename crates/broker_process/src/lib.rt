@@ -12,6 +12,7 @@ mod script;
 mod service;
 mod unmounter;
 mod visitors;
+mod writing;
 
 pub use device::DEVICE;
 pub use ending::{BrokerRun, run_broker};

@@ -4,14 +4,14 @@ ghost use Rattle.std.specs.Io.KnownBytes.{Appends};
 ghost use Rattle.broker_process.specs.Mounting.{PrintsMount, RunsMount, mounted_line};
 
 use crate::control::Control;
-use crate::device::{check_place, clear_dead_mount, mount, open_device};
+use crate::device::{check_place, clear_dead_mount, mount, open_device, own_user};
 use crate::fault::MountFault;
 use crate::hall::Hall;
 use crate::reception::receive_all;
 use crate::service::{MountEnd, Mounted, serve};
 use crate::unmounter::{MountPoint, Unmounter};
 use eden_base::NoMemory;
-use mount_wire::MountTime;
+use mount_wire::{FileOwner, MountAttributes, MountTime};
 use sockets::{Closer, changed_at, listen_alone_at, remove_unchanged};
 use std::alloc::Global;
 use std::fs::File;
@@ -40,6 +40,8 @@ pub struct Place<'a> {
     pub socket: &'a str,
     /// The path of a file for what the kernel holds at each takeover; empty if no file is asked for.
     pub log: &'a str,
+    /// Who owns each file; none for the user and the group of this process.
+    pub owner: Option<FileOwner>,
 }
 
 /// Mounts at a `place` what daemons serve that reach the broker there, and writes to `out` when a mount begins and ends.
@@ -53,6 +55,10 @@ pub fn run_mount<
     let hall = match make_hall(rt, alloc, place) {
         Ok(hall) => hall,
         Err(fault) => return fails(out, fault),
+    };
+    let owner = match owner_at(rt, place) {
+        Ok(owner) => owner,
+        Err(error) => return fails(out, MountFault::CannotMount(error)),
     };
     let unmounter = match Unmounter::start(rt, alloc) {
         Ok(unmounter) => unmounter,
@@ -70,6 +76,7 @@ pub fn run_mount<
     let point = MountPoint {
         path: place.mountpoint,
         unmounter: unmounter.number(),
+        owner,
     };
     let ran = open(rt, alloc, &hall, &listener, &closer, &point, out);
     remove_unchanged(rt, place.socket, made);
@@ -85,9 +92,17 @@ fn make_hall<R: Files<File = File> + Processes>(
     let log = open_log(rt, alloc, place.log)?;
     let _device = open_device(rt).map_err(MountFault::NoDevice)?;
     check_place(rt, alloc, place.mountpoint).map_err(MountFault::CannotMount)?;
-    match Hall::new(alloc, log) {
+    match Hall::of_mount(alloc, log) {
         Ok(hall) => Ok(hall),
         Err(NoMemory) => Err(MountFault::NoMemory),
+    }
+}
+
+/// Returns who owns the files of a `place`.
+fn owner_at<R: Files>(rt: &R, place: &Place<'_>) -> io::Result<FileOwner> {
+    match place.owner {
+        Some(owner) => Ok(owner),
+        None => own_user(rt),
     }
 }
 
@@ -216,10 +231,15 @@ fn serve_mount<R: Threads + Wait + Clock + Files<File = File> + Processes + Sync
         Ok(mounted) => mounted,
         Err(fault) => return Err(fault),
     };
+    hall.note_agreed(rt, generation);
     if let Err(error) = print_mounted(out, generation) {
         return Err(MountFault::CannotWrite(error));
     }
-    serve(rt, alloc, hall, mounted, point.path, &now(rt))
+    let own = MountAttributes {
+        since: now(rt),
+        owner: point.owner,
+    };
+    serve(rt, alloc, hall, mounted, point.path, &own)
 }
 
 /// Mounts at `point` for the daemon that has the seat at `generation`.

@@ -1,5 +1,6 @@
 //! The connections of a broker, each in a thread of its own.
 use crate::hall::{Hall, Visit};
+use crate::visitors::Heard;
 use broker_desk::Response;
 use sockets::{Connection, Deadline};
 use std::alloc::Global;
@@ -12,6 +13,9 @@ use std::time::Duration;
 
 /// How long a connection may take to attach, and then to read an answer, in milliseconds.
 const PATIENCE: u64 = 2000;
+
+/// After how long without a byte a connection counts as silent, in milliseconds.
+const MOMENT: u64 = 10;
 
 /// How long no connection is accepted after an accept failed, in milliseconds.
 const PAUSE: u64 = 10;
@@ -47,8 +51,8 @@ fn receive<'s, 'e: 's, R: Threads + Wait + Clock + Sync + 's>(
     }
 }
 
-/// Lets a connection in, and attends to it in a thread of its own. The connection is closed if no more may come, or if
-/// no thread can be made.
+/// Lets a connection in once there is room, and attends to it in a thread of its own. The connection is closed if no more
+/// may come, or if no thread can be made.
 fn admit<'s, 'e: 's, R: Threads + Wait + Clock + Sync + 's>(
     scope: &Scope<'s, &'e ()>,
     rt: &'e R,
@@ -59,6 +63,7 @@ fn admit<'s, 'e: 's, R: Threads + Wait + Clock + Sync + 's>(
     let Ok(handle) = stream.try_clone() else {
         return;
     };
+    hall.wait_for_room(rt);
     let Some(visit) = hall.enter(rt, handle) else {
         return;
     };
@@ -78,6 +83,7 @@ fn attend<R: Wait + Clock>(rt: &R, alloc: Global, hall: &Hall, visit: Visit, str
         Some(Duration::from_millis(PATIENCE)),
     ) {
         let deadline = Deadline::after(rt, Duration::from_millis(PATIENCE));
+        hall.note_heard(rt, &visit, heard_by(rt, &mut connection));
         for _ in rt.forever() {
             if !answer_one(rt, hall, &mut visit, &mut connection, deadline) {
                 break;
@@ -85,6 +91,15 @@ fn attend<R: Wait + Clock>(rt: &R, alloc: Global, hall: &Hall, visit: Visit, str
         }
     }
     hall.leave(rt, visit);
+}
+
+/// Returns what comes by a connection within a moment. Whoever attaches says so at once.
+fn heard_by<R: Clock>(rt: &R, connection: &mut Connection<'_, R>) -> Heard {
+    if connection.hears(Deadline::after(rt, Duration::from_millis(MOMENT))) {
+        Heard::Something
+    } else {
+        Heard::Silence
+    }
 }
 
 /// Answers the next frame of a connection. A connection that did not attach yet has to send it by `deadline`. Returns

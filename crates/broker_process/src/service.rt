@@ -5,12 +5,14 @@ ghost use Rattle.broker_process.specs.Mounting.{end_line};
 ghost use Rattle.broker_process.specs.Serving.{Handles, IsHeardToTheEnd, ServesMount};
 
 use crate::control::Control;
-use crate::device::{BUFFER_LEN, Taken, give, take};
+use crate::device::{BUFFER_LEN, Taken, take};
 use crate::fault::MountFault;
 use crate::hall::{Hall, Next};
-use fuse_wire::Answer;
+use crate::writing::{Texts, Written, write_reply};
+use eden_base::Errno;
+use fuse_wire::{Answer, Reply};
 use mount_desk::{Forgot, Progress};
-use mount_wire::{Message, MountTime, read_message, tell_answer};
+use mount_wire::{Message, MountAttributes, read_message, tell_answer, tell_error};
 use std::alloc::Global;
 use std::fs::File;
 use std::io::{Read, Write};
@@ -59,10 +61,10 @@ pub(crate) fn serve<R: Threads + Wait + Clock + Processes + Sync>(
     hall: &Hall,
     mounted: Mounted,
     mountpoint: &str,
-    since: &MountTime,
+    own: &MountAttributes,
 ) -> Result<MountEnd, MountFault> {
     thread::scope(thread::scope_env(), rt, move |scope| {
-        serve_within(scope, rt, alloc, hall, mounted, mountpoint, since)
+        serve_within(scope, rt, alloc, hall, mounted, mountpoint, own)
     })
 }
 
@@ -74,7 +76,7 @@ fn serve_within<'s, 'e: 's, R: Threads + Wait + Clock + Processes + Sync + 's>(
     hall: &'e Hall,
     mounted: Mounted,
     mountpoint: &str,
-    since: &MountTime,
+    own: &MountAttributes,
 ) -> Result<MountEnd, MountFault> {
     let Mounted {
         device,
@@ -85,7 +87,7 @@ fn serve_within<'s, 'e: 's, R: Threads + Wait + Clock + Processes + Sync + 's>(
     let Ok(reading) = scope.spawn(move || read_to_the_end(rt, alloc, hall, device, answers)) else {
         return Err(MountFault::NoThread);
     };
-    if deliver_all(rt, hall, writer, since) {
+    if deliver_all(rt, hall, writer, own) == Delivery::Stuck {
         control.end(rt, alloc, mountpoint);
     }
     reading.join(rt)
@@ -115,25 +117,60 @@ fn read_to_the_end<R: Wait + Clock>(
     }
 }
 
-/// Writes each posted reply to the kernel, until no daemon has the seat. Returns whether that is so since the daemon is
-/// gone, and not since the mount is over.
-fn deliver_all<R: Wait + Clock>(rt: &R, hall: &Hall, device: File, since: &MountTime) -> bool {
+/// How the replies of a mount came to an end.
+#[derive(Clone, Copy, PartialEq, Eq)]
+enum Delivery {
+    /// The mount is over.
+    Over,
+    /// The daemon of the seat is gone, or the device refuses everything: the connection has to be ended.
+    Stuck,
+}
+
+/// Writes each posted reply to the kernel, with what each file of the mount has as its `own`, until no daemon has the
+/// seat.
+fn deliver_all<R: Wait + Clock>(
+    rt: &R,
+    hall: &Hall,
+    device: File,
+    own: &MountAttributes,
+) -> Delivery {
     let mut device = device;
     for _ in rt.forever() {
         match hall.next(rt) {
             Next::Nothing | Next::NoMemory => {}
-            Next::Over => return false,
-            Next::Gone => return true,
+            Next::Over => return Delivery::Over,
+            Next::Gone => return Delivery::Stuck,
             Next::Unasked(answer) => take_back(rt, hall, &answer),
             Next::Reply(reply) => {
-                let bytes = tell_answer(reply.unique, &reply.answer, since);
-                if !give(&mut device, bytes.as_slice()) {
-                    take_back(rt, hall, &reply.answer);
+                if !deliver(rt, hall, &mut device, &reply, own) {
+                    return Delivery::Stuck;
                 }
             }
         }
     }
     unreachable!()
+}
+
+/// Writes one reply to the kernel, and forgets its number where the kernel was not told it. Returns whether the device
+/// takes replies.
+fn deliver<R: Wait + Clock>(
+    rt: &R,
+    hall: &Hall,
+    device: &mut File,
+    reply: &Reply,
+    own: &MountAttributes,
+) -> bool {
+    let text = tell_answer(reply.unique, &reply.answer, own);
+    let error = tell_error(reply.unique, Errno::EIO);
+    let texts = Texts {
+        reply: text.as_slice(),
+        error: error.as_slice(),
+    };
+    let written = write_reply(rt, device, &texts);
+    if written != Written::Reply {
+        take_back(rt, hall, &reply.answer);
+    }
+    written != Written::Refused
 }
 
 /// Forgets at once the number of an answer that the kernel did not take.
@@ -195,7 +232,11 @@ fn handle<R: Wait + Clock, O: Write>(
     match hear(rt, hall, read_message(alloc, bytes)) {
         Progress::Done => true,
         Progress::Answers(reply) => {
-            let _wanted = give(answers, reply.as_slice());
+            let texts = Texts {
+                reply: reply.as_slice(),
+                error: reply.as_slice(),
+            };
+            let _told = write_reply(rt, answers, &texts);
             true
         }
         Progress::NotMounted => false,

@@ -1,4 +1,5 @@
 //! A child that unmounts what a broker left mounted, whatever ended the broker.
+use mount_wire::FileOwner;
 use std::alloc::{AllocError, Global};
 use std::io;
 use std::process::{Child, Command, OpenProcess, Processes, Stdio};
@@ -38,13 +39,15 @@ impl<P: OpenProcess + Drop> Unmounter<P> {
     }
 }
 
-/// Where a broker mounts.
+/// Where a broker mounts, and whose the files are.
 #[derive(Clone, Copy)]
 pub(crate) struct MountPoint<'a> {
     /// The path of the directory at which it is mounted.
     pub path: &'a str,
     /// The number of the child that unmounts what is left here.
     pub unmounter: u32,
+    /// Who owns each file.
+    pub owner: FileOwner,
 }
 
 impl MountPoint<'_> {

@@ -1,6 +1,7 @@
 //! The connections that are open.
-ghost use Rattle.std.specs.Prelude.{◌≡◌, ◌<◌, ◌≤◌, None, count_by, nat_lt, IsSome};
-ghost use Rattle.broker_process.specs.Visitors.{is_stranger, works_for};
+ghost use Rattle.std.specs.Prelude.{◌≡◌, ◌<◌, [], ◌∷◌, ◌++◌, None, true, count_by, is_some, length, nat_lt, position, vec_capacity, vec_len};
+ghost use Rattle.std.specs.Option.{IfSome};
+ghost use Rattle.broker_process.specs.Visitors.{entered, has_number, has_room, is_stranger, is_silent, has_begun, place_to_give, with_room, without_at, works_for};
 
 use broker_desk::Peer;
 use eden_base::DaemonId;
@@ -14,11 +15,23 @@ pub(crate) const MAX_STRANGERS: usize = 64;
 /// How many connections a daemon's workers may have.
 pub(crate) const MAX_WORKERS: usize = 16;
 
-/// A connection that is open, who is at its other end, and a handle to end it by.
+/// What came by a connection that did not attach.
+#[derive(Clone, Copy, PartialEq, Eq)]
+pub(crate) enum Heard {
+    /// Nobody looked yet.
+    Unknown,
+    /// Nothing for a moment.
+    Silence,
+    /// The beginning of a frame at least, or the end.
+    Something,
+}
+
+/// A connection that is open, who is at its other end, what came by it, and a handle to end it by.
 #[derive(Drop)]
 pub(crate) struct Visitor {
     number: u64,
     peer: Peer,
+    heard: Heard,
     stream: UnixStream,
 }
 
@@ -28,6 +41,20 @@ impl Visitor {
         ensures stranger { result ≡ is_stranger self.now }
     {
         matches!(self.peer, Peer::Stranger)
+    }
+
+    /// Returns whether the connection did not attach, and nothing came by it for a moment.
+    fn is_silent(&self) -> bool
+        ensures silent { result ≡ is_silent self.now }
+    {
+        self.is_stranger() && matches!(self.heard, Heard::Silence)
+    }
+
+    /// Returns whether the connection did not attach, though something came by it.
+    fn has_begun(&self) -> bool
+        ensures begun { result ≡ has_begun self.now }
+    {
+        self.is_stranger() && matches!(self.heard, Heard::Something)
     }
 
     /// Returns whether this is the connection of a worker of `daemon`.
@@ -41,7 +68,7 @@ impl Visitor {
     }
 }
 
-/// The connections that are open, each with a number of its own.
+/// The connections that are open, each with a number of its own, in the order in which they came.
 #[derive(Drop)]
 pub(crate) struct Visitors {
     list: Vec<Visitor>,
@@ -57,23 +84,87 @@ impl Visitors {
         }
     }
 
-    /// Lets a stranger in by a handle of its connection, and returns its number. Returns none at the limit, or where
-    /// memory is refused.
+    /// Lets a stranger in by a handle of its connection, and returns its number. At the limit another stranger has to go for
+    /// it, whose connection is ended. Returns none where none may go, or memory is refused: then nothing changes.
     pub(crate) fn enter(&mut self, stream: UnixStream) -> Option<u64>
-        ensures few { IsSome result → count_by is_stranger self.old.list.items < 64 }
+        ensures entered { IfSome result (λ number. (number ≡ self.old.next) × (has_room self.old.list.items ≡ true)
+            × (self.new.list.items ≡ with_room self.old.list.items ++ entered self.old.next stream ∷ [])) }
+        ensures unchanged { result ≡ None → self.new.list.items ≡ self.old.list.items }
     {
-        if self.strangers() >= MAX_STRANGERS {
+        if !self.has_room() {
             return None;
         }
+        self.list.reserve(1).ok()?;
+        self.make_room();
         let number = self.next;
-        let visitor = Visitor {
+        self.list.push_reserved(Visitor {
             number,
             peer: Peer::Stranger,
+            heard: Heard::Unknown,
             stream,
-        };
-        self.list.push(visitor).ok()?;
+        });
         self.next = number.wrapping_add(1);
         Some(number)
+    }
+
+    /// Returns whether a stranger may come: fewer are there than may be, or one of them may go.
+    pub(crate) fn has_room(&self) -> bool
+        ensures room { result ≡ has_room self.now.list.items }
+    {
+        self.strangers() < MAX_STRANGERS || self.place_to_give().is_some()
+    }
+
+    /// Ends the connection of the stranger that goes first, where as many did not attach as may.
+    fn make_room(&mut self)
+        ensures room { self.new.list.items ≡ with_room self.old.list.items }
+        ensures next { self.new.next ≡ self.old.next }
+        ensures capacity { vec_len self.old.list < vec_capacity self.old.list
+            → vec_len self.new.list < vec_capacity self.new.list }
+    {
+        if self.strangers() < MAX_STRANGERS {
+            return;
+        }
+        if let Some(place) = self.place_to_give() {
+            let visitor = self.list.remove(place);
+            let _ended = visitor.stream.shutdown(Shutdown::Both);
+        }
+    }
+
+    /// Returns the place of the stranger that goes first: the oldest one by whose connection nothing came, or else the
+    /// oldest one by whose connection something came that was no whole frame yet. One that nobody looked at stays.
+    fn place_to_give(&self) -> Option<usize>
+        ensures place { result ≡ place_to_give self.now.list.items }
+        ensures below { IfSome result (λ place. place < length self.now.list.items) }
+    {
+        match self.place_of_silent() {
+            Some(place) => Some(place),
+            None => self.place_of_begun(),
+        }
+    }
+
+    /// Returns the place of the oldest stranger by whose connection nothing came.
+    fn place_of_silent(&self) -> Option<usize>
+        ensures place { result ≡ position is_silent self.now.list.items }
+        ensures below { IfSome result (λ place. place < length self.now.list.items) }
+    {
+        self.list.iter().position(|visitor| visitor.is_silent())
+    }
+
+    /// Returns the place of the oldest stranger by whose connection something came.
+    fn place_of_begun(&self) -> Option<usize>
+        ensures place { result ≡ position has_begun self.now.list.items }
+        ensures below { IfSome result (λ place. place < length self.now.list.items) }
+    {
+        self.list.iter().position(|visitor| visitor.has_begun())
+    }
+
+    /// Notes what came by the connection of visitor `number`.
+    pub(crate) fn note(&mut self, number: u64, heard: Heard) {
+        for visitor in self.list.iter_mut() {
+            if visitor.number == number {
+                visitor.heard = heard;
+            }
+        }
     }
 
     /// Returns how many connections did not attach.
@@ -98,6 +189,23 @@ impl Visitors {
         there < MAX_WORKERS
     }
 
+    /// Returns whether visitor `number` is here: it came, and did not leave or have to go.
+    pub(crate) fn knows(&self, number: u64) -> bool
+        ensures known { result ≡ is_some (position (has_number number) self.now.list.items) }
+    {
+        self.place_of(number).is_some()
+    }
+
+    /// Returns where visitor `number` stands, if it is here.
+    fn place_of(&self, number: u64) -> Option<usize>
+        ensures place { result ≡ position (has_number number) self.now.list.items }
+        ensures below { IfSome result (λ place. place < length self.now.list.items) }
+    {
+        self.list
+            .iter()
+            .position(|visitor| visitor.number == number)
+    }
+
     /// Notes that visitor `number` is `peer`.
     pub(crate) fn name(&mut self, number: u64, peer: Peer) {
         for visitor in self.list.iter_mut() {
@@ -107,14 +215,12 @@ impl Visitors {
         }
     }
 
-    /// Removes visitor `number`, whose connection ended.
-    pub(crate) fn leave(&mut self, number: u64) {
-        let found = self
-            .list
-            .iter()
-            .position(|visitor| visitor.number == number);
-        if let Some(index) = found {
-            drop(self.list.swap_remove(index));
+    /// Removes visitor `number`, whose connection ended. Those that are left stand in the order in which they came.
+    pub(crate) fn leave(&mut self, number: u64)
+        ensures left { self.new.list.items ≡ without_at self.old.list.items (position (has_number number) self.old.list.items) }
+    {
+        if let Some(place) = self.place_of(number) {
+            drop(self.list.remove(place));
         }
     }
 

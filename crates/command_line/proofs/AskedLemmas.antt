@@ -7,12 +7,12 @@ use Rattle.clap.specs.declared.error.Error.{Error}
 use Rattle.clap.specs.declared.error.kind.ErrorKind.{ErrorKind}
 use Rattle.clap.specs.declared.error.kind.ErrorKind.TheVariants as kind
 use Rattle.command_line.specs.Asked.{IsAsked, IsErrand, IsScript}
-use Rattle.command_line.specs.CommandLine.{is_errand, script_in, start_fault_in}
+use Rattle.command_line.specs.CommandLine.{is_errand, script_in, words_fault_in}
 use Rattle.command_line.specs.declared.asked.Asked.{Asked}
 use Rattle.command_line.specs.declared.asked.Asked.TheVariants.{World, Serve}
 use Rattle.command_line.specs.declared.errand.Errand.{Errand}
 use Rattle.command_line.specs.declared.errand.Errand.TheVariants.{Broker, Daemon, Mount}
-use Rattle.command_line.proofs.CommandLemmas.{start_fault-other}
+use Rattle.command_line.proofs.CommandLemmas.{words_fault-other}
 
 -- an error where nothing is wrong is want of memory
 pub only_memory : {A : Type 0} (Holds : A → Type 0) (result : Result A Error) (wrong : Kinds) → wrong ≡ [] → IsErr result → FailsBy wrong result →
@@ -43,11 +43,11 @@ errand_is command (Mount mount) (rows, is, parts) = ap is_errand is
 
 -- what is asked for by words that name a script plainly
 pub plain_asked : (result : Result Asked Error) (command : Option (Text × List Row)) (script : Text) → script_in command ≡ script → is_errand command ≡ false →
-    IfOk result (IsAsked command) → FailsBy (start_fault_in command) result → MatchResult result (IsScript script) (λ error. kind_of error ≡ kind.OutOfMemory)
+    IfOk result (IsAsked command) → FailsBy (words_fault_in command) result → MatchResult result (IsScript script) (λ error. kind_of error ≡ kind.OutOfMemory)
 plain_asked (Ok (World world)) command script read apart asked fails = asked.1 ∙ read
 plain_asked (Ok (Serve errand)) command script read apart asked fails =
     let bad : true ≡ false = sym (errand_is command errand asked) ∙ apart in cc
-plain_asked (Err error) command script read apart asked fails = elim (subst (λ (w : Kinds). HasKind w error) (start_fault-other command apart) fails) [
+plain_asked (Err error) command script read apart asked fails = elim (subst (λ (w : Kinds). HasKind w error) (words_fault-other command apart) fails) [
   | inl memory ↦ memory
   | inr among ↦ absurd among
 ]

@@ -7,7 +7,7 @@ use Rattle.clap.specs.Words.{AddsArg, AddsSubcommand, App, Row, Rule, Text, app_
 use Rattle.clap.specs.Simple.{app_of_fields}
 use Rattle.clap.specs.declared.builder.arg.Arg.{Arg}
 use Rattle.clap.specs.declared.builder.command.Command.{Command, out-Command}
-use Rattle.command_line.specs.CommandLine.{IsReadAs, is_errand, limit_in, number_or, script_in, standard_input, start_fault, start_fault_in}
+use Rattle.command_line.specs.CommandLine.{IsReadAs, is_errand, limit_in, number_or, script_in, standard_input, owner_fault, start_fault, words_fault_in}
 
 -- a command of its own, as it is made
 pub made : (name : Text) (command : Command) → app_of command ≡ new_app name → (out-Command command).has_globals ≡ false → IsReadAs (new_app name) command
@@ -116,10 +116,6 @@ none_of false true c is other third = let bad : true ≡ false = other in cc
 none_of false false true is other third = let bad : true ≡ false = third in cc
 none_of false false false is other third = refl
 
-first_of_two : (a b c : Bool) → a ≡ true → ((a || b) || c) ≡ true
-first_of_two true b c is = refl
-first_of_two false b c is = let bad : true ≡ false = sym is in cc
-
 second_of_two : (a b c : Bool) → b ≡ true → ((a || b) || c) ≡ true
 second_of_two true b c is = refl
 second_of_two false true c is = refl
@@ -138,12 +134,19 @@ is_errand-other (Some sub) no_broker no_daemon no_mount = go (bytes_eq sub.0 (co
     go false false true is other third = absurd (no_mount (ap (λ (t : Text). Some t) ((bytes_eq-Decides sub.0 (codes "mount")).0 third)))
     go false false false is other third = none_of (bytes_eq sub.0 (codes "broker")) (bytes_eq sub.0 (codes "daemon")) (bytes_eq sub.0 (codes "mount")) is other third
 
--- nothing is wrong with the start of a command that is no errand
-pub start_fault-other : (sub : Option (Text × List Row)) → is_errand sub ≡ false → start_fault_in sub ≡ []
-start_fault-other None apart = refl
-start_fault-other (Some sub) apart = go (bytes_eq sub.0 (codes "broker")) (bytes_eq sub.0 (codes "daemon")) refl refl
+third_of_three : (a b c : Bool) → c ≡ true → ((a || b) || c) ≡ true
+third_of_three true b c is = refl
+third_of_three false true c is = refl
+third_of_three false false true is = refl
+third_of_three false false false is = let bad : true ≡ false = sym is in cc
+
+-- nothing is wrong with the words of a command that is no errand
+pub words_fault-other : (sub : Option (Text × List Row)) → is_errand sub ≡ false → words_fault_in sub ≡ []
+words_fault-other None apart = refl
+words_fault-other (Some sub) apart = go (bytes_eq sub.0 (codes "daemon")) (bytes_eq sub.0 (codes "mount")) refl refl
   where
-    go : (broker daemon : Bool) → bytes_eq sub.0 (codes "broker") ≡ broker → bytes_eq sub.0 (codes "daemon") ≡ daemon → start_fault_in (Some sub) ≡ []
-    go true daemon is other = let bad : true ≡ false = sym (first_of_two (bytes_eq sub.0 (codes "broker")) (bytes_eq sub.0 (codes "daemon")) (bytes_eq sub.0 (codes "mount")) is) ∙ apart in cc
-    go false true is other = let bad : true ≡ false = sym (second_of_two (bytes_eq sub.0 (codes "broker")) (bytes_eq sub.0 (codes "daemon")) (bytes_eq sub.0 (codes "mount")) other) ∙ apart in cc
-    go false false is other = ap (λ (b : Bool). if b then start_fault sub.1 else []) other
+    go : (daemon mount : Bool) → bytes_eq sub.0 (codes "daemon") ≡ daemon → bytes_eq sub.0 (codes "mount") ≡ mount → words_fault_in (Some sub) ≡ []
+    go true mount is other = let bad : true ≡ false = sym (second_of_two (bytes_eq sub.0 (codes "broker")) (bytes_eq sub.0 (codes "daemon")) (bytes_eq sub.0 (codes "mount")) is) ∙ apart in cc
+    go false true is other = let bad : true ≡ false = sym (third_of_three (bytes_eq sub.0 (codes "broker")) (bytes_eq sub.0 (codes "daemon")) (bytes_eq sub.0 (codes "mount")) other) ∙ apart in cc
+    go false false is other =
+        ap₂ (λ (daemon mount : Bool). if daemon then start_fault sub.1 else if mount then owner_fault sub.1 else []) is other

@@ -1,7 +1,8 @@
 -- What the words ask for, by the command that they have and what it was given.
-use Rattle.std.specs.Prelude.{◌≡◌, false, List, Option, Some, codes}
+use Rattle.std.specs.Prelude.{◌≡◌, false, List, Option, Some, option_and_then, codes}
 use Rattle.clap.specs.Words.{Row, Text, first_of}
 use Rattle.command_line.specs.CommandLine.{has_flag, is_errand, limit_in, number_or, script_in, start_by, word_in}
+use Rattle.command_line.specs.Owner.{owner_of}
 use Rattle.command_line.specs.declared.asked.Asked.{Asked}
 use Rattle.command_line.specs.declared.asked.Asked.TheVariants.{World, Serve}
 use Rattle.command_line.specs.declared.errand.BrokerWords.{BrokerWords}
@@ -26,11 +27,12 @@ pub record IsDaemon (rows : List Row) (daemon : DaemonWords) : Type 0 where
   pub patience : daemon.patience ≡ number_or 2000 (first_of (codes "patience") rows)
   pub until_closed : daemon.until_closed ≡ has_flag (codes "until-closed") rows
 
--- each word of `mount` is that of its argument
+-- each word of `mount` is that of its argument, and the owner is the one that its option names
 pub record IsMount (rows : List Row) (mount : MountWords) : Type 0 where
   pub mountpoint : mount.mountpoint.now ≡ word_in (codes "MOUNTPOINT") rows
   pub socket : mount.socket.now ≡ word_in (codes "SOCKET") rows
   pub held : mount.held.now ≡ word_in (codes "held") rows
+  pub owner : mount.owner ≡ option_and_then owner_of (first_of (codes "owner") rows)
 
 -- the command asks for this process
 abbrev pub IsErrand : Option (Text × List Row) → Errand → Type 0

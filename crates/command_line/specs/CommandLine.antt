@@ -1,5 +1,5 @@
 -- The words that the program is started with, as `clap` reads them: none, or a command with its words and options.
-use Rattle.std.specs.Prelude.{◌≡◌, ◌==◌, ℕ, Bool, true, false, List, [], ◌∷◌, Option, Some, None, unwrap_or, codes, if◌then◌else◌, ◌||◌}
+use Rattle.std.specs.Prelude.{◌≡◌, ◌==◌, ℕ, Bool, true, false, List, [], ◌∷◌, Option, Some, None, is_none, unwrap_or, codes, if◌then◌else◌, ◌||◌}
 use Rattle.std.specs.Str.{bytes_eq}
 use Rattle.std.specs.Str.Parse.{without_leading_plus}
 use Rattle.clap.specs.Words.{App, Kinds, Row, Rule, Text, app_of, fault_of, first_of, new_app, new_rule, subcommand_of, with_rule, with_subcommand}
@@ -10,6 +10,7 @@ use Rattle.clap.specs.declared.builder.command.Command.{Command, out-Command}
 use Rattle.clap.specs.declared.builder.value_parser.ValueParser.TheVariants as parser
 use Rattle.clap.specs.declared.error.kind.ErrorKind.TheVariants as kind
 use Rattle.script_lines.specs.Number.{number_of}
+use Rattle.command_line.specs.Owner.{owner_of}
 use Rattle.command_line.specs.declared.errand.Start.{Start}
 use Rattle.command_line.specs.declared.errand.Start.TheVariants.{Mount, Takeover}
 
@@ -72,11 +73,15 @@ daemon_app = with_rules (new_app (codes "daemon")) (
 abbrev pub held_rule : Rule
 held_rule = record (new_rule (codes "held")) { long = Some (codes "held"); action = Some Set; value_names = 1 }
 
--- the command `mount MOUNTPOINT SOCKET`, perhaps with `--held`
+-- the rule of the option that names the user and the group that own each file
+abbrev pub owner_rule : Rule
+owner_rule = record (new_rule (codes "owner")) { long = Some (codes "owner"); action = Some Set; value_names = 1 }
+
+-- the command `mount MOUNTPOINT SOCKET`, perhaps with `--held` and `--owner`
 abbrev pub mount_app : App
 mount_app =
     with_rules (new_app (codes "mount"))
-    (word_rule (codes "MOUNTPOINT") ∷ word_rule (codes "SOCKET") ∷ held_rule ∷ [])
+    (word_rule (codes "MOUNTPOINT") ∷ word_rule (codes "SOCKET") ∷ held_rule ∷ owner_rule ∷ [])
 
 -- the program, which has a version and these four commands
 abbrev pub edend_app : App
@@ -154,15 +159,25 @@ start_fault_by false false = kind.MissingRequiredArgument ∷ []
 abbrev pub start_fault : List Row → Kinds
 start_fault rows = start_fault_by (has_flag (codes "mount") rows) (has_flag (codes "takeover") rows)
 
--- what is wrong with the start that a command's words name, if the command is `daemon`
-abbrev pub start_fault_in : Option (Text × List Row) → Kinds
-start_fault_in None = []
-start_fault_in (Some command) =
-    if bytes_eq command.0 (codes "daemon") then start_fault command.1 else []
+-- what is wrong with the word of `--owner`, if there is one: it names no owner
+abbrev pub owner_fault_of : Option Text → Kinds
+owner_fault_of None = []
+owner_fault_of (Some word) = if is_none (owner_of word) then kind.InvalidValue ∷ [] else []
 
--- what is wrong with the words: by the rules of the commands, and else with a daemon's start
+abbrev pub owner_fault : List Row → Kinds
+owner_fault rows = owner_fault_of (first_of (codes "owner") rows)
+
+-- what is wrong with a command's words behind its rules: with the start of `daemon`, or with the owner of `mount`
+abbrev pub words_fault_in : Option (Text × List Row) → Kinds
+words_fault_in None = []
+words_fault_in (Some command) =
+    if bytes_eq command.0 (codes "daemon") then start_fault command.1
+    else if bytes_eq command.0 (codes "mount") then owner_fault command.1
+    else []
+
+-- what is wrong with the words: by the rules of the commands, and else with a daemon's start or a mount's owner
 abbrev pub wrong_of : List Text → Kinds
-wrong_of words = or_else (fault_of edend_app words) (start_fault_in (command_of words))
+wrong_of words = or_else (fault_of edend_app words) (words_fault_in (command_of words))
 
 -- whether the command is one of a process that serves over sockets
 abbrev pub is_errand : Option (Text × List Row) → Bool

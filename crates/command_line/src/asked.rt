@@ -1,18 +1,19 @@
 //! The words that the program is started with.
-ghost use Rattle.std.specs.Prelude.{◌≡◌, map, IfOk, MatchResult, codes, string_bytes};
+ghost use Rattle.std.specs.Prelude.{◌≡◌, map, IfOk, MatchResult, codes, option_and_then, string_bytes};
 ghost use Rattle.std.specs.Option.{option_map};
-ghost use Rattle.clap.specs.Words.{FailsBy, found_of, kind_of, rows_of, subcommand_rows_of};
+ghost use Rattle.clap.specs.Words.{FailsBy, first_of, found_of, kind_of, rows_of, subcommand_rows_of};
 ghost use Rattle.command_line.specs.Asked.{IsAsked, IsBroker, IsDaemon, IsMount, IsScript};
-ghost use Rattle.command_line.specs.CommandLine.{NamesPlainly, command_of, has_flag, limit_in, number_or, script_in, start_by, start_fault, start_fault_in, word_in, wrong_of};
+ghost use Rattle.command_line.specs.CommandLine.{NamesPlainly, command_of, has_flag, limit_in, number_or, script_in, start_by, owner_fault, start_fault, word_in, words_fault_in, wrong_of};
+ghost use Rattle.command_line.specs.Owner.{owner_of};
 
 use crate::commands::{
-    BROKER, BROKER_SOCKET, DAEMON, HELD, LIMIT, LISTEN_SOCKET, MANIFEST, MOUNT, MOUNTPOINT,
+    BROKER, BROKER_SOCKET, DAEMON, HELD, LIMIT, LISTEN_SOCKET, MANIFEST, MOUNT, MOUNTPOINT, OWNER,
     PATIENCE, SCRIPT, SOCKET, TAKEOVER, UNTIL_CLOSED, WORKERS, WORLD, daemon_command,
-    edend_command,
+    edend_command, mount_command,
 };
-use crate::{BrokerWords, DaemonWords, Errand, MountWords, Start};
+use crate::{BrokerWords, DaemonWords, Errand, MountWords, Owner, Start, read_owner};
 use clap::error::ErrorKind;
-use clap::{ArgMatches, Error};
+use clap::{ArgMatches, Command, Error};
 use script_lines::number;
 use std::alloc::{AllocError, Global};
 
@@ -59,7 +60,7 @@ pub fn asked_of<'a>(alloc: Global, words: &'a [String]) -> Result<Asked<'a>, Err
 /// Returns what is asked for by the command that the words have.
 fn asked_in<'a>(alloc: Global, matches: &ArgMatches<'a>) -> Result<Asked<'a>, Error>
     ensures asked { IfOk result (IsAsked (subcommand_rows_of matches.now)) }
-    ensures refused { FailsBy (start_fault_in (subcommand_rows_of matches.now)) result }
+    ensures refused { FailsBy (words_fault_in (subcommand_rows_of matches.now)) result }
 {
     match (
         matches.subcommand_matches(BROKER),
@@ -68,7 +69,7 @@ fn asked_in<'a>(alloc: Global, matches: &ArgMatches<'a>) -> Result<Asked<'a>, Er
     ) {
         (Some(broker), _, _) => Ok(Asked::Serve(Errand::Broker(broker_in(broker)))),
         (None, Some(daemon), _) => Ok(Asked::Serve(Errand::Daemon(daemon_in(alloc, daemon)?))),
-        (None, None, Some(mount)) => Ok(Asked::Serve(Errand::Mount(mount_in(mount)))),
+        (None, None, Some(mount)) => Ok(Asked::Serve(Errand::Mount(mount_in(alloc, mount)?))),
         (None, None, None) => Ok(Asked::World(world_in(matches))),
     }
 }
@@ -114,16 +115,45 @@ fn broker_in<'a>(broker: &ArgMatches<'a>) -> BrokerWords<'a>
     }
 }
 
-/// Returns the words of `mount`.
-fn mount_in<'a>(mount: &ArgMatches<'a>) -> MountWords<'a>
-    ensures { IsMount (rows_of (found_of mount.now)) result }
+/// Returns the words of `mount`. They are refused where `--owner` names no owner.
+fn mount_in<'a>(alloc: Global, mount: &ArgMatches<'a>) -> Result<MountWords<'a>, Error>
+    ensures words { IfOk result (IsMount (rows_of (found_of mount.now))) }
+    ensures refused { FailsBy (owner_fault (rows_of (found_of mount.now))) result }
 {
-    MountWords {
+    let owner = owner_in(alloc, mount)?;
+    Ok(MountWords {
         mountpoint: word_in(mount, MOUNTPOINT),
         socket: word_in(mount, SOCKET),
         held: word_in(mount, HELD),
+        owner,
+    })
+}
+
+/// Returns the owner that the words of `mount` name, or none if they name none. A word that is no owner is refused.
+fn owner_in(alloc: Global, mount: &ArgMatches<'_>) -> Result<Option<Owner>, Error>
+    ensures owner { IfOk result (λ owner.
+        owner ≡ option_and_then owner_of (first_of (codes "owner") (rows_of (found_of mount.now)))) }
+    ensures refused { FailsBy (owner_fault (rows_of (found_of mount.now))) result }
+{
+    let Some(word) = mount.get_str(OWNER) else {
+        return Ok(None);
+    };
+    match read_owner(word.as_bytes()) {
+        Some(owner) => Ok(Some(owner)),
+        None => Err(owner_refusal(alloc)?),
     }
 }
+
+/// Returns the error that refuses a word of `--owner`, with the usage of `mount`.
+fn owner_refusal(alloc: Global) -> Result<Error, AllocError>
+    ensures kind { IfOk result (λ error. kind_of error ≡ ErrorKind.InvalidValue) }
+{
+    refusal_by(mount_command(alloc)?, ErrorKind::InvalidValue, BAD_OWNER)
+}
+
+/// The error text for a word of `--owner` that names no owner.
+const BAD_OWNER: &str =
+    "'--owner <UID:GID>' wants a user's and a group's number, with a colon between them";
 
 /// Returns the words of `daemon`. They are refused unless they name exactly one way to start.
 fn daemon_in<'a>(alloc: Global, daemon: &ArgMatches<'a>) -> Result<DaemonWords<'a>, Error>
@@ -168,7 +198,14 @@ const NO_START: &str =
 fn refusal(alloc: Global, kind: ErrorKind, text: &str) -> Result<Error, AllocError>
     ensures kind { IfOk result (λ error. kind_of error ≡ kind) }
 {
-    let mut command = daemon_command(alloc)?;
+    refusal_by(daemon_command(alloc)?, kind, text)
+}
+
+/// Returns the error of `kind` that refuses words with `text` and the usage of `command`.
+fn refusal_by(command: Command<'_>, kind: ErrorKind, text: &str) -> Result<Error, AllocError>
+    ensures kind { IfOk result (λ error. kind_of error ≡ kind) }
+{
+    let mut command = command;
     let refusal = command.error(kind, text);
     drop(command);
     refusal

@@ -1,7 +1,7 @@
 //! The commands that the program has, as `clap` reads them.
 ghost use Rattle.std.specs.Prelude.{◌≡◌, false, IfOk};
 ghost use Rattle.clap.specs.Words.{app_of, rule_of};
-ghost use Rattle.command_line.specs.CommandLine.{IsReadAs, broker_app, daemon_app, edend_app, flag_rule, held_rule, limit_rule, mount_app, patience_rule, word_rule, workers_rule, world_app};
+ghost use Rattle.command_line.specs.CommandLine.{IsReadAs, broker_app, daemon_app, edend_app, flag_rule, held_rule, limit_rule, mount_app, owner_rule, patience_rule, word_rule, workers_rule, world_app};
 
 use clap::builder::ValueParser;
 use clap::{Arg, ArgAction, Command};
@@ -20,6 +20,8 @@ pub const SOCKET: &str = "SOCKET";
 pub const MOUNTPOINT: &str = "MOUNTPOINT";
 
 pub const HELD: &str = "held";
+
+pub const OWNER: &str = "owner";
 
 /// A command, and an option of `daemon`.
 pub const MOUNT: &str = "mount";
@@ -153,7 +155,7 @@ pub fn daemon_command<'a>(alloc: Global) -> Result<Command<'a>, AllocError>
 }
 
 /// Returns the command `mount`, which mounts what daemons serve.
-fn mount_command<'a>(alloc: Global) -> Result<Command<'a>, AllocError>
+pub fn mount_command<'a>(alloc: Global) -> Result<Command<'a>, AllocError>
     ensures { IfOk result (IsReadAs mount_app) }
 {
     Command::new(alloc, MOUNT)
@@ -161,7 +163,8 @@ fn mount_command<'a>(alloc: Global) -> Result<Command<'a>, AllocError>
         .after_help(MOUNT_HELP)
         .arg(word_arg(alloc, MOUNTPOINT, "The directory to mount at"))?
         .arg(word_arg(alloc, SOCKET, "The socket to listen at"))?
-        .arg(held_arg(alloc))
+        .arg(held_arg(alloc))?
+        .arg(owner_arg(alloc))
 }
 
 const SCRIPT_HELP: &str = "The script, or - for standard input";
@@ -205,6 +208,18 @@ fn held_arg<'a>(alloc: Global) -> Arg<'a>
         .long(HELD)
         .value_name("FILE")
         .help("Notes in FILE at each takeover how often the kernel holds each number")
+        .action(ArgAction::Set)
+}
+
+/// Returns the option that names the user and the group that own each file.
+fn owner_arg<'a>(alloc: Global) -> Arg<'a>
+    ensures rule { rule_of result ≡ owner_rule }
+    ensures own { result.global ≡ false }
+{
+    Arg::new(alloc, OWNER)
+        .long(OWNER)
+        .value_name("UID:GID")
+        .help("Who owns each file, by numbers; else the user and the group of this process")
         .action(ArgAction::Set)
 }
 

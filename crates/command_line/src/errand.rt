@@ -1,4 +1,5 @@
 //! What words may ask for beside a script: a process that serves over sockets.
+use crate::Owner;
 
 /// A process that serves over sockets.
 #[derive(Clone, Copy)]
@@ -55,4 +56,6 @@ pub struct MountWords<'a> {
     pub socket: &'a str,
     /// The path of a file for what the kernel holds at each takeover; empty if no file is asked for.
     pub held: &'a str,
+    /// Who owns each file; none if the words don't say.
+    pub owner: Option<Owner>,
 }

@@ -4,6 +4,8 @@
 mod asked;
 mod commands;
 mod errand;
+mod owner;
 
 pub use asked::{Asked, DEFAULT_LIMIT, WorldWords, asked_of, not_text};
 pub use errand::{BrokerWords, DaemonWords, Errand, MountWords, Start};
+pub use owner::{Owner, read_owner};

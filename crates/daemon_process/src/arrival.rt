@@ -16,6 +16,7 @@ use std::os::unix::net::UnixStream;
 use std::rt::Clock;
 use std::sync::{Arc, Wait};
 use std::time::Duration;
+use takeover_core::Message;
 use workers::Stop;
 
 /// How long the broker may take for an answer to a daemon that has no seat yet, in milliseconds. Who has one has no
@@ -158,6 +159,7 @@ fn attach<R: Clock + Wait>(
     match connection.ask(&Frame::Attach(daemon), answer_by(rt)) {
         Some(Frame::Attached(daemon)) => Ok(daemon),
         Some(Frame::Ended) => Err(Exit::Ended),
+        Some(Frame::Takeover(Message::Busy)) => Err(Exit::Faulty(DaemonFault::Full)),
         _ => Err(Exit::Faulty(DaemonFault::Broken)),
     }
 }

@@ -9,6 +9,8 @@ pub enum DaemonFault {
     NoBroker(io::Error),
     /// Another daemon has the seat.
     Seated,
+    /// As many daemons are at the broker as may be.
+    Full,
     /// The other daemon's socket can't be connected to.
     NoDaemon(io::Error),
     /// The two daemons have no version of the image in common, or the other daemon takes no offer at present.

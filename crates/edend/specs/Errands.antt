@@ -7,6 +7,8 @@ use Rattle.command_line.specs.declared.errand.Errand.{Errand}
 use Rattle.command_line.specs.declared.errand.Errand.TheVariants.{Broker, Daemon, Mount}
 use Rattle.command_line.specs.declared.errand.Start.{Start}
 use Rattle.command_line.specs.declared.errand.Start.TheVariants as way
+use Rattle.command_line.specs.declared.owner.Owner.{Owner}
+use Rattle.mount_wire.specs.declared.told_answer.FileOwner.{FileOwner}
 use Rattle.broker_process.specs.Mounting.{PrintsDead, PrintsThen, RunsMount, mounted_line}
 use Rattle.broker_process.specs.Playing.{PlaysScript, RunsBroker}
 use Rattle.broker_process.specs.declared.fault.BrokerFault.{BrokerFault}
@@ -28,12 +30,16 @@ use Rattle.world_script.specs.Source.{OfRead, script_at}
 use Rattle.world_script.specs.ProgramEnd.{ErrandsKnown, RunsErrand, Tells, name_by, name_of, plain}
 use Rattle.world_script.specs.declared.failure.Failure.{Failure}
 use Rattle.world_script.specs.declared.fault.Fault.{Fault}
-use Rattle.world_script.specs.declared.fault.Fault.TheVariants.{BadLine, Broken, CannotListen, CannotMount, CannotRead, CannotWrite, NoBroker, NoDaemon, NoDevice, NoLog, NoMemory, NoThread, OfferRefused, Seated, TakeoverFailed, TooLong}
+use Rattle.world_script.specs.declared.fault.Fault.TheVariants.{BadLine, Broken, CannotListen, CannotMount, CannotRead, CannotWrite, NoBroker, NoDaemon, NoDevice, NoLog, NoMemory, NoThread, OfferRefused, Full, Seated, TakeoverFailed, TooLong}
 
 -- how a daemon begins, by the start that its words ask for
 abbrev pub start_of : Start → DaemonStart
 start_of way.Mount = start.Mount
 start_of way.Takeover = start.Takeover
+
+-- the owner of a mount's files, by the one that its words name
+abbrev pub owner_of : Owner → FileOwner
+owner_of owner = record { user = owner.user; group = owner.group }
 
 -- the socket, file or stream whose error caused an errand's fault, if an error did
 abbrev pub name_at : Errand → Fault → Option (List ℕ)
@@ -72,6 +78,7 @@ fault_of_broker (broker.CannotWrite error) = CannotWrite
 abbrev pub fault_of_daemon : DaemonFault → Fault
 fault_of_daemon (daemon.NoBroker error) = NoBroker
 fault_of_daemon daemon.Seated = Seated
+fault_of_daemon daemon.Full = Full
 fault_of_daemon (daemon.NoDaemon error) = NoDaemon
 fault_of_daemon daemon.OfferRefused = OfferRefused
 fault_of_daemon daemon.TakeoverFailed = TakeoverFailed

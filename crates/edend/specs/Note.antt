@@ -38,6 +38,7 @@ IsMount noted words =
     (string_bytes noted.mountpoint ≡ words.mountpoint.now)
     × (string_bytes noted.socket ≡ words.socket.now)
     × (string_bytes noted.held ≡ words.held.now)
+    × (noted.owner ≡ words.owner)
 
 -- the noted errand is this one
 abbrev pub IsNoted : Noted → Errand → Type 0

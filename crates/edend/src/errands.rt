@@ -1,6 +1,7 @@
 //! The program in a process, and the errands that it runs over sockets.
 ghost use Rattle.std.specs.Prelude.{◌≡◌, ◌⊎◌, ◌*◌, ℕ, List, Option, Some, Err};
 ghost use Rattle.std.specs.Duration.{as_nanos};
+ghost use Rattle.std.specs.Option.{option_map};
 ghost use Rattle.broker_process.specs.Mounting.{RunsMount};
 ghost use Rattle.broker_process.specs.Playing.{RunsBroker};
 ghost use Rattle.command_line.specs.declared.errand.Errand.TheVariants.{Broker as BrokerErrand, Daemon as DaemonErrand, Mount as MountErrand};
@@ -9,13 +10,14 @@ ghost use Rattle.world_script.specs.ProgramEnd.{name_of};
 ghost use Rattle.daemon_process.specs.Ending.{FailsDaemon};
 ghost use Rattle.script_lines.specs.declared.broker_line.BrokerLine.{BrokerLine};
 ghost use Rattle.world_script.specs.declared.fault.Fault.TheVariants.{CannotWrite};
-ghost use Rattle.edend.specs.Errands.{Names, PrintsFirst, RunsOver, RunsTo, fault_of_broker, fault_of_daemon, fault_of_mount, fault_of_script, over_sockets, start_of};
+ghost use Rattle.edend.specs.Errands.{Names, PrintsFirst, RunsOver, RunsTo, fault_of_broker, fault_of_daemon, fault_of_mount, fault_of_script, over_sockets, owner_of, start_of};
 ghost use Rattle.edend.specs.Note.{IsNoted};
 
 use crate::note::{Note, Noted};
 use broker_process::{BrokerFault, DEVICE, MountFault, Place, run_broker, run_mount};
 use broker_script::{BrokerScriptFault, read_broker_script};
 use daemon_process::{DaemonFault, Orders, Start, run_daemon};
+use mount_wire::FileOwner;
 use std::alloc::Global;
 use std::fs::File;
 use std::io::{self, Read, Write};
@@ -26,7 +28,7 @@ use std::sync::Wait;
 use std::thread::Threads;
 use std::time::Duration;
 use world_script::{
-    BrokerWords, Cause, DaemonWords, Errand, Failure, Fault, MountWords, Process, RunIn,
+    BrokerWords, Cause, DaemonWords, Errand, Failure, Fault, MountWords, Owner, Process, RunIn,
     STANDARD_OUTPUT, Sources, end_errand, gather_lines, read_manifest, read_path, run_process,
 };
 
@@ -260,6 +262,7 @@ fn failure_of_daemon<'a>(fault: DaemonFault, words: &DaemonWords<'a>) -> Failure
     match fault {
         DaemonFault::NoBroker(error) => caused(Fault::NoBroker, words.broker, error),
         DaemonFault::Seated => Failure::plain(Fault::Seated),
+        DaemonFault::Full => Failure::plain(Fault::Full),
         DaemonFault::NoDaemon(error) => caused(Fault::NoDaemon, words.takeover, error),
         DaemonFault::OfferRefused => Failure::plain(Fault::OfferRefused),
         DaemonFault::TakeoverFailed => Failure::plain(Fault::TakeoverFailed),
@@ -298,11 +301,23 @@ fn place_of<'a>(words: &MountWords<'a>) -> Place<'a>
     ensures mountpoint { result.mountpoint.now ≡ words.now.mountpoint.now }
     ensures socket { result.socket.now ≡ words.now.socket.now }
     ensures log { result.log.now ≡ words.now.held.now }
+    ensures owner { result.owner ≡ option_map owner_of words.now.owner }
 {
     Place {
         mountpoint: words.mountpoint,
         socket: words.socket,
         log: words.held,
+        owner: words.owner.map(owner_of),
+    }
+}
+
+/// Returns the owner of a mount's files, as its words name it.
+fn owner_of(owner: Owner) -> FileOwner
+    ensures owner { result ≡ owner_of owner }
+{
+    FileOwner {
+        user: owner.user,
+        group: owner.group,
     }
 }
 

@@ -5,7 +5,7 @@ ghost use Rattle.edend.specs.Note.{IsBroker, IsDaemon, IsMount, IsNoted, Notes};
 use std::alloc::Global;
 use std::io::Write;
 use world_script::{
-    BrokerWords, DaemonWords, Errand, Errands, Failure, Fault, MountWords, Sources, Start,
+    BrokerWords, DaemonWords, Errand, Errands, Failure, Fault, MountWords, Owner, Sources, Start,
 };
 
 /// The words of a broker, with owned strings in place of borrowed ones.
@@ -34,6 +34,7 @@ pub struct NotedMount {
     pub mountpoint: String,
     pub socket: String,
     pub held: String,
+    pub owner: Option<Owner>,
 }
 
 /// An errand, with owned strings in place of borrowed ones.
@@ -128,6 +129,7 @@ impl NotedMount {
             mountpoint,
             socket,
             held,
+            owner: words.owner,
         })
     }
 
@@ -139,6 +141,7 @@ impl NotedMount {
             mountpoint: self.mountpoint.as_str(),
             socket: self.socket.as_str(),
             held: self.held.as_str(),
+            owner: self.owner,
         }
     }
 }

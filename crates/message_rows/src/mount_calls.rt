@@ -6,7 +6,7 @@
 //! - `desk post C G U ANSWER`: the same, for a Post at generation G of the answer to the ask of U
 //! - `desk connect C`: ok. Nobody is known at the connection
 //! - `desk leave C`: ok. The connection ends
-//! - `desk close`: ok
+//! - `desk close`: ok; `desk for-mount`: ok. The desk is one for a mount from then on, to which nobody came yet
 //! - `desk running`: how many daemons run; `desk held N`: how often the kernel holds the number
 //! - `desk issue REQUEST`: the unique, or none for a forget, or the fault
 //! - `desk deliver`: unique and answer, or the fault
@@ -54,14 +54,16 @@ enum DeskCall {
     Held,
     Issue,
     Deliver,
+    ForMount,
 }
 
-static DESK_CALLS: [(&str, DeskCall); 5] = [
+static DESK_CALLS: [(&str, DeskCall); 6] = [
     ("close", DeskCall::Close),
     ("running", DeskCall::Running),
     ("held", DeskCall::Held),
     ("issue", DeskCall::Issue),
     ("deliver", DeskCall::Deliver),
+    ("for-mount", DeskCall::ForMount),
 ];
 
 /// The calls of a kernel.
@@ -204,6 +206,10 @@ pub(crate) fn call_desk(
             return tell_issued(told, mount.desk.issue(&request));
         }
         DeskCall::Deliver => return tell_delivered(told, mount.desk.deliver()),
+        DeskCall::ForMount => {
+            mount.desk = Desk::for_mount(alloc)?;
+            told.word("ok");
+        }
     }
     words.end()
 }

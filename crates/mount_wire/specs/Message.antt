@@ -1,6 +1,6 @@
 -- What a kernel's message comes to: who answers it, and with what (linux/fuse.h; who answers which opcode is this
 -- project's own).
-use Rattle.std.specs.Prelude.{◌≡◌, ℕ, true, ⊤, ◌⊎◌, ◌==◌, List, Option, Some, None, Result, Ok, Err, IsOkAnd, if◌then◌else◌}
+use Rattle.std.specs.Prelude.{◌≡◌, ℕ, true, false, ⊤, ◌⊎◌, ◌==◌, List, Option, Some, None, Result, Ok, Err, IsOkAnd, if◌then◌else◌}
 use Rattle.eden_base.specs.declared.errno.Errno.TheVariants.{ENOSYS, EINVAL}
 use Rattle.fuse_wire.specs.declared.fault.WireFault.{WireFault}
 use Rattle.fuse_wire.specs.declared.fault.WireFault.TheVariants.{NoMemory}
@@ -79,9 +79,14 @@ message_in bytes (Err fault) = Ignored
 unfoldable pub message_of : List ℕ → Message
 message_of bytes = message_in bytes (header_of bytes)
 
+-- the message is no batch, whose items stay in its bytes
+abbrev pub IsNoBatch : List ℕ → Type 0
+IsNoBatch bytes = IsOkAnd (header_of bytes) (λ header. (header.opcode == 42) ≡ false)
+
 -- memory for a request was refused, and the kernel is told so
 pub record Lacks (bytes : List ℕ) (message : Message) : Type 0 where
   pub takes : IsOkAnd (request_of bytes) WantsMemory
+  pub no_batch : IsNoBatch bytes
   pub told : message ≡ daemon_message bytes (Err NoMemory)
 
 -- the message is read as what its bytes come to, unless memory is refused

@@ -25,4 +25,4 @@ pub use offer::{Offer, read_offer};
 pub use owner::{Owner, owner_of};
 pub use reply_bytes::ReplyBytes;
 pub use statfs::answer_statfs;
-pub use told_answer::{MountTime, tell_answer, tell_error};
+pub use told_answer::{FileOwner, MountAttributes, MountTime, tell_answer, tell_error};

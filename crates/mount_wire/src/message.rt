@@ -4,7 +4,7 @@ ghost use Rattle.fuse_wire.specs.FaultReply.{fault_reply_of};
 ghost use Rattle.fuse_wire.specs.Request.{IsSendable};
 ghost use Rattle.mount_wire.specs.Batches.{forgotten_of};
 ghost use Rattle.mount_wire.specs.Init.{offer_of};
-ghost use Rattle.mount_wire.specs.Message.{init_message, many_message, read_message, refused_message, IsForDaemons, Reads, ReadsFor};
+ghost use Rattle.mount_wire.specs.Message.{init_message, many_message, read_message, refused_message, IsForDaemons, IsNoBatch, Reads, ReadsFor};
 
 use crate::opcode::BATCH_FORGET;
 use crate::told_answer::tell_reply;
@@ -75,6 +75,7 @@ fn many_message(bytes: &[u8]) -> Message<'_>
 
 /// Reads a request of an opcode that daemons answer, but for a BATCH_FORGET.
 fn daemon_message<'a>(alloc: Global, bytes: &'a [u8]) -> Message<'a>
+    requires no_batch { IsNoBatch bytes.now }
     ensures reads { ReadsFor bytes.now result }
     ensures for_daemons { IsForDaemons result }
 {

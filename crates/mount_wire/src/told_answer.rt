@@ -1,6 +1,6 @@
 //! A daemon's answer, as the kernel is told it.
 ghost use Rattle.std.specs.Prelude.{◌≡◌, ◌+◌, ◌≤◌, ◌++◌, length};
-ghost use Rattle.mount_wire.specs.Told.{attributes_told, error_text, filled, told_text, with_times};
+ghost use Rattle.mount_wire.specs.Told.{attributes_told, error_text, filled, owner_text, told_text, with_own};
 ghost use Rattle.fuse_wire.specs.ReplyText.{reply_text};
 
 use crate::ReplyBytes;
@@ -12,6 +12,20 @@ use fuse_wire::{Answer, MAX_REPLY_LEN, Reply, write_reply};
 pub struct MountTime {
     pub seconds: u64,
     pub nanoseconds: u32,
+}
+
+/// The user and the group that own each file of a mount.
+#[derive(Clone, Copy, PartialEq, Eq)]
+pub struct FileOwner {
+    pub user: u32,
+    pub group: u32,
+}
+
+/// What the attributes of each file of a mount have in common, and no daemon tells.
+#[derive(Clone, Copy, PartialEq, Eq)]
+pub struct MountAttributes {
+    pub since: MountTime,
+    pub owner: FileOwner,
 }
 
 /// Attributes in a reply: the size of the file, and the offset in the reply at which the blocks and the times stand.
@@ -27,17 +41,23 @@ const BLOCK: u64 = 512;
 /// The length in bytes of these fields of `struct fuse_attr`: blocks, atime, mtime, ctime and their nanoseconds.
 const BLOCKS_AND_TIMES_LEN: usize = 44;
 
+/// The length in bytes of the fields after them: mode, nlink.
+const MODE_AND_LINKS_LEN: usize = 8;
+
+/// The length in bytes of the fields after those: uid, gid.
+const OWNER_LEN: usize = 8;
+
 /// The offset of the blocks in a reply with an entry.
 const ENTRY_BLOCKS: usize = 72;
 
 /// The offset of the blocks in a reply with attributes alone.
 const ATTRS_BLOCKS: usize = 48;
 
-/// Returns the reply with this `unique` that tells `answer`. A daemon tells neither blocks nor times, so they are put
-/// in: the blocks follow from the size, and each time is `since`.
+/// Returns the reply with this `unique` that tells `answer`. A daemon tells neither blocks nor times, and no owner. So
+/// they are put in: the blocks follow from the size, and the others are those of the mount, `own`.
 #[tactic(auto, using(crate::proofs::Texts::texts))]
-pub fn tell_answer(unique: u64, answer: &Answer, since: &MountTime) -> ReplyBytes
-    ensures text { result ≡ told_text unique answer.now since.now }
+pub fn tell_answer(unique: u64, answer: &Answer, own: &MountAttributes) -> ReplyBytes
+    ensures text { result ≡ told_text unique answer.now own.now }
 {
     let reply = Reply {
         unique,
@@ -47,7 +67,7 @@ pub fn tell_answer(unique: u64, answer: &Answer, since: &MountTime) -> ReplyByte
     let len = write_reply(&reply, &mut room);
     let (text, _) = room.split_at(len);
     match attributes_told(answer) {
-        Some(shown) => with_times(text, &shown, since),
+        Some(shown) => with_own(text, &shown, own),
         None => whole(text),
     }
 }
@@ -100,20 +120,34 @@ fn whole(text: &[u8]) -> ReplyBytes
     reply
 }
 
-/// Copies a reply's `text`, in which the attributes that are `shown` get their blocks and times.
-#[tactic(auto, using(crate::proofs::Items::times_apart, crate::proofs::Texts::texts))]
-fn with_times(text: &[u8], shown: &Shown, since: &MountTime) -> ReplyBytes
+/// Copies a reply's `text`, in which the attributes that are `shown` get their blocks, their times and their owner.
+#[tactic(auto, using(crate::proofs::Texts::texts))]
+fn with_own(text: &[u8], shown: &Shown, own: &MountAttributes) -> ReplyBytes
     requires short { length text.now ≤ 160 }
-    requires within { shown.now.offset + 44 ≤ length text.now }
-    ensures timed { result ≡ with_times text.now shown.now since.now }
+    requires within { shown.now.offset + 60 ≤ length text.now }
+    ensures told { result ≡ with_own text.now shown.now own.now }
 {
     let mut reply = ReplyBytes::new();
     let (before, rest) = text.split_at(shown.offset);
-    let (_, after) = rest.split_at(BLOCKS_AND_TIMES_LEN);
+    let (_, rest) = rest.split_at(BLOCKS_AND_TIMES_LEN);
+    let (mode_and_links, rest) = rest.split_at(MODE_AND_LINKS_LEN);
+    let (_, after) = rest.split_at(OWNER_LEN);
     reply.put(before);
-    put_blocks_and_times(&mut reply, shown.size, since);
+    put_blocks_and_times(&mut reply, shown.size, &own.since);
+    reply.put(mode_and_links);
+    put_owner(&mut reply, &own.owner);
     reply.put(after);
     reply
+}
+
+/// Appends the user and the group of an `owner`.
+fn put_owner(reply: &mut ReplyBytes, owner: &FileOwner)
+    requires room { length reply.old + 8 ≤ 160 }
+    ensures put { reply.new ≡ reply.old ++ owner_text owner.now }
+    ensures len { length reply.new ≡ length reply.old + 8 }
+{
+    reply.put_u32(owner.user);
+    reply.put_u32(owner.group);
 }
 
 /// Appends how many blocks a file of this `size` has, and its times.

@@ -3,7 +3,7 @@ use crate::timed::Timed;
 use crate::{Deadline, Writer};
 use links::{Frame, FrameFault, read_frame, write_frame};
 use std::alloc::Global;
-use std::io::{self, BufReader};
+use std::io::{self, BufRead, BufReader};
 use std::net::Net;
 use std::os::unix::net::UnixStream;
 use std::rt::Clock;
@@ -67,6 +67,13 @@ impl<'a, R: Clock> Connection<'a, R> {
     /// Returns whether the last read gave up at its deadline before a frame began. It may be made again then.
     pub fn is_silent(&self) -> bool {
         self.reader.get_ref().is_silent()
+    }
+
+    /// Waits until something comes, or the other end closes the connection. Returns whether that was so by `deadline`. What
+    /// came is kept for the next read.
+    pub fn hears(&mut self, deadline: Deadline) -> bool {
+        self.reader.get_mut().end_by(deadline);
+        self.reader.fill_buf().is_ok()
     }
 
     /// Writes `frame`. After a fault the caller has to close the connection.

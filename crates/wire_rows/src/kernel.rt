@@ -5,11 +5,12 @@
 //! `kernel init BYTES`: the bytes of the reply to it; `kernel statfs UNIQUE`: the bytes of the reply;
 //! `kernel items BYTES`: the items of a batch of forgets, each as the 16 bytes that it has there;
 //! `kernel read BYTES`: what becomes of a message: `asked UNIQUE REQUEST`, `forgot N K`, `forgot_many`, `ignored`, or the
-//! bytes of a reply; `kernel error UNIQUE ERRNO`, `kernel tell UNIQUE SECONDS NANOSECONDS ANSWER`: the bytes of that reply.
+//! bytes of a reply; `kernel error UNIQUE ERRNO`, `kernel tell UNIQUE SECONDS NANOSECONDS USER GROUP ANSWER`: the bytes of
+//! that reply.
 use mount_wire::{
-    Agreement, BatchReader, Message, MountFault, MountTime, Offer, Owner, RequestHeader, agree,
-    answer_init, answer_statfs, owner_of, read_header, read_message, read_offer, tell_answer,
-    tell_error,
+    Agreement, BatchReader, FileOwner, Message, MountAttributes, MountFault, MountTime, Offer,
+    Owner, RequestHeader, agree, answer_init, answer_statfs, owner_of, read_header, read_message,
+    read_offer, tell_answer, tell_error,
 };
 use row_words::{
     Fault, Told, Words, chosen, read_answer, read_errno, read_u32, tell_items, tell_request,
@@ -185,17 +186,27 @@ fn call_message(call: &[u8], words: &mut Words<'_>, told: &mut Told) -> Result<(
     words.end()
 }
 
+/// Reads what the attributes of each file of a mount have in common.
+fn read_attributes(words: &mut Words<'_>) -> MountAttributes {
+    let seconds = words.number();
+    let nanoseconds = read_u32(words);
+    let user = read_u32(words);
+    let group = read_u32(words);
+    MountAttributes {
+        since: MountTime {
+            seconds,
+            nanoseconds,
+        },
+        owner: FileOwner { user, group },
+    }
+}
+
 /// Tells an answer.
 fn call_tell(words: &mut Words<'_>, told: &mut Told) -> Result<(), Fault> {
     let unique = words.number();
-    let seconds = words.number();
-    let nanoseconds = read_u32(words);
+    let own = read_attributes(words);
     let answer = read_answer(words)?;
-    let since = MountTime {
-        seconds,
-        nanoseconds,
-    };
-    told.bytes(tell_answer(unique, &answer, &since).as_slice());
+    told.bytes(tell_answer(unique, &answer, &own).as_slice());
     Ok(())
 }
 

@@ -3,7 +3,7 @@ use Rattle.std.specs.Prelude.{ℕ, List, [], ◌∷◌, ◌++◌, codes}
 use Rattle.std.specs.Fmt.{decimal}
 use Rattle.manifest.specs.Words.{kind_text}
 use Rattle.world_script.specs.declared.fault.Fault.{Fault}
-use Rattle.world_script.specs.declared.fault.Fault.TheVariants.{CannotRead, TooLong, NoEvents, BadManifest, BadLine, NoMemory, CannotWrite, CannotListen, NoBroker, Seated, NoDaemon, OfferRefused, TakeoverFailed, NoThread, Broken, NoLog, NoDevice, CannotMount}
+use Rattle.world_script.specs.declared.fault.Fault.TheVariants.{CannotRead, TooLong, NoEvents, BadManifest, BadLine, NoMemory, CannotWrite, CannotListen, NoBroker, Seated, Full, NoDaemon, OfferRefused, TakeoverFailed, NoThread, Broken, NoLog, NoDevice, CannotMount}
 
 -- the text of a fault
 abbrev pub fault_text : Fault → List ℕ
@@ -17,6 +17,7 @@ fault_text CannotWrite = codes "cannot write"
 fault_text CannotListen = codes "cannot listen"
 fault_text NoBroker = codes "no broker"
 fault_text Seated = codes "seated"
+fault_text Full = codes "full"
 fault_text NoDaemon = codes "no daemon"
 fault_text OfferRefused = codes "offer refused"
 fault_text TakeoverFailed = codes "takeover failed"

@@ -35,6 +35,8 @@ pub enum Fault {
     NoBroker,
     /// The broker has a daemon that serves already.
     Seated,
+    /// As many daemons are at the broker as may be.
+    Full,
     /// No daemon listens at the socket by which a new daemon reaches the one that it takes over from.
     NoDaemon,
     /// The daemon that serves refused the offer of a takeover.
@@ -80,6 +82,7 @@ impl fmt::Display for Fault {
             Fault::CannotListen => f.write_str("cannot listen"),
             Fault::NoBroker => f.write_str("no broker"),
             Fault::Seated => f.write_str("seated"),
+            Fault::Full => f.write_str("full"),
             Fault::NoDaemon => f.write_str("no daemon"),
             Fault::OfferRefused => f.write_str("offer refused"),
             Fault::TakeoverFailed => f.write_str("takeover failed"),

@@ -15,7 +15,7 @@ mod run_error;
 mod script;
 mod sources;
 
-pub use command_line::{BrokerWords, DEFAULT_LIMIT, DaemonWords, Errand, MountWords, Start};
+pub use command_line::{BrokerWords, DEFAULT_LIMIT, DaemonWords, Errand, MountWords, Owner, Start};
 pub use errands::Errands;
 pub use failure::{Cause, Failure, STANDARD_OUTPUT};
 pub use fault::{Fault, write_fault};

@@ -6,9 +6,11 @@ ghost use Rattle.broker_process.specs.Serving.{IsHeard};
 ghost use Rattle.broker_process.specs.declared.hall.mounted.Next.TheVariants.{Gone, Nothing, Over};
 ghost use Rattle.broker_process.specs.declared.service.MountEnd.TheVariants.{Dead, Unmounted};
 
-use super::{Hall, LONGEST_SLEEP, PAUSE, State, Waiting};
+use super::{Agreed, Granted, Hall, LONGEST_SLEEP, PAUSE, State, Waiting};
 use crate::service::MountEnd;
+use broker_desk::Response;
 use fuse_wire::{Answer, Reply};
+use links::Frame;
 use mount_desk::{Delivered, Forgot, Progress, take_back};
 use mount_wire::Message;
 use std::rt::Clock;
@@ -103,6 +105,28 @@ impl Hall {
                 return generation;
             }
             self.events
+                .sleep(rt, seen, Duration::from_millis(LONGEST_SLEEP));
+        }
+        unreachable!()
+    }
+
+    /// Notes that the kernel agreed to the mount for the seat at `generation`, so that its daemon hears of it.
+    pub(crate) fn note_agreed<R: Wait>(&self, rt: &R, generation: u64) {
+        self.state.lock(rt).agreed = Agreed::To(generation);
+        self.asks.notify_all();
+    }
+
+    /// Answers the Mount of a daemon that has the seat at `generation` once the kernel agreed. Where no mount is made, the
+    /// connection is closed.
+    pub(super) fn answer_mount<R: Wait>(&self, rt: &R, generation: u64) -> Response {
+        for _ in rt.forever() {
+            let seen = self.asks.notifications();
+            match self.state.lock(rt).granted(generation) {
+                Granted::Now => return Response::Tells(Frame::Mounted { generation }),
+                Granted::Never => return Response::Closes,
+                Granted::Later => {}
+            }
+            self.asks
                 .sleep(rt, seen, Duration::from_millis(LONGEST_SLEEP));
         }
         unreachable!()

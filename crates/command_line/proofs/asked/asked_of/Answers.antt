@@ -6,7 +6,7 @@ use Rattle.clap.specs.Words.{App, FailsBy, HasKind, Kinds, Row, Text, fault_of, 
 use Rattle.clap.specs.Kinds.{or_else}
 use Rattle.clap.specs.declared.error.Error.{Error}
 use Rattle.command_line.specs.Asked.{IsAsked, IsScript}
-use Rattle.command_line.specs.CommandLine.{command_of, edend_app, start_fault_in}
+use Rattle.command_line.specs.CommandLine.{command_of, edend_app, words_fault_in}
 use Rattle.command_line.specs.declared.asked.Asked.{Asked}
 use Rattle.command_line.proofs.AskedLemmas.{fails_first, only_memory, plain_asked}
 use Rattle.command_line.proofs.PlainWords.{plainly}
@@ -44,8 +44,8 @@ sub_is c =
 asked_is : (c : goal.Joined-matches) → IfOk c.asked_in.result (IsAsked (command_of (map string_bytes c.args.words.now)))
 asked_is c = subst (λ (sub : Option (Text × List Row)). IfOk c.asked_in.result (IsAsked sub)) (sub_is c) c.asked_in.ensures.asked
 
-fails_as : (c : goal.Joined-matches) → FailsBy (start_fault_in (command_of (map string_bytes c.args.words.now))) c.asked_in.result
-fails_as c = subst (λ (sub : Option (Text × List Row)). FailsBy (start_fault_in sub) c.asked_in.result) (sub_is c) c.asked_in.ensures.refused
+fails_as : (c : goal.Joined-matches) → FailsBy (words_fault_in (command_of (map string_bytes c.args.words.now))) c.asked_in.result
+fails_as c = subst (λ (sub : Option (Text × List Row)). FailsBy (words_fault_in sub) c.asked_in.result) (sub_is c) c.asked_in.ensures.refused
 
 pub returns-clause-asked : goal.returns-clause-asked
 returns-clause-asked c = asked_is c
@@ -59,4 +59,4 @@ returns-clause-refused c =
     let texts : List Text = map string_bytes c.args.words.now in
     let app_is = c.in_ok-command.ensures in
     let none : fault_of edend_app texts ≡ [] = ap (λ (a : App). fault_of a texts) (sym app_is) ∙ c.in_ok-matches.ensures.kinds (ap is_simple_and_free app_is ∙ edend_is_free) in
-    subst (λ (kinds : Kinds). FailsBy (or_else kinds (start_fault_in (command_of texts))) c.asked_in.result) (sym none) (fails_as c)
+    subst (λ (kinds : Kinds). FailsBy (or_else kinds (words_fault_in (command_of texts))) c.asked_in.result) (sym none) (fails_as c)

@@ -8,4 +8,5 @@ returns c =
     let told = with_after_help _ _ _ _ c.after_help.ensures (with_about _ _ _ _ c.about.ensures (made _ _ c.new.ensures.app c.new.ensures.local)) in
     let mountpoint = with_arg _ _ _ _ _ c.word_arg.ensures.rule c.word_arg.ensures.own told c.in_ok-arg.ensures in
     let socket = with_arg _ _ _ _ _ c.word_arg-2.ensures.rule c.word_arg-2.ensures.own mountpoint c.in_ok-arg-2.ensures in
-    IfOk-weaker c.arg-3.result _ _ (λ command adds. with_arg _ _ _ _ _ c.held_arg.ensures.rule c.held_arg.ensures.own socket adds) c.arg-3.ensures
+    let held = with_arg _ _ _ _ _ c.held_arg.ensures.rule c.held_arg.ensures.own socket c.in_ok-arg-3.ensures in
+    IfOk-weaker c.arg-4.result _ _ (λ command adds. with_arg _ _ _ _ _ c.owner_arg.ensures.rule c.owner_arg.ensures.own held adds) c.arg-4.ensures
