@@ -5,6 +5,7 @@ use Rattle.map_codec.specs.Taking.{IsImageOf}
 use Rattle.map_image.specs.Versions.{form_of, named_by}
 use Rattle.map_image.specs.Writing.{refusal}
 use Rattle.map_image.specs.declared.image.Image.{Image}
+use Rattle.map_image.specs.declared.version.NamedBy.{NamedBy}
 use Rattle.map_codec.specs.Handover.{IsHandingRefusal, IsTextRefusal}
 use Rattle.map_codec.specs.declared.fault.HandoverFault.{HandoverFault}
 use Rattle.map_codec.specs.declared.fault.HandoverFault.TheVariants.{Refused, NoMemory}
@@ -19,7 +20,10 @@ handing_refused served at version image known is (Err Refused) refused = λ othe
 handing_refused served at version image known is (Err NoMemory) refused = known
 
 pub returns-in-Ok-clause-refused : goal.returns-in-Ok-clause-refused
-returns-in-Ok-clause-refused c = handing_refused c.args.served.now c.args.generation c.args.version c.in-Ok.image (search rules) c.in-Ok.ensures.image c.text_of-text.result c.text_of-text.ensures.refused
+returns-in-Ok-clause-refused c =
+    handing_refused c.args.served.now c.args.generation c.args.version c.in-Ok.image (search rules)
+    (subst (λ (by : NamedBy). IsImageOf c.args.served.now c.args.generation by c.in-Ok.image) c.named_by.ensures.by c.in-Ok.ensures.image)
+    c.text_of-text.result c.text_of-text.ensures.refused
 
 -- What a wrong body of must-fail/ breaks; an answer makes its refusal cheap.
 pub returns-in-Err-clause-refused : goal.returns-in-Err-clause-refused
