@@ -14,6 +14,7 @@ use daemon::Lease;
 use daemon_desk::{Claiming, DaemonDesk, Hearing, Mounting};
 use eden_base::NoMemory;
 use links::Frame;
+use non_blocking::Notes;
 use std::alloc::Global;
 use std::mem;
 use std::net::Shutdown;
@@ -62,6 +63,7 @@ pub(crate) enum Next {
 pub(crate) struct Shared {
     state: Mutex<State>,
     changes: Condvar,
+    notes: Notes,
 }
 
 impl State {
@@ -162,8 +164,8 @@ impl State {
 }
 
 impl Shared {
-    /// Makes the shared state over `desk`, with no exit and no round.
-    pub(crate) fn new(desk: DaemonDesk) -> Shared {
+    /// Makes the shared state over `desk`, with no exit and no round. Notes are said by `notes`.
+    pub(crate) fn new(desk: DaemonDesk, notes: Notes) -> Shared {
         Shared {
             state: Mutex::new(State {
                 desk,
@@ -175,7 +177,13 @@ impl Shared {
                 waits_at: None,
             }),
             changes: Condvar::new(),
+            notes,
         }
+    }
+
+    /// Returns the handle by which threads say notes.
+    pub(crate) fn notes(&self) -> &Notes {
+        &self.notes
     }
 
     /// Returns how many changes were signalled.
