@@ -216,3 +216,21 @@ def a_peer_that_does_not_read_stops_nobody(room):
     broker.printed(2)
     broker.ends(["seat 1", f"answer 1 {ATTR_1}", "ended"])
     daemon.ends(["serving 1", "ended"])
+
+
+@row
+def attaching_in_vain_buys_no_time(room):
+    """A connection that attaches again and again for a daemon that isn't there is closed two seconds after it came."""
+    room.broker("seat 1")
+    it = room.peer()
+    began = time.monotonic()
+    while time.monotonic() < began + WAIT:
+        try:
+            answer = it.ask("Attach", u64(77))
+        except OSError:
+            break
+        if answer is None:
+            break
+        same(answer, ("Ended", b""))
+        time.sleep(0.05)
+    took_between(1.5, time.monotonic() - began, 6, "it was closed")

@@ -14,7 +14,8 @@ CROWD = 2000
 # A program without a proof takes milliseconds for each connection.
 CROWD_OF_UNPROVED = 500
 UPGRADES, UPGRADES_OF_UNPROVED = 18, 6
-# Two seconds, which a daemon has by itself. A program without a proof may take them for what waits in the system's queue.
+# The patience of two seconds, which a daemon has by itself. A program without a proof may take them for what waits in
+# the system's queue.
 PATIENCE, PATIENCE_OF_UNPROVED = None, "20000"
 
 
@@ -30,8 +31,8 @@ def connected(path):
 
 
 def behind_a_crowd(room, comes):
-    """Shows that a new daemon is through within its patience, which is two seconds, behind a crowd of connections that came
-    while the old one stood still. `comes` makes one of them, and returns it where it is to stay open."""
+    """Shows that a new daemon is through within its patience, which is two seconds, behind a crowd of connections that
+    came while the old one stood still. `comes` makes one of them, and returns it where it is to stay open."""
     allow_many_files()
     broker = room.broker("seat 1", "seat 2")
     old = room.mount(patience=None)
@@ -125,8 +126,8 @@ class Flood:
 
 @row
 def eighteen_upgrades_below_a_flood(room):
-    """Daemons take over eighteen times from one another, each of a patience of two seconds, while three threads connect to
-    their socket as often as they can."""
+    """Daemons take over eighteen times from one another, each of a patience of two seconds, while three threads connect
+    to their socket as often as they can."""
     count, patience = (UPGRADES, PATIENCE) if room.is_proved else (UPGRADES_OF_UNPROVED, PATIENCE_OF_UNPROVED)
     allow_many_files()
     broker = room.broker(*(f"seat {number}" for number in range(1, count + 2)))

@@ -1,5 +1,5 @@
-"""Rows: broker and daemons of a real mount stand still for twenty seconds in each phase of a takeover, one or all, and then
-go on. The mount serves on, and no call of a program fails."""
+"""Rows: broker and daemons of a real mount stand still for twenty seconds in each phase of a takeover, one or all, and
+then go on. The mount serves on, and no call of a program fails."""
 import concurrent.futures
 import os
 import signal

@@ -1,33 +1,17 @@
-"""Rows: lines that can't be printed, since a disk is full or nobody reads a pipe."""
-import contextlib
+"""Rows: lines that can't be printed, since a disk is full, a stream is closed or nobody reads a pipe."""
 import os
 import struct
 
-from process_rows.checks import WAIT, row, same
-from process_rows.daemons import handed_over, mounted_anew
+from process_rows.checks import PATIENCE, WAIT, row, same
+from process_rows.daemons import handed_over, offered
 from process_rows.frames import u64
-from process_rows.rooms import STARTING, run_to_end
-
-FULL = "edend: standard output: No space left on device (os error 28)\n"
-CLOSED = "edend: standard output: Broken pipe (os error 32)\n"
+from process_rows.printing_to import ALL_SINKS, CLOSED, SINKS, full_disk, printing_to
+from process_rows.rooms import ATTR_1, STARTING, run_to_end
 
 
-@contextlib.contextmanager
-def full_disk():
-    with open("/dev/full", "wb") as full:
-        yield full
-
-
-@contextlib.contextmanager
-def closed_pipe():
-    unread, pipe = os.pipe()
-    with STARTING:
-        os.close(unread)
-    yield pipe
-    os.close(pipe)
-
-
-SINKS = ((full_disk, FULL), (closed_pipe, CLOSED))
+def daemon_to(out, room, how):
+    """Starts a daemon that prints to `out`."""
+    return printing_to(out, room, "daemon", how, "--patience", PATIENCE, "broker.sock", "takeover.sock", "m")
 
 
 class Pipe:
@@ -46,32 +30,15 @@ class Pipe:
         return lines
 
 
-def ends_unprinted(running, said):
+def ends_unprinted(running, said, status=1):
     """Compares the end of a process whose line could not be printed."""
-    same(running.child.wait(WAIT), 1)
+    same(running.child.wait(WAIT), status)
     same(running.said(), said)
 
 
 @row
-def what_cannot_be_printed_ends_a_process(room):
-    """A broker or a daemon whose line can't be printed ends, and the others see it go."""
-    room.write("waits", b"seat 1\nseat 2\n")
-    with open("/dev/full", "wb") as full:
-        broker = room.run("broker", "broker.sock", "waits", stdout=full)
-        room.await_socket(room.broker_at)
-        daemon = room.mount()
-        broker.ends([], 1, "standard output: ")
-        same(daemon.ending(), ("fault: broken", 1))
-        broker = room.broker("seat 2")
-        room.run("daemon", "--mount", "broker.sock", "takeover.sock", "m", stdout=full).ends([], 1, "standard output: ")
-    second = room.mount()
-    broker.ends(["seat 2", "ended"])
-    second.ends(["serving 2", "ended"])
-
-
-@row
 def a_first_line_may_not_be_printed(room):
-    """A broker and a daemon whose first line meets a full disk or a closed pipe end with status 1, and say why."""
+    """A broker whose first line meets a full disk or a closed pipe ends with status 1, says why, and its daemon ends."""
     room.write("waits", b"seat 1\nseat 9\n")
     for sink, said in SINKS:
         with sink() as out:
@@ -80,11 +47,39 @@ def a_first_line_may_not_be_printed(room):
             daemon = room.mount()
             ends_unprinted(broker, said)
             same(daemon.ending(), ("fault: broken", 1))
-            broker = room.broker("seat 2")
-            ends_unprinted(room.mount(stdout=out), said)
-        room.mount().ends(["serving 2", "ended"])
-        broker.ends(["seat 2", "ended"])
-        os.unlink(room.takeover_at)
+            os.unlink(room.takeover_at)
+
+
+@row
+def lines_that_cannot_be_printed_are_dropped(room):
+    """A daemon whose lines can't be printed serves on, over takeovers that come to nothing, until one succeeds. It ends as
+    any other, and says that its lines were lost."""
+    for sink, said in ALL_SINKS:
+        inner = room.inner()
+        broker = inner.broker("seat 1", "seat 2", "ask getattr 1", "seat 3", "ask getattr 1")
+        with sink() as out, sink() as other:
+            daemon = daemon_to(out, inner, "--mount")
+            inner.await_socket(inner.takeover_at)
+            offered(inner).close()
+            handed_over(inner, 2)
+            broker.printed(f"answer 1 {ATTR_1}")
+            new = daemon_to(other, inner, "--takeover")
+            broker.ends(["seat 1", "seat 2", f"answer 1 {ATTR_1}", "seat 3", f"answer 2 {ATTR_1}", "ended"])
+            ends_unprinted(daemon, said, 0)
+            ends_unprinted(new, said, 0)
+        inner.clear()
+
+
+@row
+def a_reader_may_leave(room):
+    """A daemon of whose lines somebody reads the first one, and then no more, serves on and ends well."""
+    pipe = Pipe()
+    broker = room.broker("seat 1", "seat 2", "ask getattr 1")
+    daemon = room.mount(stdout=pipe.writes)
+    same(pipe.lines(1), ["serving 1"])
+    handed_over(room)
+    broker.ends(["seat 1", "seat 2", f"answer 1 {ATTR_1}", "ended"])
+    ends_unprinted(daemon, CLOSED, 0)
 
 
 @row
@@ -118,30 +113,6 @@ def acts_by_hand(room):
         same((worker.read() or ("Posted",))[0], "Posted")
 
     return [lambda: first.ask("Mount"), lambda: post(1), lambda: post(2), other.close]
-
-
-@row
-def a_later_line_of_a_daemon_may_not_be_printed(room):
-    """A daemon whose pipe is closed behind its first line ends at the next one, whichever that is."""
-    for number, (script, ending) in enumerate((
-        (("seat 1", "seat 3"), lambda inner: handed_over(inner)),
-        (("seat 1", "seat 2"), lambda inner: inner.take_over().ends(["serving 2", "ended"])),
-        (("seat 1",), lambda inner: None),
-    )):
-        inner, pipe = room.inner(), Pipe()
-        # The broker's script ends once the pipe is closed, and another daemon has gone.
-        broker = inner.broker(*script)
-        guest = inner.peer()
-        guest.attach()
-        daemon = inner.mount(stdout=pipe.writes)
-        same(pipe.lines(1), ["serving 1"])
-        guest.close()
-        ending(inner)
-        ends_unprinted(daemon, CLOSED)
-        if number == 0:
-            mounted_anew(inner).ends(["serving 3", "ended"])
-        same(broker.ending(), ("ended", 0))
-        inner.clear()
 
 
 @row

@@ -17,8 +17,8 @@ def stands_still(process, seconds):
 
 @row
 def an_old_daemon_that_stands_still_counts_no_silence(room):
-    """A daemon of a patience of one second stands still for three while it waits for a new one's answer, and again behind
-    the data: the takeover goes on where it was."""
+    """A daemon of a patience of one second stands still for three while it waits for a new one's answer, and again
+    behind the data: the takeover goes on where it was."""
     broker, daemon = serving(room, "--patience", "1000", script=("seat 1", "seat 2", "ask getattr 1"))
     it = offered(room)
     stands_still(daemon, 3)
@@ -88,7 +88,7 @@ def a_broker_that_stands_still_counts_no_silence(room):
 
 @row
 def a_daemon_that_stands_still_within_a_frame(room):
-    """A daemon that waits for the rest of its broker's answer stands still for seven seconds, and takes the rest then."""
+    """A daemon that waits for the rest of its broker's answer stands still for seven seconds, and takes it then."""
     daemon, _first, worker = mounted_by_hand(room)
     text = frame("Ended")
     worker.end.sendall(text[:3])

@@ -18,7 +18,7 @@ DELAY = 0.2
 
 
 class StoppedRun:
-    """A mount that is taken over from daemon to daemon, by attempts of which some fail, since a frozen daemon is given up."""
+    """A mount that is taken over from daemon to daemon, by attempts of which some fail: a frozen daemon is given up."""
 
     def __init__(self, room, seed=1):
         room.timer.cancel()

@@ -4,7 +4,7 @@ import subprocess
 
 from process_rows.checks import row, same
 from process_rows.frames import u64
-from process_rows.rooms import ATTR_1, MANIFEST
+from process_rows.rooms import ATTR_1, MANIFEST, STARTING
 
 
 def given(running, text):
@@ -95,3 +95,18 @@ def a_manifest_from_standard_input_is_served(room):
     given(daemon, MANIFEST)
     broker.ends(["seat 1", "answer 1 entry 2 dir 0755 0 2", f"answer 2 {ATTR_1}", "ended"])
     daemon.ends(["serving 1", "ended"])
+
+
+@row
+def a_terminal_is_told_that_a_script_is_read(room):
+    """Without a word the program says that it reads a script from standard input, if that is a terminal."""
+    keys, terminal = os.openpty()
+    it = room.run(stdin=terminal)
+    os.write(keys, b"\x04")
+    it.ends(["fault: no events"], 1, "edend: reads a script from standard input, to its end\n")
+    with STARTING:
+        os.close(keys)
+        os.close(terminal)
+    silent = room.run()
+    silent.ends(["fault: no events"], 1)
+    same(silent.said(), "")

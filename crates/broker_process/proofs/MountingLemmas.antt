@@ -1,14 +1,13 @@
 -- Lemmas on the lines of mounts, one mount after another.
 use Rattle.std.proofs.Common.{◌≡◌, ◌⊎◌, ℕ, List, [], ◌∷◌, ◌++◌, Option, Result, Ok, Err, inl, inr, refl, sym, ap, subst, ◌∙◌}
-use Rattle.std.specs.Prelude.{OnOk, map}
-use Rattle.std.specs.Io.KnownBytes.{Appends, Keeps}
+use Rattle.std.specs.Prelude.{map}
+use Rattle.std.specs.Io.KnownBytes.{Appends}
 use Rattle.std.specs.List.{concat}
 use Rattle.std.proofs.KnownBytes.{Appends-nil, Appends-trans}
 use Rattle.std.proofs.lemmas.List.{append-nil, map-append}
 use Rattle.std.proofs.lemmas.List.Folds.{concat-append}
 use Rattle.broker_process.specs.Mounting.{PrintsDead, PrintsMount, PrintsThen, RunsMount, end_line, lines_by, mounted_line}
 use Rattle.broker_process.specs.declared.fault.MountFault.{MountFault}
-use Rattle.broker_process.specs.declared.fault.MountFault.TheVariants.{CannotListen, NoMemory, NoThread, NoLog, NoDevice, CannotMount, Broken, CannotWrite}
 use Rattle.broker_process.specs.declared.service.MountEnd.{MountEnd}
 use Rattle.broker_process.specs.declared.service.MountEnd.TheVariants.{Unmounted, Dead}
 
@@ -19,31 +18,10 @@ dead-none known = ([], Appends-nil known)
 abbrev Left : Option (List ℕ) → Option (List ℕ) → Type 0
 Left old new = PrintsDead old new ⊎ PrintsThen mounted_line old new
 
-pub fails-so : (fault : MountFault) (old new : Option (List ℕ)) → Left old new → RunsMount (Err fault) old new
-fails-so (CannotListen error) old new left = left
-fails-so NoMemory old new left = left
-fails-so NoThread old new left = left
-fails-so (NoLog error) old new left = left
-fails-so (NoDevice error) old new left = left
-fails-so (CannotMount error) old new left = left
-fails-so (Broken error) old new left = left
-fails-so (CannotWrite error) old new left = tt
-
--- a mount that fails before or after its line
-pub mount-fails : (generation : ℕ) (fault : MountFault) (old new : Option (List ℕ)) → Appends old new [] ⊎ Appends old new (mounted_line generation) → PrintsMount generation (Err fault) old new
-mount-fails generation (CannotListen error) old new left = left
-mount-fails generation NoMemory old new left = left
-mount-fails generation NoThread old new left = left
-mount-fails generation (NoLog error) old new left = left
-mount-fails generation (NoDevice error) old new left = left
-mount-fails generation (CannotMount error) old new left = left
-mount-fails generation (Broken error) old new left = left
-mount-fails generation (CannotWrite error) old new left = tt
-
 -- a mount that began, whatever becomes of it
 pub mount-began : (generation : ℕ) (result : Result MountEnd MountFault) (old new : Option (List ℕ)) → Appends old new (mounted_line generation) → PrintsMount generation result old new
 mount-began generation (Ok end) old new line = line
-mount-began generation (Err fault) old new line = mount-fails generation fault old new (inr line)
+mount-began generation (Err fault) old new line = inr line
 
 -- nothing more, after the lines of dead mounts
 dead-same : (old mid new : Option (List ℕ)) → PrintsDead old mid → Appends mid new [] → PrintsDead old new
@@ -57,14 +35,7 @@ left-by generation old mid new was (inr line) = inr (mid, was, (generation, line
 
 -- one more mount fails
 pub then-fails : (generation : ℕ) (fault : MountFault) (old mid new : Option (List ℕ)) → PrintsDead old mid → PrintsMount generation (Err fault) mid new → RunsMount (Err fault) old new
-then-fails generation (CannotListen error) old mid new was prints = left-by generation old mid new was prints
-then-fails generation NoMemory old mid new was prints = left-by generation old mid new was prints
-then-fails generation NoThread old mid new was prints = left-by generation old mid new was prints
-then-fails generation (NoLog error) old mid new was prints = left-by generation old mid new was prints
-then-fails generation (NoDevice error) old mid new was prints = left-by generation old mid new was prints
-then-fails generation (CannotMount error) old mid new was prints = left-by generation old mid new was prints
-then-fails generation (Broken error) old mid new was prints = left-by generation old mid new was prints
-then-fails generation (CannotWrite error) old mid new was prints = tt
+then-fails generation fault old mid new was prints = left-by generation old mid new was prints
 
 -- both lines of a mount
 both-lines : (generation : ℕ) (end : MountEnd) (old mid new : Option (List ℕ)) → Appends old mid (mounted_line generation) → Appends mid new (end_line end) → Appends old new (lines_by end generation)
@@ -80,21 +51,19 @@ dead-more generation old mid new was lines =
     (was.0 ++ generation ∷ [], subst (Appends old new) (sym joined) (Appends-trans old mid new (concat before) (lines_by Dead generation) was.1 lines))
 
 -- the line of a mount's end was printed
-appended : {E : Type 0} (end known : MountEnd) (line : List ℕ) (printed : Result (Unit {0}) E) (done : Unit {0}) (between new : Option (List ℕ)) →
-    line ≡ end_line end → end ≡ known → printed ≡ Ok done → OnOk printed (Appends between new line) → Appends between new (end_line known)
-appended end known line (Ok fine) done between new is same ok told = subst (Appends between new) (is ∙ ap end_line same) told
-appended end known line (Err error) done between new is same ok told = cc
+appended : (end known : MountEnd) (between new : Option (List ℕ)) → end ≡ known → Appends between new (end_line end) → Appends between new (end_line known)
+appended end known between new same told = subst (Appends between new) (ap end_line same) told
 
 -- somebody unmounted, and that was printed
-pub ends-well : {E : Type 0} (generation : ℕ) (end : MountEnd) (line : List ℕ) (printed : Result (Unit {0}) E) (done : Unit {0}) (old mid between new : Option (List ℕ)) →
-    PrintsDead old mid → Appends mid between (mounted_line generation) → line ≡ end_line end → end ≡ Unmounted → printed ≡ Ok done → OnOk printed (Appends between new line) →
+pub ends-well : (generation : ℕ) (end : MountEnd) (old mid between new : Option (List ℕ)) →
+    PrintsDead old mid → Appends mid between (mounted_line generation) → end ≡ Unmounted → Appends between new (end_line end) →
     PrintsThen (lines_by Unmounted) old new
-ends-well generation end line printed done old mid between new was first is same ok told =
-    (mid, was, (generation, both-lines generation Unmounted mid between new first (appended end Unmounted line printed done between new is same ok told)))
+ends-well generation end old mid between new was first same told =
+    (mid, was, (generation, both-lines generation Unmounted mid between new first (appended end Unmounted between new same told)))
 
 -- a daemon died, and that was printed
-pub goes-on : {E : Type 0} (generation : ℕ) (end : MountEnd) (line : List ℕ) (printed : Result (Unit {0}) E) (done : Unit {0}) (old mid between new : Option (List ℕ)) →
-    PrintsDead old mid → Appends mid between (mounted_line generation) → line ≡ end_line end → end ≡ Dead → printed ≡ Ok done → OnOk printed (Appends between new line) →
+pub goes-on : (generation : ℕ) (end : MountEnd) (old mid between new : Option (List ℕ)) →
+    PrintsDead old mid → Appends mid between (mounted_line generation) → end ≡ Dead → Appends between new (end_line end) →
     PrintsDead old new
-goes-on generation end line printed done old mid between new was first is same ok told =
-    dead-more generation old mid new was (both-lines generation Dead mid between new first (appended end Dead line printed done between new is same ok told))
+goes-on generation end old mid between new was first same told =
+    dead-more generation old mid new was (both-lines generation Dead mid between new first (appended end Dead between new same told))

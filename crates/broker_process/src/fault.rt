@@ -33,8 +33,6 @@ pub enum MountFault {
     CannotMount(io::Error),
     /// The device can't be read any more.
     Broken(io::Error),
-    /// What happened could not be printed.
-    CannotWrite(io::Error),
 }
 
 impl From<AllocError> for MountFault {

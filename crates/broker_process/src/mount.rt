@@ -1,7 +1,7 @@
 //! A broker whose kernel is a real one: it mounts, and mounts anew for the next daemon where one dies.
-ghost use Rattle.std.specs.Prelude.{◌≡◌, Err, OnOk};
+ghost use Rattle.std.specs.Prelude.{◌≡◌, Err};
 ghost use Rattle.std.specs.Io.KnownBytes.{Appends};
-ghost use Rattle.broker_process.specs.Mounting.{PrintsMount, RunsMount, mounted_line};
+ghost use Rattle.broker_process.specs.Mounting.{PrintsMount, RunsMount, end_line, mounted_line};
 
 use crate::control::Control;
 use crate::device::{check_place, clear_dead_mount, mount, open_device, own_user};
@@ -12,10 +12,11 @@ use crate::service::{MountEnd, Mounted, serve};
 use crate::unmounter::{MountPoint, Unmounter};
 use eden_base::NoMemory;
 use mount_wire::{FileOwner, MountAttributes, MountTime};
+use non_blocking::{Unblock, write_behind};
 use sockets::{Closer, changed_at, listen_alone_at, remove_unchanged};
 use std::alloc::Global;
 use std::fs::File;
-use std::io::{self, BufWriter, Write};
+use std::io::{self, BufWriter, ErrorKind};
 use std::net::Net;
 use std::os::unix::net::UnixListener;
 use std::process::Processes;
@@ -44,14 +45,19 @@ pub struct Place<'a> {
     pub owner: Option<FileOwner>,
 }
 
-/// Mounts at a `place` what daemons serve that reach the broker there, and writes to `out` when a mount begins and ends.
-/// Returns after somebody unmounted and every daemon left, and removes the socket.
+/// Mounts at a `place` what daemons serve that reach the broker there, and tells `out` when a mount begins and ends: a line
+/// that can't be written is dropped, and nobody waits for one. Returns after somebody unmounted and every daemon left, and
+/// removes the socket.
 pub fn run_mount<
-    R: Threads + Wait + Clock + Files<File = File> + Net + Processes + Sync,
-    W: Write + Drop,
+    R: Threads + Wait + Clock + Files<File = File> + Net + Processes + Copy + Send + Sync + 'static,
+    W: Unblock + Drop,
 >(rt: &R, alloc: Global, place: &Place<'_>, out: W) -> MountRun<W>
     ensures runs { RunsMount result.ended (W.contents out) (W.contents result.out) }
 {
+    let mut out = out;
+    if let Err(error) = write_behind(rt, alloc, &mut out) {
+        return fails(out, unmade(&error));
+    }
     let hall = match make_hall(rt, alloc, place) {
         Ok(hall) => hall,
         Err(fault) => return fails(out, fault),
@@ -122,8 +128,16 @@ fn open_log<R: Files<File = File>>(
     }
 }
 
+/// Returns the fault of a broker whose thread for its lines was not made for this error.
+fn unmade(error: &io::Error) -> MountFault {
+    match error.kind() {
+        ErrorKind::OutOfMemory => MountFault::NoMemory,
+        _ => MountFault::NoThread,
+    }
+}
+
 /// Returns how a broker ran that printed nothing, and ends by `fault`.
-fn fails<W: Write + Drop>(out: W, fault: MountFault) -> MountRun<W>
+fn fails<W: Unblock + Drop>(out: W, fault: MountFault) -> MountRun<W>
     ensures runs { RunsMount result.ended (W.contents out) (W.contents result.out) }
 {
     MountRun {
@@ -133,7 +147,7 @@ fn fails<W: Write + Drop>(out: W, fault: MountFault) -> MountRun<W>
 }
 
 /// Takes connections in a thread while mounts are served.
-fn open<R: Threads + Wait + Clock + Files<File = File> + Processes + Sync, W: Write + Drop>(
+fn open<R: Threads + Wait + Clock + Files<File = File> + Processes + Sync, W: Unblock + Drop>(
     rt: &R,
     alloc: Global,
     hall: &Hall,
@@ -158,7 +172,7 @@ fn open_within<
     's,
     'e: 's,
     R: Threads + Wait + Clock + Files<File = File> + Processes + Sync + 's,
-    W: Write + Drop,
+    W: Unblock + Drop,
 >(
     scope: &Scope<'s, &'e ()>,
     rt: &'e R,
@@ -189,7 +203,7 @@ fn open_within<
 }
 
 /// Serves a mount for each daemon that mounts, one after another, until somebody unmounts.
-fn serve_mounts<R: Threads + Wait + Clock + Files<File = File> + Processes + Sync, W: Write>(
+fn serve_mounts<R: Threads + Wait + Clock + Files<File = File> + Processes + Sync, W: Unblock>(
     rt: &R,
     alloc: Global,
     hall: &Hall,
@@ -206,18 +220,17 @@ fn serve_mounts<R: Threads + Wait + Clock + Files<File = File> + Processes + Syn
             Ok(end) => end,
             Err(fault) => return Err(fault),
         };
-        let printed = print(out, end.line());
-        match (end, printed) {
-            (_, Err(error)) => return Err(MountFault::CannotWrite(error)),
-            (MountEnd::Unmounted, Ok(())) => return Ok(()),
-            (MountEnd::Dead, Ok(())) => {}
+        print_end(out, end);
+        match end {
+            MountEnd::Unmounted => return Ok(()),
+            MountEnd::Dead => {}
         }
     }
     unreachable!()
 }
 
 /// Mounts for the daemon of the seat at `generation`, and serves until the mount ends.
-fn serve_mount<R: Threads + Wait + Clock + Files<File = File> + Processes + Sync, W: Write>(
+fn serve_mount<R: Threads + Wait + Clock + Files<File = File> + Processes + Sync, W: Unblock>(
     rt: &R,
     alloc: Global,
     hall: &Hall,
@@ -232,9 +245,7 @@ fn serve_mount<R: Threads + Wait + Clock + Files<File = File> + Processes + Sync
         Err(fault) => return Err(fault),
     };
     hall.note_agreed(rt, generation);
-    if let Err(error) = print_mounted(out, generation) {
-        return Err(MountFault::CannotWrite(error));
-    }
+    print_mounted(out, generation);
     let own = MountAttributes {
         since: now(rt),
         owner: point.owner,
@@ -257,21 +268,21 @@ fn make_mount<R: Files<File = File> + Processes>(
     Ok(Mounted { device, control })
 }
 
-/// Prints at once that a mount began at `generation`.
-fn print_mounted<W: Write>(out: &mut W, generation: u64) -> io::Result<()>
-    ensures printed { OnOk result (Appends (W.contents out.old) (W.contents out.new)
-        (mounted_line generation)) }
+/// Prints that a mount began at `generation`.
+fn print_mounted<W: Unblock>(out: &mut W, generation: u64)
+    ensures printed { Appends (W.contents out.old) (W.contents out.new) (mounted_line generation) }
 {
-    writeln!(out, "mounted {generation}")?;
-    out.flush()
+    out.print(format_args!("mounted {generation}"));
 }
 
-/// Prints `line` at once.
-fn print<W: Write>(out: &mut W, line: &str) -> io::Result<()>
-    ensures printed { OnOk result (Appends (W.contents out.old) (W.contents out.new) line.now) }
+/// Prints how a mount ended.
+fn print_end<W: Unblock>(out: &mut W, end: MountEnd)
+    ensures printed { Appends (W.contents out.old) (W.contents out.new) (end_line end) }
 {
-    out.write_all(line.as_bytes())?;
-    out.flush()
+    match end {
+        MountEnd::Unmounted => out.print("ended"),
+        MountEnd::Dead => out.print("dead"),
+    }
 }
 
 /// Returns the time, or 1970 where the clock tells none.

@@ -1,7 +1,6 @@
 //! One mount of a real kernel, from its first request to its end.
 ghost use Rattle.std.specs.Prelude.{◌≡◌};
 ghost use Rattle.mount_wire.specs.Message.{IsForDaemons};
-ghost use Rattle.broker_process.specs.Mounting.{end_line};
 ghost use Rattle.broker_process.specs.Serving.{Handles, IsHeardToTheEnd, ServesMount};
 
 use crate::control::Control;
@@ -40,18 +39,6 @@ pub(crate) struct Mounted {
     /// The device by which the kernel and the mount talk.
     pub device: File,
     pub control: Control,
-}
-
-impl MountEnd {
-    /// Returns the line that tells of this end.
-    pub(crate) fn line(self) -> &'static str
-        ensures line { result.now ≡ end_line self }
-    {
-        match self {
-            MountEnd::Unmounted => "ended\n",
-            MountEnd::Dead => "dead\n",
-        }
-    }
 }
 
 /// Serves a mount: reads in a thread what the kernel asks by `device`, and writes replies in this one.

@@ -1,19 +1,18 @@
 -- What a daemon printed, round after round and at its end.
-use Rattle.std.proofs.Common.{◌≡◌, ◌⊎◌, ℕ, Bool, true, false, List, [], ◌∷◌, ◌++◌, Option, Some, None, Result, Ok, inl, inr, refl, sym, ap, subst, ◌∙◌}
+use Rattle.std.proofs.Common.{◌≡◌, ℕ, Bool, true, false, List, [], ◌∷◌, ◌++◌, Option, Result, Ok, inl, inr, refl, sym, ap, subst, ◌∙◌}
 use Rattle.std.specs.Prelude.{map}
 use Rattle.std.specs.Io.KnownBytes.{Appends}
 use Rattle.std.specs.List.{concat}
 use Rattle.std.proofs.KnownBytes.{Appends-nil, Appends-trans}
 use Rattle.std.proofs.lemmas.List.{append-nil, map-append}
 use Rattle.std.proofs.lemmas.List.Folds.{concat-append}
-use Rattle.daemon_process.specs.Ending.{FailsDaemon, IsHeeded, PrintsEnding, PrintsLast, PrintsServing, PrintsUntil, RunsDaemon}
+use Rattle.daemon_process.specs.Ending.{IsHeeded, PrintsEnding, PrintsLast, PrintsServing, RunsDaemon}
 use Rattle.daemon_process.specs.Serving.{PrintsRound, Spell, begins, printed_of, serving_line}
 use Rattle.daemon_process.specs.declared.exit.Exit.{Exit}
 use Rattle.daemon_process.specs.declared.exit.Exit.TheVariants.{Ended, Faulty, HandedOver}
 use Rattle.daemon_process.specs.declared.exit.Ending.{Ending}
 use Rattle.daemon_process.specs.declared.exit.Ending.TheVariants.{Closed, Exits}
 use Rattle.daemon_process.specs.declared.fault.DaemonFault.{DaemonFault}
-use Rattle.daemon_process.specs.declared.fault.DaemonFault.TheVariants as fault
 
 pub serving-none : (known : Option (List ℕ)) → PrintsServing known known
 serving-none known = ([], Appends-nil known)
@@ -36,57 +35,21 @@ serving-line : (is_new : Bool) (generation : ℕ) (old mid new : Option (List �
 serving-line true generation old mid new was line = serving-more generation old mid new was line
 serving-line false generation old mid new was line = serving-same old mid new was line
 
--- a round more, unless its line could not be printed
-serving-round : (was round now : Spell) (old mid new : Option (List ℕ)) (exit : Option Exit) → PrintsServing old mid → PrintsRound was round now mid new exit →
-    PrintsServing old new ⊎ ((error : _) × (exit ≡ Some (Faulty (fault.CannotWrite error))))
-serving-round was round now old mid new exit served (inl unmanned) = inl (serving-same old mid new served unmanned.nothing)
-serving-round was round now old mid new exit served (inr (inl manned)) = inl (serving-line (begins was round) round.0 old mid new served manned.line)
-serving-round was round now old mid new exit served (inr (inr failed)) = inr failed
+-- a round more
+pub serving-round : (was round now : Spell) (old mid new : Option (List ℕ)) → PrintsServing old mid → PrintsRound was round now mid new → PrintsServing old new
+serving-round was round now old mid new served (inl unmanned) = serving-same old mid new served unmanned.nothing
+serving-round was round now old mid new served (inr manned) = serving-line (begins was round) round.0 old mid new served manned.line
 
--- the daemon goes on behind it
-pub serving-on : (was round now : Spell) (old mid new : Option (List ℕ)) → PrintsServing old mid → PrintsRound was round now mid new None → PrintsServing old new
-serving-on was round now old mid new served prints = elim (serving-round was round now old mid new None served prints) [
-  | inl all ↦ all
-  | inr (error, none) ↦ cc
-]
-
--- or it ends behind it
-pub serving-ends : (was round now : Spell) (old mid new : Option (List ℕ)) (exit : Exit) → PrintsServing old mid → PrintsRound was round now mid new (Some exit) → PrintsUntil old new (Exits exit)
-serving-ends was round now old mid new exit served prints = elim (serving-round was round now old mid new (Some exit) served prints) [
-  | inl all ↦ inl all
-  | inr (error, is) ↦ inr (error, cc)
-]
-
-until-same : (old mid new : Option (List ℕ)) (ending : Ending) → PrintsUntil old mid ending → Appends mid new [] → PrintsUntil old new ending
-until-same old mid new ending (inl prints) none = inl (serving-same old mid new prints none)
-until-same old mid new ending (inr failed) none = inr failed
-
--- a fault is for the caller to print
-of_prints : (which : DaemonFault) (old new : Option (List ℕ)) → PrintsServing old new → FailsDaemon which old new
-of_prints (fault.CannotWrite error) old new prints = tt
-of_prints which old new prints = prints
-
-of_fault : (which : DaemonFault) (old new : Option (List ℕ)) → PrintsUntil old new (Exits (Faulty which)) → FailsDaemon which old new
-of_fault which old new until = elim until [
-  | inl prints ↦ of_prints which old new prints
-  | inr (error, is) ↦
-      let same : which ≡ fault.CannotWrite error = cc in
-      subst (λ (w : DaemonFault). FailsDaemon w old new) (sym same) tt
-]
-
-well : (until_closed : Bool) (told : Result (Unit {0}) DaemonFault) (ending : Ending) (old mid new : Option (List ℕ)) → told ≡ Ok tt → PrintsUntil old mid ending → ((error : _) → ending ≡ Exits (Faulty (fault.CannotWrite error)) → ⊥) → PrintsLast until_closed mid new → RunsDaemon until_closed told old new
-well until_closed told ending old mid new is until never last = elim until [
-  | inl prints ↦ subst (λ (t : Result (Unit {0}) DaemonFault). RunsDaemon until_closed t old new) (sym is) (mid, prints, last)
-  | inr (error, bad) ↦ absurd (never error bad)
-]
+well : (until_closed : Bool) (told : Result (Unit {0}) DaemonFault) (old mid new : Option (List ℕ)) → told ≡ Ok tt → PrintsServing old mid → PrintsLast until_closed mid new → RunsDaemon until_closed told old new
+well until_closed told old mid new is prints last = subst (λ (t : Result (Unit {0}) DaemonFault). RunsDaemon until_closed t old new) (sym is) (mid, prints, last)
 
 -- the line by which it ends was printed, or its fault is told
-pub runs-told : (until_closed : Bool) (ending : Ending) (told : Result (Unit {0}) DaemonFault) (old mid new : Option (List ℕ)) → IsHeeded until_closed ending → PrintsUntil old mid ending → PrintsEnding ending told mid new → RunsDaemon until_closed told old new
-runs-told until_closed (Exits HandedOver) told old mid new heeds until (is, line) = well until_closed told (Exits HandedOver) old mid new is until (λ error bad. cc) (inl line)
-runs-told until_closed (Exits Ended) told old mid new heeds until (is, line) = well until_closed told (Exits Ended) old mid new is until (λ error bad. cc) (inr (inl line))
-runs-told until_closed (Exits (Faulty which)) told old mid new heeds until (is, none) =
-    subst (λ (t : Result (Unit {0}) DaemonFault). RunsDaemon until_closed t old new) (sym is) (of_fault which old new (until-same old mid new (Exits (Faulty which)) until none))
-runs-told until_closed Closed told old mid new heeds until (is, line) = well until_closed told Closed old mid new is until (λ error bad. cc) (inr (inr (heeds, line)))
+pub runs-told : (until_closed : Bool) (ending : Ending) (told : Result (Unit {0}) DaemonFault) (old mid new : Option (List ℕ)) → IsHeeded until_closed ending → PrintsServing old mid → PrintsEnding ending told mid new → RunsDaemon until_closed told old new
+runs-told until_closed (Exits HandedOver) told old mid new heeds prints (is, line) = well until_closed told old mid new is prints (inl line)
+runs-told until_closed (Exits Ended) told old mid new heeds prints (is, line) = well until_closed told old mid new is prints (inr (inl line))
+runs-told until_closed (Exits (Faulty which)) told old mid new heeds prints (is, none) =
+    subst (λ (t : Result (Unit {0}) DaemonFault). RunsDaemon until_closed t old new) (sym is) (serving-same old mid new prints none)
+runs-told until_closed Closed told old mid new heeds prints (is, line) = well until_closed told old mid new is prints (inr (inr (heeds, line)))
 
 -- ---- what ended the daemon
 

@@ -12,7 +12,7 @@ use Rattle.daemon_process.specs.declared.exit.Exit.TheVariants.{Ended, Faulty, H
 use Rattle.daemon_process.specs.declared.exit.Ending.{Ending}
 use Rattle.daemon_process.specs.declared.exit.Ending.TheVariants.{Closed, Exits}
 use Rattle.daemon_process.specs.declared.fault.DaemonFault.{DaemonFault}
-use Rattle.daemon_process.specs.declared.fault.DaemonFault.TheVariants.{Broken, CannotWrite, TakeoverFailed}
+use Rattle.daemon_process.specs.declared.fault.DaemonFault.TheVariants.{Broken, TakeoverFailed}
 
 -- ---- how a claim, a round or the end of standard input ends a daemon
 
@@ -55,10 +55,6 @@ IsHeeded until_closed Closed = until_closed ≡ true
 abbrev pub PrintsServing : Option (List ℕ) → Option (List ℕ) → Type 0
 PrintsServing old new = (generations : List ℕ) × Appends old new (concat (map serving_line generations))
 
--- only such lines were appended until the daemon's end, unless it ends by a fault of printing
-abbrev pub PrintsUntil : Option (List ℕ) → Option (List ℕ) → Ending → Type 0
-PrintsUntil old new ending = PrintsServing old new ⊎ ((error : _) × (ending ≡ Exits (Faulty (CannotWrite error))))
-
 -- the line that a daemon's end appends, and what its caller is told; a fault is for the caller to print
 abbrev pub PrintsEnding : Ending → Result (Unit {0}) DaemonFault → Option (List ℕ) → Option (List ℕ) → Type 0
 PrintsEnding (Exits HandedOver) told old new = (told ≡ Ok tt) × Appends old new (codes "handed over\n")
@@ -72,15 +68,9 @@ PrintsLast until_closed old new =
     Appends old new (codes "handed over\n")
     ⊎ (Appends old new (codes "ended\n") ⊎ ((until_closed ≡ true) × Appends old new (codes "closed\n")))
 
--- A daemon that ends by a fault printed only the lines of its generations. If a line could not be printed, a part of it
--- may have been.
-abbrev pub FailsDaemon : DaemonFault → Option (List ℕ) → Option (List ℕ) → Type 0
-FailsDaemon (CannotWrite error) old new = ⊤
-FailsDaemon fault old new = PrintsServing old new
-
 -- A daemon ran, by whether it was to run until its standard input ends. One that ended well printed its last line after
--- the lines of its generations.
+-- the lines of its generations; one that ended by a fault printed only those.
 abbrev pub RunsDaemon : Bool → Result (Unit {0}) DaemonFault → Option (List ℕ) → Option (List ℕ) → Type 0
 RunsDaemon until_closed (Ok done) old new =
     (mid : Option (List ℕ)) × PrintsServing old mid × PrintsLast until_closed mid new
-RunsDaemon until_closed (Err fault) old new = FailsDaemon fault old new
+RunsDaemon until_closed (Err fault) old new = PrintsServing old new

@@ -9,8 +9,6 @@ use Rattle.daemon_desk.specs.Desk.{DeskState, is_draining, lendable}
 use Rattle.takeover_core.specs.declared.phase.Phase.{Phase}
 use Rattle.takeover_core.specs.declared.phase.Phase.TheVariants as phases
 use Rattle.daemon_process.specs.declared.exit.Exit.{Exit}
-use Rattle.daemon_process.specs.declared.exit.Exit.TheVariants.{Faulty}
-use Rattle.daemon_process.specs.declared.fault.DaemonFault.TheVariants.{CannotWrite}
 use Rattle.daemon_process.specs.declared.shared.Next.{Next}
 use Rattle.daemon_process.specs.declared.shared.Next.TheVariants as next
 
@@ -98,10 +96,6 @@ pub record IsManned (was round now : Spell) (old new : Option (List ℕ)) : Type
   pub at : IsSameSpell now round
   pub line : Appends old new (printed_of (begins was round) round.0)
 
--- What a round prints, by the spell before the round, the round's own spell, and the spell of the channels after it.
--- The daemon ends if the line cannot be written.
-abbrev pub PrintsRound : (was round now : Spell) → (old new : Option (List ℕ)) → Option Exit → Type 0
-PrintsRound was round now old new exit =
-    IsUnmanned was now old new
-    ⊎ (IsManned was round now old new
-    ⊎ ((error : _) × (exit ≡ Some (Faulty (CannotWrite error)))))
+-- what a round prints, by the spell before the round, the round's own spell, and the spell of the channels after it
+abbrev pub PrintsRound : (was round now : Spell) → (old new : Option (List ℕ)) → Type 0
+PrintsRound was round now old new = IsUnmanned was now old new ⊎ IsManned was round now old new

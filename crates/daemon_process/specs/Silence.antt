@@ -1,5 +1,5 @@
 -- Whether a daemon says that its broker is silent. (This project's own.)
-use Rattle.std.specs.Prelude.{ℕ, ◌+◌, ◌-◌, ◌==◌, ◌&&◌, Bool}
+use Rattle.std.specs.Prelude.{ℕ, ◌==◌, ◌&&◌, Bool}
 
 -- Below, `silent` is how many of a daemon's threads had no answer of the broker for long.
 

@@ -24,8 +24,6 @@ pub enum DaemonFault {
     NoThread,
     /// The broker closed a connection, or said what no broker says there.
     Broken,
-    /// What happened could not be printed.
-    CannotWrite(io::Error),
 }
 
 impl From<NoMemory> for DaemonFault {

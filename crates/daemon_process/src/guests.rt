@@ -1,7 +1,6 @@
 //! The connections of other daemons that wait to be conversed with.
-ghost use Rattle.std.specs.Prelude.{◌≡◌, ◌<◌, ◌++◌, ◌∷◌, [], None, length, remove, nat_lt, Bool, not, IfSome};
+ghost use Rattle.std.specs.Prelude.{◌≡◌, ◌<◌, ◌++◌, ◌∷◌, [], None, length, remove, nat_lt, IfSome};
 ghost use Rattle.daemon_process.specs.Guests.{Offers, TakesFirst, admission, left_at, place_of};
-ghost use Rattle.daemon_process.specs.declared.guests.Guest.{Guest as GuestValue};
 
 use links::Frame;
 use std::alloc::Global;

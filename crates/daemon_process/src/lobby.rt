@@ -1,5 +1,5 @@
 //! The connections of other daemons.
-ghost use Rattle.std.specs.Prelude.{◌≡◌, ◌||◌, false, true, not, length, IsSome, None};
+ghost use Rattle.std.specs.Prelude.{◌≡◌, ◌||◌, false, not, length, IsSome};
 ghost use Rattle.daemon_process.specs.Guests.{TakesFirst, admission, gives_way, has_place, silent_for};
 
 use crate::guests::{Admission, Guests, Offer};

@@ -1,6 +1,6 @@
 //! A daemon, from its start to its end.
-ghost use Rattle.std.specs.Prelude.{◌≡◌, ℕ, Bool, List, [], ◌∷◌, Option, IfOk};
-ghost use Rattle.daemon_process.specs.Ending.{IsHeeded, PrintsEnding, PrintsUntil, RunsDaemon};
+ghost use Rattle.std.specs.Prelude.{◌≡◌, ℕ, Bool, List, [], ◌∷◌, Option};
+ghost use Rattle.daemon_process.specs.Ending.{IsHeeded, PrintsEnding, PrintsServing, RunsDaemon};
 
 use crate::arrival::Arrival;
 use crate::beginning::{Seated, begin};
@@ -15,9 +15,10 @@ use crate::serving::serve;
 use crate::shared::Shared;
 use daemon_desk::DaemonDesk;
 use manifest::Manifest;
+use non_blocking::{Notes, Unblock, write_behind};
 use sockets::{Closer, Connection};
 use std::alloc::Global;
-use std::io::{self, Read, Write};
+use std::io::{self, ErrorKind, Read};
 use std::net::Net;
 use std::os::unix::net::{UnixListener, UnixStream};
 use std::rt::{Clock, Files};
@@ -45,19 +46,32 @@ struct Service<W> {
     ending: Ending,
 }
 
-/// Runs a daemon over the checkout of `manifest`, and writes each line to `out` as soon as it is known. Returns when
-/// another daemon took over, the mount is over, or a fault ended the daemon; where `orders` say so, also when `input`,
-/// which is standard input, ends.
+/// Runs a daemon over the checkout of `manifest`, and tells `out` each line as soon as it is known: a line that can't be
+/// written is dropped, and nobody waits for one. `notes` say on standard error what else happened. Returns when another
+/// daemon took over, the mount is over, or a fault ended the daemon; where `orders` say so, also when `input`, which is
+/// standard input, ends.
 pub fn run_daemon<
     R: Threads + Wait + Clock + Files + Net + Copy + Send + Sync + 'static,
     I: Read + Drop + Send + 'static,
-    W: Write + Drop,
->(rt: &R, alloc: Global, orders: &Orders<'_>, manifest: Manifest, input: I, out: W) -> DaemonRun<W>
+    W: Unblock + Drop,
+>(
+    rt: &R,
+    alloc: Global,
+    orders: &Orders<'_>,
+    manifest: Manifest,
+    input: I,
+    out: W,
+    notes: Notes,
+) -> DaemonRun<W>
     ensures runs { RunsDaemon orders.now.until_closed result.ended
         (W.contents out) (W.contents result.out) }
 {
+    let mut out = out;
+    if let Err(error) = write_behind(rt, alloc, &mut out) {
+        return end_run(out, Ending::Exits(Exit::Faulty(unmade(&error))));
+    }
     let desk = DaemonDesk::new(alloc, manifest, orders.limit, versions());
-    let Ok(shared) = Arc::new(alloc, Shared::new(desk)) else {
+    let Ok(shared) = Arc::new(alloc, Shared::new(desk, notes)) else {
         return end_run(out, Ending::Exits(Exit::Faulty(DaemonFault::NoMemory)));
     };
     if orders.until_closed {
@@ -70,14 +84,14 @@ pub fn run_daemon<
 }
 
 /// Gets the seat, serves until the daemon ends, and returns how it ends.
-fn serve_mount<R: Threads + Wait + Clock + Files + Net + Sync, W: Write + Drop>(
+fn serve_mount<R: Threads + Wait + Clock + Files + Net + Sync, W: Unblock + Drop>(
     rt: &R,
     alloc: Global,
     shared: &Shared,
     orders: &Orders<'_>,
     out: W,
 ) -> Service<W>
-    ensures prints { PrintsUntil (W.contents out) (W.contents result.out) result.ending }
+    ensures prints { PrintsServing (W.contents out) (W.contents result.out) }
     ensures heeds { IsHeeded orders.now.until_closed result.ending }
 {
     match begin(rt, alloc, shared, orders) {
@@ -90,18 +104,21 @@ fn serve_mount<R: Threads + Wait + Clock + Files + Net + Sync, W: Write + Drop>(
 }
 
 /// Prints the last line of a daemon, if its ending has one, and returns how its run ended.
-fn end_run<W: Write + Drop>(out: W, ending: Ending) -> DaemonRun<W>
+fn end_run<W: Unblock + Drop>(out: W, ending: Ending) -> DaemonRun<W>
     ensures runs { (until_closed : Bool) (old : Option (List ℕ))
-        → IsHeeded until_closed ending → PrintsUntil old (W.contents out) ending
+        → IsHeeded until_closed ending → PrintsServing old (W.contents out)
         → RunsDaemon until_closed result.ended old (W.contents result.out) }
 {
     let mut out = out;
-    match print_ending(&mut out, ending) {
-        Ok(ended) => DaemonRun { out, ended },
-        Err(error) => {
-            let ended = Err(DaemonFault::CannotWrite(error));
-            DaemonRun { out, ended }
-        }
+    let ended = print_ending(&mut out, ending);
+    DaemonRun { out, ended }
+}
+
+/// Returns the fault of a daemon whose thread for its lines was not made for this error.
+fn unmade(error: &io::Error) -> DaemonFault {
+    match error.kind() {
+        ErrorKind::OutOfMemory => DaemonFault::NoMemory,
+        _ => DaemonFault::NoThread,
     }
 }
 
@@ -113,22 +130,20 @@ fn versions() -> Versions
 }
 
 /// Prints the last line of a daemon and returns `Ok`, or prints nothing and returns the fault that ended the daemon.
-fn print_ending<W: Write>(out: &mut W, ending: Ending) -> io::Result<Result<(), DaemonFault>>
-    ensures prints { IfOk result (λ told.
-        PrintsEnding ending told (W.contents out.old) (W.contents out.new)) }
+fn print_ending<W: Unblock>(out: &mut W, ending: Ending) -> Result<(), DaemonFault>
+    ensures prints { PrintsEnding ending result (W.contents out.old) (W.contents out.new) }
 {
     match ending {
-        Ending::Exits(Exit::HandedOver) => out.write_all(b"handed over\n")?,
-        Ending::Exits(Exit::Ended) => out.write_all(b"ended\n")?,
-        Ending::Exits(Exit::Faulty(fault)) => return Ok(Err(fault)),
-        Ending::Closed => out.write_all(b"closed\n")?,
+        Ending::Exits(Exit::HandedOver) => out.print("handed over"),
+        Ending::Exits(Exit::Ended) => out.print("ended"),
+        Ending::Exits(Exit::Faulty(fault)) => return Err(fault),
+        Ending::Closed => out.print("closed"),
     }
-    out.flush()?;
-    Ok(Ok(()))
+    Ok(())
 }
 
 /// Serves the mount and takeovers in separate threads until the daemon ends, and returns how it ends.
-fn run<R: Threads + Wait + Clock + Sync, W: Write + Drop>(
+fn run<R: Threads + Wait + Clock + Sync, W: Unblock + Drop>(
     rt: &R,
     alloc: Global,
     shared: &Shared,
@@ -136,7 +151,7 @@ fn run<R: Threads + Wait + Clock + Sync, W: Write + Drop>(
     seated: Seated<'_, R>,
     out: W,
 ) -> Service<W>
-    ensures prints { PrintsUntil (W.contents out) (W.contents result.out) result.ending }
+    ensures prints { PrintsServing (W.contents out) (W.contents result.out) }
     ensures heeds { IsHeeded orders.now.until_closed result.ending }
 {
     let Seated { arrival, listener } = seated;
@@ -159,7 +174,7 @@ fn run<R: Threads + Wait + Clock + Sync, W: Write + Drop>(
         thread::scope_env(),
         rt,
         move |scope| -> Service<W>
-            ensures { PrintsUntil (W.contents out) (W.contents result.out) result.ending
+            ensures { PrintsServing (W.contents out) (W.contents result.out)
                 × IsHeeded until_closed result.ending }
         {
             run_within(
@@ -181,7 +196,7 @@ fn run<R: Threads + Wait + Clock + Sync, W: Write + Drop>(
 }
 
 /// Serves the mount in this thread, and takeovers in two more: one accepts connections, one serves those that offer.
-fn run_within<'s, 'e: 's, R: Threads + Wait + Clock + Sync + 's, W: Write + Drop>(
+fn run_within<'s, 'e: 's, R: Threads + Wait + Clock + Sync + 's, W: Unblock + Drop>(
     scope: &Scope<'s, &'e ()>,
     rt: &'e R,
     alloc: Global,
@@ -195,7 +210,7 @@ fn run_within<'s, 'e: 's, R: Threads + Wait + Clock + Sync + 's, W: Write + Drop
     until_closed: bool,
     out: W,
 ) -> Service<W>
-    ensures prints { PrintsUntil (W.contents out) (W.contents result.out) result.ending }
+    ensures prints { PrintsServing (W.contents out) (W.contents result.out) }
     ensures heeds { IsHeeded until_closed result.ending }
 {
     let mut out = out;
@@ -210,7 +225,7 @@ fn run_within<'s, 'e: 's, R: Threads + Wait + Clock + Sync + 's, W: Write + Drop
 }
 
 /// Serves if `are_made`: the threads that takeovers need were made. Returns how the daemon ends.
-fn serve_if<R: Threads + Wait + Clock + Sync, W: Write>(
+fn serve_if<R: Threads + Wait + Clock + Sync, W: Unblock>(
     rt: &R,
     alloc: Global,
     shared: &Shared,
@@ -219,7 +234,7 @@ fn serve_if<R: Threads + Wait + Clock + Sync, W: Write>(
     until_closed: bool,
     out: &mut W,
 ) -> Ending
-    ensures prints { PrintsUntil (W.contents out.old) (W.contents out.new) result }
+    ensures prints { PrintsServing (W.contents out.old) (W.contents out.new) }
     ensures heeds { IsHeeded until_closed result }
 {
     if !are_made {

@@ -1,26 +1,25 @@
 //! The rounds in which a daemon serves.
 ghost use Rattle.std.specs.Prelude.{◌≡◌, vec_len, IfOk, OnErr, OnOk};
 ghost use Rattle.std.specs.Io.KnownBytes.{Appends};
-ghost use Rattle.daemon_process.specs.Ending.{IsHeeded, PrintsUntil};
+ghost use Rattle.daemon_process.specs.Ending.{IsHeeded, PrintsServing};
 ghost use Rattle.daemon_process.specs.Rounds.{EndsCrew};
-ghost use Rattle.daemon_process.specs.Serving.{IsSameSpell, PrintsRound, begins, printed_of, serving_line};
+ghost use Rattle.daemon_process.specs.Serving.{IsSameSpell, PrintsRound, begins, serving_line};
 
 use crate::arrival::{Worker, channels};
 use crate::exit::{Ending, Exit};
-use crate::fault::DaemonFault;
 use crate::hears_end::HearsEnd;
 use crate::rounds::{exit_of, serve_one};
 use crate::shared::{Next, Shared};
 use crate::silence::Silences;
 use daemon::Lease;
+use non_blocking::Unblock;
 use std::alloc::Global;
-use std::io::{self, Write};
 use std::os::unix::net::UnixStream;
 use std::rt::Clock;
 use std::sync::{Arc, Wait};
 use std::thread::Threads;
 use std::time::Duration;
-use std::{mem, thread};
+use std::{io, mem, thread};
 use workers::{Channel, Rooms, Stop};
 
 /// How long a daemon waits after memory was refused, in milliseconds.
@@ -39,7 +38,7 @@ struct Crew<C: Channel + Drop> {
 
 /// Serves by rounds of workers, whenever something may be lent, and returns how the daemon ends. The end of standard
 /// input is heeded if `until_closed`.
-pub(crate) fn serve<R: Threads + Wait + Clock + Sync, W: Write>(
+pub(crate) fn serve<R: Threads + Wait + Clock + Sync, W: Unblock>(
     rt: &R,
     alloc: Global,
     shared: &Shared,
@@ -47,7 +46,7 @@ pub(crate) fn serve<R: Threads + Wait + Clock + Sync, W: Write>(
     until_closed: bool,
     out: &mut W,
 ) -> Ending
-    ensures prints { PrintsUntil (W.contents out.old) (W.contents out.new) result }
+    ensures prints { PrintsServing (W.contents out.old) (W.contents out.new) }
     ensures heeds { IsHeeded until_closed result }
 {
     let mut crew = Crew {
@@ -77,7 +76,7 @@ pub(crate) fn serve<R: Threads + Wait + Clock + Sync, W: Write>(
 
 /// Serves a round over `lease` by channels at the lease's generation, and gives the lease back. Returns the daemon's exit,
 /// if the daemon ends.
-fn serve_lease<'a, R: Threads + Wait + Clock + Sync, W: Write>(
+fn serve_lease<'a, R: Threads + Wait + Clock + Sync, W: Unblock>(
     rt: &'a R,
     alloc: Global,
     shared: &'a Shared,
@@ -89,7 +88,7 @@ fn serve_lease<'a, R: Threads + Wait + Clock + Sync, W: Write>(
     out: &mut W,
 ) -> Option<Exit>
     ensures prints { PrintsRound (crew.old.generation, crew.old.stops) (lease.generation, stops)
-        (crew.new.generation, crew.new.stops) (W.contents out.old) (W.contents out.new) result }
+        (crew.new.generation, crew.new.stops) (W.contents out.old) (W.contents out.new) }
 {
     let generation = lease.generation;
     let silences = shared.silences();
@@ -98,8 +97,8 @@ fn serve_lease<'a, R: Threads + Wait + Clock + Sync, W: Write>(
         thread::sleep(rt, Duration::from_millis(PAUSE));
         return None;
     };
-    if let Err(error) = print_round(out, is_new, lease.generation) {
-        return Some(Exit::Faulty(DaemonFault::CannotWrite(error)));
+    if is_new {
+        print_serving(out, lease.generation);
     }
     serve_crew(rt, alloc, shared, crew, lease, stop)
 }
@@ -164,22 +163,9 @@ fn man<'a, R: Wait + Clock>(
     Ok(true)
 }
 
-/// Prints that the daemon serves at `generation`, if `is_new`.
-fn print_round<W: Write>(out: &mut W, is_new: bool, generation: u64) -> io::Result<()>
-    ensures line { OnOk result (Appends (W.contents out.old) (W.contents out.new)
-        (printed_of is_new generation)) }
-{
-    if is_new {
-        return print_serving(out, generation);
-    }
-    Ok(())
-}
-
 /// Prints that the daemon serves at `generation`.
-fn print_serving<W: Write>(out: &mut W, generation: u64) -> io::Result<()>
-    ensures line { OnOk result (Appends (W.contents out.old) (W.contents out.new)
-        (serving_line generation)) }
+fn print_serving<W: Unblock>(out: &mut W, generation: u64)
+    ensures line { Appends (W.contents out.old) (W.contents out.new) (serving_line generation) }
 {
-    writeln!(out, "serving {generation}")?;
-    out.flush()
+    out.print(format_args!("serving {generation}"));
 }

@@ -64,6 +64,7 @@ pub(crate) enum Next {
 pub(crate) struct Shared {
     state: Mutex<State>,
     changes: Condvar,
+    notes: Notes,
     silences: Silences,
 }
 
@@ -165,8 +166,8 @@ impl State {
 }
 
 impl Shared {
-    /// Makes the shared state over `desk`, with no exit and no round.
-    pub(crate) fn new(desk: DaemonDesk) -> Shared {
+    /// Makes the shared state over `desk`, with no exit and no round. Notes are said by `notes`.
+    pub(crate) fn new(desk: DaemonDesk, notes: Notes) -> Shared {
         Shared {
             state: Mutex::new(State {
                 desk,
@@ -178,13 +179,19 @@ impl Shared {
                 waits_at: None,
             }),
             changes: Condvar::new(),
-            silences: Silences::new(Notes::none()),
+            silences: Silences::new(notes.again()),
+            notes,
         }
     }
 
     /// Returns where it is noted that the broker is silent.
     pub(crate) fn silences(&self) -> &Silences {
         &self.silences
+    }
+
+    /// Returns the handle by which threads say notes.
+    pub(crate) fn notes(&self) -> &Notes {
+        &self.notes
     }
 
     /// Returns how many changes were signalled.

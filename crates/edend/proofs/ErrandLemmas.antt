@@ -17,15 +17,35 @@ use Rattle.edend.specs.Note.{IsNoted, Notes}
 use Rattle.edend.specs.declared.note.Note.{Note}
 use Rattle.edend.specs.declared.note.Noted.{Noted}
 
--- an errand that was noted so was run, and the process ended after it
-pub runs_over : (noted : Noted) (a b : Errand) (input : Option (List ℕ)) (file : List ℕ → Option (List ℕ)) (ran : Result (Unit {0}) Failure) (output begun ended output_after errors opened errors_after : Option (List ℕ)) (status : ℕ) (said : Result (Unit {0}) IoError) →
-    IsNoted noted a → IsNoted noted b → RunsTo input file a ran begun ended → Keeps output begun → Keeps errors opened →
-    EndsWith (EndsAfter ran ended output_after) opened errors_after status said → RunsOver input file b output output_after errors errors_after status said
-runs_over noted a b input file ran output begun ended output_after errors opened errors_after status said of_a of_b runs first kept ends =
-    ends_with {W = Option (List ℕ)} (λ w. w) (λ w ending. RunsErrand b (over_sockets input file) output output_after ending ⊎ Tells (plain NoMemory) output output_after ending)
+-- an errand was run, and the process ended after it
+pub runs_over : (e : Errand) (input : Option (List ℕ)) (file : List ℕ → Option (List ℕ)) (ran : Result (Unit {0}) Failure) (output begun ended output_after errors opened errors_after : Option (List ℕ)) (status : ℕ) (said : Result (Unit {0}) IoError) →
+    RunsTo input file e ran begun ended → Keeps output begun → Keeps errors opened →
+    EndsWith (EndsAfter ran ended output_after) opened errors_after status said → RunsOver input file e output output_after errors errors_after status said
+runs_over e input file ran output begun ended output_after errors opened errors_after status said runs first kept ends =
+    ends_with {W = Option (List ℕ)} (λ w. w) (λ w ending. RunsErrand e (over_sockets input file) output output_after ending ⊎ Tells (plain NoMemory) output output_after ending)
     None None ends.ending errors opened errors_after status said
-    (inl (record { result = ran; begun = begun; ended = ended; first = first; ran = runs_to-noted noted a b input file ran begun ended of_a of_b runs; ends = ends.is }))
+    (inl (record { result = ran; begun = begun; ended = ended; first = first; ran = runs; ends = ends.is }))
     refl kept ends.status_is ends.says
+
+-- two errands that were noted so are run alike
+errand-noted : (noted : Noted) (a b : Errand) (input : Option (List ℕ)) (file : List ℕ → Option (List ℕ)) (output output_after : Option (List ℕ)) (ending : ProgramEnd) →
+    IsNoted noted a → IsNoted noted b → RunsErrand a (over_sockets input file) output output_after ending → RunsErrand b (over_sockets input file) output output_after ending
+errand-noted noted a b input file output output_after ending of_a of_b runs = record {
+  result = runs.result;
+  begun = runs.begun;
+  ended = runs.ended;
+  first = runs.first;
+  ran = runs_to-noted noted a b input file runs.result runs.begun runs.ended of_a of_b runs.ran;
+  ends = runs.ends;
+}
+
+pub runs_over-noted : (noted : Noted) (a b : Errand) (input : Option (List ℕ)) (file : List ℕ → Option (List ℕ)) (output output_after errors errors_after : Option (List ℕ)) (status : ℕ) (said : Result (Unit {0}) IoError) →
+    IsNoted noted a → IsNoted noted b → RunsOver input file a output output_after errors errors_after status said → RunsOver input file b output output_after errors errors_after status said
+runs_over-noted noted a b input file output output_after errors errors_after status said of_a of_b over =
+    ends_with-map (λ ending either. elim either [
+      | inl runs ↦ inl (errand-noted noted a b input file output output_after ending of_a of_b runs)
+      | inr told ↦ inr told
+    ]) over
 
 notes-less : (input : Option (List ℕ)) (file : List ℕ → Option (List ℕ)) (old new : Note) (e : Errand) (ran : Result (Unit {0}) Failure) (before after : Option (List ℕ)) →
     new.errand ≡ None → Notes old new e ran before after → RunsTo input file e ran before after

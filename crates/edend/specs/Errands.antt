@@ -19,7 +19,7 @@ use Rattle.broker_script.specs.Reading.{IsRefusal, Says}
 use Rattle.broker_script.specs.declared.fault.BrokerScriptFault.{BrokerScriptFault}
 use Rattle.broker_script.specs.declared.fault.BrokerScriptFault.TheVariants as script
 use Rattle.script_lines.specs.declared.broker_line.BrokerLine.{BrokerLine}
-use Rattle.daemon_process.specs.Ending.{FailsDaemon, PrintsServing, RunsDaemon}
+use Rattle.daemon_process.specs.Ending.{PrintsServing, RunsDaemon}
 use Rattle.daemon_process.specs.declared.fault.DaemonFault.{DaemonFault}
 use Rattle.daemon_process.specs.declared.fault.DaemonFault.TheVariants as daemon
 use Rattle.daemon_process.specs.declared.orders.Start.{Start as DaemonStart}
@@ -86,7 +86,6 @@ fault_of_daemon (daemon.CannotListen error) = CannotListen
 fault_of_daemon daemon.NoMemory = NoMemory
 fault_of_daemon daemon.NoThread = NoThread
 fault_of_daemon daemon.Broken = Broken
-fault_of_daemon (daemon.CannotWrite error) = CannotWrite
 
 -- the fault that is told where a mount ended so
 abbrev pub fault_of_mount : MountFault → Fault
@@ -97,7 +96,6 @@ fault_of_mount (mount.NoLog error) = NoLog
 fault_of_mount (mount.NoDevice error) = NoDevice
 fault_of_mount (mount.CannotMount error) = CannotMount
 fault_of_mount (mount.Broken error) = Broken
-fault_of_mount (mount.CannotWrite error) = CannotWrite
 
 -- why a script or a manifest was not read to its end, given what is known of its text
 abbrev pub IsUnread : Option (List ℕ) → Fault → Type 0
@@ -122,7 +120,7 @@ pub record EndsBroker (before after : Option (List ℕ)) (told : Fault) (text : 
 -- a daemon ended by a fault, which is told
 pub record EndsDaemon (before after : Option (List ℕ)) (told : Fault) : Type 0 where
   pub fault : DaemonFault
-  pub ran : FailsDaemon fault before after
+  pub ran : PrintsServing before after
   pub is_told : told ≡ fault_of_daemon fault
 
 -- a broker over a mount ended by a fault, which is told

@@ -2,12 +2,10 @@
 ghost use Rattle.std.specs.Prelude.{◌≡◌, ◌⊎◌, ◌*◌, ℕ, List, Option, Some, Err};
 ghost use Rattle.std.specs.Duration.{as_nanos};
 ghost use Rattle.std.specs.Option.{option_map};
-ghost use Rattle.broker_process.specs.Mounting.{RunsMount};
 ghost use Rattle.broker_process.specs.Playing.{RunsBroker};
 ghost use Rattle.command_line.specs.declared.errand.Errand.TheVariants.{Broker as BrokerErrand, Daemon as DaemonErrand, Mount as MountErrand};
 ghost use Rattle.world_script.specs.Process.{RunsIn};
 ghost use Rattle.world_script.specs.ProgramEnd.{name_of};
-ghost use Rattle.daemon_process.specs.Ending.{FailsDaemon};
 ghost use Rattle.script_lines.specs.declared.broker_line.BrokerLine.{BrokerLine};
 ghost use Rattle.world_script.specs.declared.fault.Fault.TheVariants.{CannotWrite};
 ghost use Rattle.edend.specs.Errands.{Names, PrintsFirst, RunsOver, RunsTo, fault_of_broker, fault_of_daemon, fault_of_mount, fault_of_script, over_sockets, owner_of, start_of};
@@ -18,6 +16,7 @@ use broker_process::{BrokerFault, DEVICE, MountFault, Place, run_broker, run_mou
 use broker_script::{BrokerScriptFault, read_broker_script};
 use daemon_process::{DaemonFault, Orders, Start, run_daemon};
 use mount_wire::FileOwner;
+use non_blocking::{Notes, Unblock, write_behind};
 use std::alloc::Global;
 use std::fs::File;
 use std::io::{self, Read, Write};
@@ -29,7 +28,8 @@ use std::thread::Threads;
 use std::time::Duration;
 use world_script::{
     BrokerWords, Cause, DaemonWords, Errand, Failure, Fault, MountWords, Owner, Process, RunIn,
-    STANDARD_OUTPUT, Sources, end_errand, gather_lines, read_manifest, read_path, run_process,
+    STANDARD_OUTPUT, Sources, end_errand, end_ungathered, gather_lines, read_manifest, read_path,
+    run_process,
 };
 
 /// Runs the program in a process: plays a script of a whole mount, or runs an errand over sockets. A daemon that is to run
@@ -39,6 +39,9 @@ pub fn run_edend<
     P: Process,
     I: Read + Drop + Send + 'static,
 >(host: &R, alloc: Global, process: &P, input: I) -> RunIn<P::Output, P::Errors>
+where
+    P::Output: Unblock,
+    P::Errors: Unblock,
     ensures runs { RunsIn (P.known_words process.now)
         (P.input_bytes process.now) (P.file_bytes process.now)
         (over_sockets (P.input_bytes process.now) (P.file_bytes process.now))
@@ -60,8 +63,30 @@ fn run_noted<
     P: Process,
     I: Read + Drop + Send + 'static,
 >(host: &R, alloc: Global, process: &P, noted: &Noted, input: I) -> RunIn<P::Output, P::Errors>
+where
+    P::Output: Unblock,
+    P::Errors: Unblock,
     ensures { (errand : _) → IsNoted noted.now errand → RunsOver
         (P.input_bytes process.now) (P.file_bytes process.now) errand
+        (P.output_bytes process.now) (P.Output.contents result.output)
+        (P.errors_bytes process.now) (P.Errors.contents result.errors)
+        result.status result.said }
+{
+    match noted.errand() {
+        Errand::Broker(words) => play(host, alloc, process, &words),
+        Errand::Daemon(words) => serve(host, alloc, process, &words, input),
+        Errand::Mount(words) => keep(host, alloc, process, &words),
+    }
+}
+
+/// Plays the kernel by a broker's script, and ends the process with that.
+fn play<R: Threads + Wait + Clock + Files + Net + Sync, P: Process>(
+    host: &R,
+    alloc: Global,
+    process: &P,
+    words: &BrokerWords<'_>,
+) -> RunIn<P::Output, P::Errors>
+    ensures { RunsOver (P.input_bytes process.now) (P.file_bytes process.now) (BrokerErrand words.now)
         (P.output_bytes process.now) (P.Output.contents result.output)
         (P.errors_bytes process.now) (P.Errors.contents result.errors)
         result.status result.said }
@@ -70,9 +95,55 @@ fn run_noted<
         Ok(lines) => lines,
         Err(ended) => return ended,
     };
-    let errand = noted.errand();
-    let ErrandRun { out, ended } = run(host, alloc, process, &errand, input, lines);
+    let ErrandRun { out, ended } = broker(host, alloc, process, words, lines);
     end_errand(ended, out, process.errors())
+}
+
+/// Runs a daemon, and ends the process with it. Nobody waits for what is written to standard error.
+fn serve<
+    R: Threads + Wait + Clock + Files<File = File> + Net + Processes + Copy + Send + Sync + 'static,
+    P: Process,
+    I: Read + Drop + Send + 'static,
+>(
+    host: &R,
+    alloc: Global,
+    process: &P,
+    words: &DaemonWords<'_>,
+    input: I,
+) -> RunIn<P::Output, P::Errors>
+where
+    P::Output: Unblock,
+    P::Errors: Unblock,
+    ensures { RunsOver (P.input_bytes process.now) (P.file_bytes process.now) (DaemonErrand words.now)
+        (P.output_bytes process.now) (P.Output.contents result.output)
+        (P.errors_bytes process.now) (P.Errors.contents result.errors)
+        result.status result.said }
+{
+    let mut errors = process.errors();
+    let _refused = write_behind(host, alloc, &mut errors);
+    let notes = errors.notes();
+    let out = process.output();
+    let ErrandRun { out, ended } = daemon(host, alloc, process, words, input, out, notes);
+    end_ungathered(ended, out, errors)
+}
+
+/// Keeps a mount, and ends the process with it. Nobody waits for what is written to standard error.
+fn keep<
+    R: Threads + Wait + Clock + Files<File = File> + Net + Processes + Copy + Send + Sync + 'static,
+    P: Process,
+>(host: &R, alloc: Global, process: &P, words: &MountWords<'_>) -> RunIn<P::Output, P::Errors>
+where
+    P::Output: Unblock,
+    P::Errors: Unblock,
+    ensures { RunsOver (P.input_bytes process.now) (P.file_bytes process.now) (MountErrand words.now)
+        (P.output_bytes process.now) (P.Output.contents result.output)
+        (P.errors_bytes process.now) (P.Errors.contents result.errors)
+        result.status result.said }
+{
+    let mut errors = process.errors();
+    let _refused = write_behind(host, alloc, &mut errors);
+    let ErrandRun { out, ended } = mount(host, alloc, words, process.output());
+    end_ungathered(ended, out, errors)
 }
 
 /// How an errand over sockets ended, with the writer of its lines.
@@ -80,24 +151,6 @@ fn run_noted<
 struct ErrandRun<'a, W> {
     out: W,
     ended: Result<(), Failure<'a>>,
-}
-
-/// Runs an errand over sockets, and returns how it ended.
-fn run<
-    'a,
-    R: Threads + Wait + Clock + Files<File = File> + Net + Processes + Copy + Send + Sync + 'static,
-    S: Sources,
-    I: Read + Drop + Send + 'static,
-    W: Write + Drop,
->(host: &R, alloc: Global, sources: &S, errand: &Errand<'a>, input: I, out: W) -> ErrandRun<'a, W>
-    ensures { RunsTo (S.input_bytes sources.now) (S.file_bytes sources.now) errand.now result.ended
-        (W.contents out) (W.contents result.out) }
-{
-    match errand {
-        Errand::Broker(words) => broker(host, alloc, sources, words, out),
-        Errand::Daemon(words) => daemon(host, alloc, sources, words, input, out),
-        Errand::Mount(words) => mount(host, alloc, words, out),
-    }
 }
 
 /// Returns the run of an errand that printed nothing more to `out` and failed by `failure`.
@@ -187,7 +240,7 @@ fn daemon<
     R: Threads + Wait + Clock + Files<File = File> + Net + Processes + Copy + Send + Sync + 'static,
     S: Sources,
     I: Read + Drop + Send + 'static,
-    W: Write + Drop,
+    W: Unblock + Drop,
 >(
     host: &R,
     alloc: Global,
@@ -195,6 +248,7 @@ fn daemon<
     words: &DaemonWords<'a>,
     input: I,
     out: W,
+    notes: Notes,
 ) -> ErrandRun<'a, W>
     ensures { RunsTo (S.input_bytes sources.now) (S.file_bytes sources.now)
         (DaemonErrand words.now) result.ended (W.contents out) (W.contents result.out) }
@@ -208,7 +262,7 @@ fn daemon<
         Err(fault) => return fails(out, Failure::plain(fault)),
     };
     drop(text);
-    let run = run_daemon(host, alloc, &orders_of(words), manifest, input, out);
+    let run = run_daemon(host, alloc, &orders_of(words), manifest, input, out, notes);
     match run.ended {
         Ok(()) => ErrandRun {
             out: run.out,
@@ -256,8 +310,6 @@ fn start_of(start: world_script::Start) -> Start
 fn failure_of_daemon<'a>(fault: DaemonFault, words: &DaemonWords<'a>) -> Failure<'a>
     ensures names { Names (DaemonErrand words.now) result }
     ensures told { result.fault ≡ fault_of_daemon fault }
-    ensures first { (old new : Option (List ℕ)) → FailsDaemon fault old new
-        → (result.fault ≡ CannotWrite) ⊎ PrintsFirst (DaemonErrand words.now) old new }
 {
     match fault {
         DaemonFault::NoBroker(error) => caused(Fault::NoBroker, words.broker, error),
@@ -270,15 +322,14 @@ fn failure_of_daemon<'a>(fault: DaemonFault, words: &DaemonWords<'a>) -> Failure
         DaemonFault::NoMemory => Failure::plain(Fault::NoMemory),
         DaemonFault::NoThread => Failure::plain(Fault::NoThread),
         DaemonFault::Broken => Failure::plain(Fault::Broken),
-        DaemonFault::CannotWrite(error) => caused(Fault::CannotWrite, STANDARD_OUTPUT, error),
     }
 }
 
 /// Mounts a checkout, and returns how the errand ended.
 fn mount<
     'a,
-    R: Threads + Wait + Clock + Files<File = File> + Net + Processes + Sync,
-    W: Write + Drop,
+    R: Threads + Wait + Clock + Files<File = File> + Net + Processes + Copy + Send + Sync + 'static,
+    W: Unblock + Drop,
 >(host: &R, alloc: Global, words: &MountWords<'a>, out: W) -> ErrandRun<'a, W>
     ensures { (input : Option (List ℕ)) (file : List ℕ → Option (List ℕ)) → RunsTo input file
         (MountErrand words.now) result.ended (W.contents out) (W.contents result.out) }
@@ -325,8 +376,6 @@ fn owner_of(owner: Owner) -> FileOwner
 fn failure_of_mount<'a>(fault: MountFault, words: &MountWords<'a>) -> Failure<'a>
     ensures names { Names (MountErrand words.now) result }
     ensures told { result.fault ≡ fault_of_mount fault }
-    ensures first { (old new : Option (List ℕ)) → RunsMount (Err fault) old new
-        → (result.fault ≡ CannotWrite) ⊎ PrintsFirst (MountErrand words.now) old new }
 {
     match fault {
         MountFault::CannotListen(error) => caused(Fault::CannotListen, words.socket, error),
@@ -336,6 +385,5 @@ fn failure_of_mount<'a>(fault: MountFault, words: &MountWords<'a>) -> Failure<'a
         MountFault::NoDevice(error) => caused(Fault::NoDevice, DEVICE, error),
         MountFault::CannotMount(error) => caused(Fault::CannotMount, words.mountpoint, error),
         MountFault::Broken(error) => caused(Fault::Broken, DEVICE, error),
-        MountFault::CannotWrite(error) => caused(Fault::CannotWrite, STANDARD_OUTPUT, error),
     }
 }

@@ -2,19 +2,31 @@
 #![tactic(auto)]
 
 mod errands;
+mod host;
 mod note;
+mod streams;
 
 use crate::errands::run_edend;
+use crate::host::Host;
+use crate::streams::{announce, keep_numbers};
+use non_blocking::Unblock;
 use std::process::ExitCode;
-use world_script::System;
+use world_script::{STANDARD_OUTPUT, System};
 pub use world_script::{DEFAULT_LIMIT, Fault, run_world};
 
 fn main(rt: HostRuntime) -> ExitCode {
+    let _kept = keep_numbers(&rt);
+    announce(&rt, &rt.stdin(), rt.stderr());
     let system = System {
         host: &rt,
         output: rt.stdout(),
         errors: rt.stderr(),
     };
-    let ran = run_edend(&rt, rt.alloc(), &system, rt.stdin());
+    let mut ran = run_edend(&rt, rt.alloc(), &Host { system }, rt.stdin());
+    if let Some(loss) = ran.output.finish() {
+        ran.errors
+            .print(format_args!("edend: {STANDARD_OUTPUT}: {loss}"));
+    }
+    let _said = ran.errors.finish();
     ExitCode::from(ran.status)
 }

@@ -1,6 +1,6 @@
 //! A writer that doesn't block once it is told so.
-ghost use Rattle.std.specs.Prelude.{IfSome};
-ghost use Rattle.std.specs.Io.KnownBytes.{Appends, Keeps};
+ghost use Rattle.std.specs.Prelude.{◌≡◌, IfSome};
+ghost use Rattle.std.specs.Io.KnownBytes.{Appends};
 ghost use Rattle.std.specs.Fmt.{with_newline};
 
 use crate::line_queue::LineQueue;
@@ -23,7 +23,7 @@ pub trait Unblock: Write {
 
     /// Has all that is told from now on written by `queue`: from then on no call of the writer waits or fails.
     fn write_by(&mut self, queue: Arc<LineQueue>)
-        ensures same { Keeps (Self.contents self.old) (Self.contents self.new) };
+        ensures same { Self.contents self.new ≡ Self.contents self.old };
 
     /// Tells a line with the text of `line`. What can't be written is dropped.
     fn print<D: Display + Drop>(&mut self, line: D)
@@ -41,7 +41,7 @@ pub fn write_behind<R: Threads + Wait + Copy + Send + 'static, W: Unblock>(
     alloc: Global,
     writer: &mut W,
 ) -> io::Result<()>
-    ensures same { Keeps (W.contents writer.old) (W.contents writer.new) }
+    ensures same { W.contents writer.new ≡ W.contents writer.old }
 {
     let queue = LineQueue::start(rt, alloc, writer.stream())?;
     writer.write_by(queue);

@@ -1,5 +1,5 @@
 -- How a wait counts time. (This project's own.)
-use Rattle.std.specs.Prelude.{ℕ, ◌-◌, ◌==◌, min, Bool}
+use Rattle.std.specs.Prelude.{ℕ, ◌-◌, ◌==◌, ◌&&◌, min, Bool}
 use Rattle.std.specs.Duration.{as_nanos}
 use Rattle.std.specs.Time.{instant_nanos}
 use Rattle.sockets.specs.declared.allowance.Allowance.{Allowance}
@@ -25,3 +25,8 @@ left_after allowance now = as_nanos allowance.left - counted (instant_nanos allo
 -- whether nothing is left of an allowance
 abbrev pub is_spent : Allowance → Bool
 is_spent allowance = as_nanos allowance.left == 0
+
+-- whether so much is left of one allowance as of another one, at the same look
+abbrev pub is_like : Allowance → Allowance → Bool
+is_like one another =
+    (instant_nanos one.looked == instant_nanos another.looked) && (as_nanos one.left == as_nanos another.left)

@@ -1,7 +1,8 @@
 -- By which deadline a byte of a stream of frames has to come. (This project's own.)
 use Rattle.std.specs.Prelude.{Bool, true, false}
+use Rattle.sockets.specs.Allowance.{is_like}
 use Rattle.sockets.specs.declared.deadline.Deadline.{Deadline}
-use Rattle.sockets.specs.declared.deadline.Deadline.TheVariants.{Never}
+use Rattle.sockets.specs.declared.deadline.Deadline.TheVariants.{Never, Passed, Within}
 use Rattle.sockets.specs.declared.timed.Term.{Term}
 use Rattle.sockets.specs.declared.timed.Term.TheVariants.{Whole, Begin, Rest}
 
@@ -11,3 +12,10 @@ abbrev pub term_of : Deadline → Bool → Term
 term_of Never true = Begin
 term_of Never false = Rest
 term_of whole is_between = Whole
+
+-- whether two deadlines are of the same time, as copies of one are
+abbrev pub is_same : Deadline → Deadline → Bool
+is_same Never Never = true
+is_same Passed Passed = true
+is_same (Within one) (Within another) = is_like one another
+is_same one another = false

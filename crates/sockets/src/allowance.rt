@@ -1,8 +1,8 @@
 //! How much longer a wait may last, in time in which this process ran.
-ghost use Rattle.std.specs.Prelude.{◌≡◌, ◌*◌, min};
+ghost use Rattle.std.specs.Prelude.{◌≡◌, ◌*◌, ◌==◌, min};
 ghost use Rattle.std.specs.Duration.{as_nanos};
 ghost use Rattle.std.specs.Time.{instant_nanos};
-ghost use Rattle.sockets.specs.Allowance.{counted, is_spent, left_after, longest_slice};
+ghost use Rattle.sockets.specs.Allowance.{counted, is_like, is_spent, left_after, longest_slice};
 
 use std::time::{Duration, Instant};
 
@@ -30,11 +30,28 @@ impl Allowance {
         self.looked = now;
     }
 
+    /// Returns whether so much was left of `other` at the same look.
+    pub(crate) fn is_same(&self, other: &Allowance) -> bool
+        ensures same { result ≡ is_like self.now other.now }
+    {
+        is_at_once(self.looked, other.looked) && self.left.as_nanos() == other.left.as_nanos()
+    }
+
     /// Returns whether nothing is left.
     pub fn is_spent(&self) -> bool
         ensures spent { result ≡ is_spent self.now }
     {
         self.left.as_nanos() == 0
+    }
+}
+
+/// Returns whether two looks were at the same time.
+fn is_at_once(one: Instant, another: Instant) -> bool
+    ensures same { result ≡ (instant_nanos one == instant_nanos another) }
+{
+    match one.checked_duration_since(another) {
+        Some(since) => since.as_nanos() == 0,
+        None => false,
     }
 }
 

@@ -42,8 +42,9 @@ impl<'a, R: Clock> Connection<'a, R> {
         })
     }
 
-    /// Reads the next frame, every byte of which has to come by `deadline`. Returns none if the other end closed the
-    /// connection before the frame. After a fault the caller has to close the connection.
+    /// Reads the next frame, every byte of which has to come by `deadline`; one that is given again goes on where it was.
+    /// Returns none if the other end closed the connection before the frame. After a fault the caller has to close the
+    /// connection.
     pub fn read(&mut self, deadline: Deadline) -> Result<Option<Frame>, FrameFault> {
         self.end_by(deadline);
         self.read_next()

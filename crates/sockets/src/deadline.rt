@@ -2,6 +2,7 @@
 ghost use Rattle.std.specs.Prelude.{◌≡◌, ◌≤◌, ◌<◌, ◌+◌};
 ghost use Rattle.std.specs.Duration.{as_nanos};
 ghost use Rattle.sockets.specs.Allowance.{most_counted};
+ghost use Rattle.sockets.specs.Waits.{is_same};
 ghost use Rattle.sockets.specs.declared.deadline.Deadline.TheVariants.{Never, Passed, Within};
 ghost use Rattle.sockets.specs.declared.deadline.Left.TheVariants.{Forever, For, Nothing};
 
@@ -54,6 +55,17 @@ impl Deadline {
             Deadline::Never => Left::Forever,
             Deadline::Passed => Left::Nothing,
             Deadline::Within(allowance) => look(clock, allowance),
+        }
+    }
+
+    /// Returns whether this is a deadline like `other`: of the same time left at the same look.
+    pub(crate) fn is_same(&self, other: &Deadline) -> bool
+        ensures same { result ≡ is_same self.now other.now }
+    {
+        match (*self, *other) {
+            (Deadline::Never, Deadline::Never) | (Deadline::Passed, Deadline::Passed) => true,
+            (Deadline::Within(one), Deadline::Within(another)) => one.is_same(&another),
+            _ => false,
         }
     }
 

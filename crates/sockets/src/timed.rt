@@ -21,8 +21,10 @@ const REST: u64 = 5000;
 pub struct Timed<'a, R> {
     clock: &'a R,
     stream: UnixStream,
-    /// By when whole frames have to come.
+    /// By when whole frames have to come, with what reads counted of it.
     whole: Deadline,
+    /// The same as it was given.
+    given: Deadline,
     /// By when a frame has to begin, where whole frames have no deadline.
     begin: Deadline,
     /// By when the rest of a frame has to come that began. The first read of that rest sets it.
@@ -69,6 +71,7 @@ impl<'a, R: Clock> Timed<'a, R> {
             clock,
             stream,
             whole: Deadline::Never,
+            given: Deadline::Never,
             begin: Deadline::Never,
             rest: None,
             passage: Passage::new(),
@@ -77,15 +80,19 @@ impl<'a, R: Clock> Timed<'a, R> {
         }
     }
 
-    /// Lets all reads from this call on end by `deadline`.
+    /// Lets all reads from this call on end by `deadline`. One that is given again goes on where it was.
     pub fn end_by(&mut self, deadline: Deadline) {
-        self.whole = deadline;
         self.begin = Deadline::Never;
+        if !deadline.is_same(&self.given) {
+            self.whole = deadline;
+            self.given = deadline;
+        }
     }
 
     /// Lets the next frames begin by `deadline`, each with five seconds for its rest.
     pub fn begin_by(&mut self, deadline: Deadline) {
         self.whole = Deadline::Never;
+        self.given = Deadline::Never;
         self.begin = deadline;
     }
 
@@ -145,13 +152,11 @@ impl<'a, R: Clock> Timed<'a, R> {
         }
     }
 
-    /// Takes in the bytes that a read gave, if it gave some, and returns its result.
-    fn note(&mut self, read: io::Result<usize>, bytes: &[u8]) -> io::Result<usize> {
-        let count = read?;
-        if self.passage.pass_all(&bytes[..count]) {
+    /// Takes in the bytes that a read gave.
+    fn note(&mut self, bytes: &[u8]) {
+        if self.passage.pass_all(bytes) {
             self.rest = None;
         }
-        Ok(count)
     }
 
     /// Lets the system end each read after `slice`.
@@ -171,8 +176,12 @@ impl<R: Clock> Read for Timed<'_, R> {
         for _slice in 0..u64::MAX {
             self.set_timeout()?;
             match self.stream.read(bytes) {
+                Ok(count) => {
+                    self.note(&bytes[..count]);
+                    return Ok(count);
+                }
                 Err(error) if error.kind() == ErrorKind::WouldBlock => {}
-                read => return self.note(read, bytes),
+                Err(error) => return Err(error),
             }
         }
         Err(io::Error::from(ErrorKind::WouldBlock))

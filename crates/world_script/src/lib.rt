@@ -20,7 +20,7 @@ pub use errands::Errands;
 pub use failure::{Cause, Failure, STANDARD_OUTPUT};
 pub use fault::{Fault, write_fault};
 pub use input::read_manifest;
-pub use process::{Process, RunIn, end_errand, gather_lines, run_process};
+pub use process::{Process, RunIn, end_errand, end_ungathered, gather_lines, run_process};
 pub use program::{run_program, run_words};
 pub use program_end::ProgramEnd;
 pub use run::{run_script, run_world};

@@ -144,6 +144,22 @@ pub fn end_errand<W: Write + Drop, E: Write>(
     leave(output, errors, ending)
 }
 
+/// Ends a process whose errand had the result `ran`, where no line was gathered. Tells on `errors` the system's error
+/// that caused a fault.
+pub fn end_ungathered<W: Write, E: Write>(
+    ran: Result<(), Failure<'_>>,
+    mut output: W,
+    errors: E,
+) -> RunIn<W, E>
+    ensures ends { EndsErrand ran.entry
+        (W.contents output) (W.contents result.output)
+        (E.contents errors) (E.contents result.errors)
+        result.status result.said }
+{
+    let ended = end_after(ran, &mut output);
+    leave(output, errors, ended)
+}
+
 /// Tells on `output` that memory to gather lines in was refused.
 fn tell_no_memory<W: Write>(mut output: W) -> (W, ProgramEnd<'static>)
     ensures { Tells (plain NoMemory) (W.contents output) (W.contents result.0) result.1 }

@@ -1,5 +1,5 @@
 -- Each round prints the line of its generation, or none.
-use Rattle.daemon_process.proofs.LinesPrinted.{serving-ends, serving-none, serving-on}
+use Rattle.daemon_process.proofs.LinesPrinted.{serving-none, serving-round}
 use Rattle.daemon_process.proofs.serving.serve.Goals as goal
 
 pub loop-init : goal.loop-init
@@ -7,9 +7,9 @@ loop-init g c = serving-none _
 
 pub returns-in-Some-serve_lease : goal.returns-in-Some-serve_lease
 returns-in-Some-serve_lease g c = record {
-  prints = serving-ends _ _ _ _ _ _ c.in-Some-serve_lease.exit c.loop.invariant c.in-Some-serve_lease.ensures.prints;
+  prints = serving-round _ _ _ _ _ _ c.loop.invariant c.in-Some-serve_lease.ensures.prints;
   heeds = tt;
 }
 
 pub loop-preserved-in-Serve : goal.loop-preserved-in-Serve
-loop-preserved-in-Serve g c = serving-on _ _ _ _ _ _ c.loop.invariant c.in_default.ensures.prints
+loop-preserved-in-Serve g c = serving-round _ _ _ _ _ _ c.loop.invariant c.in_default.ensures.prints

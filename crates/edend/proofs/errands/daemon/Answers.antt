@@ -18,5 +18,5 @@ returns-in-Err-ended g c =
     record {
       names = c.failure_of_daemon.ensures.names;
       told = inr (inr (record { fault = c.in-Err-ended.fault; ran = ran; is_told = c.failure_of_daemon.ensures.told }));
-      first = c.failure_of_daemon.ensures.first old new ran;
+      first = inr ran;
     }

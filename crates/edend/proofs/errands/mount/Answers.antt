@@ -1,5 +1,5 @@
 -- What the broker over a mount printed before it failed, and which fault is told.
-use Rattle.std.proofs.Common.{Result, subst}
+use Rattle.std.proofs.Common.{Result, inr, subst}
 use Rattle.broker_process.specs.Mounting.{RunsMount}
 use Rattle.broker_process.specs.declared.fault.MountFault.{MountFault}
 use Rattle.edend.proofs.errands.mount.Goals as goal
@@ -12,5 +12,5 @@ returns-in-Err g c = λ input file.
     record {
       names = c.failure_of_mount.ensures.names;
       told = record { fault = c.in-Err.fault; ran = ran; is_told = c.failure_of_mount.ensures.told };
-      first = c.failure_of_mount.ensures.first old new ran;
+      first = inr ran;
     }
