@@ -1,13 +1,20 @@
-//! Tests of `journal`, `workers` and `links`, and of daemons that hand over, by their public calls.
+//! Tests by the public calls of several crates: of an arena's drops, of `journal`, `workers` and `links`, of daemons and
+//! their desks, and of handovers.
 #![tactic(auto)]
 
 #[cfg(test)]
 mod again;
+#[cfg(test)]
+mod daemon_desk_tests;
+#[cfg(test)]
+mod daemon_tests;
 #[cfg(test)]
 mod handover_tests;
 #[cfg(test)]
 mod links_tests;
 #[cfg(test)]
 mod listed;
+#[cfg(test)]
+mod node_arena_tests;
 #[cfg(test)]
 mod workers_tests;
