@@ -52,6 +52,19 @@ def body_of(lines, at, indent):
     return range(0)
 
 
+def places_of(crate, constant):
+    """Returns where a constant is named, but for its own line: keys of functions, or files where it stands elsewhere."""
+    word, item = re.compile(rf"\b{constant}\b"), re.compile(rf"^\s*const {constant}: ")
+    texts = [path for part in ("specs", "proofs") for path in (crate / part).rglob("*.antt")]
+    places = {path.name for path in texts if word.search(path.read_text())}
+    for path, lines, module in files_of(crate / "src"):
+        functions = list(functions_of(lines, module))
+        keys = {line: key for at, indent, key in functions for line in body_of(lines, at, indent)}
+        named = [at for at, line in enumerate(lines) if word.search(line) and not item.match(line)]
+        places.update(keys.get(at, path.name) for at in named)
+    return places
+
+
 def empty_functions(source, wanted, left):
     """Empties the functions of some paths below `source`, but for those that look like one of the paths `left`."""
     keys = {key_of(path) for path in wanted} - {key_of(path) for path in left}

@@ -38,14 +38,20 @@ class WrongBody:
         return any(not file.startswith("src/") for file, _, _ in self.pairs)
 
     def is_shared(self):
-        """Tells whether it may break several functions: whether it changes a definition, or a constant."""
+        """Tells whether it may break several functions: whether it changes a definition, or a constant of several."""
         return self.is_definition() or any(self.is_outside(file, old) for file, old, _ in self.pairs)
 
     def is_outside(self, file, old):
-        """Tells whether a text stands above its file's functions or is a constant, and not a mere import."""
+        """Tells whether a text stands above its file's functions or is a constant, and no import or own constant."""
         above = (CRATES / self.crate / file).read_text().partition(old)[0]
         is_above = not re.search(r"^[^/\n]*\bfn\s", above + old, re.M)
-        return not old.startswith("use ") and (is_above or bool(re.match(r"\s*(pub\S* )?(const|static) ", old)))
+        is_outside = is_above or bool(re.match(r"\s*(pub\S* )?(const|static) ", old))
+        return is_outside and not old.startswith("use ") and not self.is_own_constant(old)
+
+    def is_own_constant(self, old):
+        """Tells whether a text is a private constant that its function names, and nothing else in the crate."""
+        constant = re.match(r"\s*const (\w+): ", old)
+        return bool(constant) and stubs.places_of(CRATES / self.crate, constant[1]) == {stubs.key_of(self.function)}
 
     def texts(self, folder):
         """Returns the texts of the files below the folder that it changes, with the wrong body in them."""
