@@ -8,7 +8,7 @@ import threading
 import time
 
 from process_rows.checks import WAIT, TooSlow, row, same
-from process_rows.hostile import allow_many_files
+from process_rows.rooms import allow_many_files
 
 CROWD = 2000
 # A program without a proof takes milliseconds for each connection.

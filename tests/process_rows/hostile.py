@@ -1,7 +1,6 @@
 """Rows: hostile peers at a daemon's socket and at a broker's. While they last the kernel is served, and each costs a
 thread at most, and a megabyte."""
 import random
-import resource
 import struct
 import threading
 import time
@@ -9,6 +8,7 @@ import time
 from process_rows.checks import WAIT, TooSlow, row, same
 from process_rows.frames import KINDS, OFFER, frame, u32, u64
 from process_rows.kernel import Client, Kernel
+from process_rows.rooms import allow_many_files
 
 MEGABYTE = 1024
 
@@ -118,12 +118,6 @@ def one_that_never_reads(room, path, before):
 ACTS = (
     random_bytes, frames_in_any_order, zeros, half_a_frame, a_thousand_at_once, one_that_never_reads,
 )
-
-
-def allow_many_files():
-    """Lets this process have as many open files as it may, for connections."""
-    most = resource.getrlimit(resource.RLIMIT_NOFILE)[1]
-    resource.setrlimit(resource.RLIMIT_NOFILE, (most, most))
 
 
 def act_on_daemon(room, act):

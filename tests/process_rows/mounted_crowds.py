@@ -6,8 +6,8 @@ import time
 
 from process_rows.checks import WAIT, row, same
 from process_rows.frames import frame, u64
-from process_rows.hostile import allow_many_files
 from process_rows.mounts import Mount
+from process_rows.rooms import allow_many_files
 
 # How many daemons run at once, and how many come one after another.
 MOST_AT_ONCE, COMERS, COMERS_OF_UNPROVED = 1024, 5000, 1500

@@ -28,6 +28,12 @@ ATTR_1 = "attr 1 dir 0755 0 2"
 STARTING = threading.Lock()
 
 
+def allow_many_files():
+    """Lets this process have as many open files as it may, for connections."""
+    most = resource.getrlimit(resource.RLIMIT_NOFILE)[1]
+    resource.setrlimit(resource.RLIMIT_NOFILE, (most, most))
+
+
 def takes_connections(path):
     """Returns whether somebody listens at a socket."""
     with socket.socket(socket.AF_UNIX, socket.SOCK_STREAM) as end:
