@@ -68,7 +68,9 @@ def strangers_and_workers_are_few(room):
     first = room.peer()
     daemon = first.attach()
     began = time.monotonic()
-    strangers = [room.peer() for _ in range(65)]
+    strangers = [room.peer() for _ in range(64)]
+    time.sleep(0.2)
+    strangers.append(room.peer())
     same(strangers.pop(0).is_closed(), True)
     took_between(0, time.monotonic() - began, 1.5, "the stranger that was too many was closed")
     for it in strangers[:16]:

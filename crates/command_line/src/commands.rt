@@ -80,6 +80,9 @@ Exit status:
   1  a fault, told by a line 'fault: TEXT' on standard output
   2  the command line was refused";
 
+/// The usage of `mount`.
+const MOUNT_USAGE: &str = "edend mount [OPTIONS] <MOUNTPOINT> <SOCKET>";
+
 /// What the help of `mount` ends with.
 const MOUNT_HELP: &str = "\
 Example:
@@ -160,6 +163,7 @@ pub fn mount_command<'a>(alloc: Global) -> Result<Command<'a>, AllocError>
 {
     Command::new(alloc, MOUNT)
         .about("Mounts a checkout: the Linux kernel asks, and daemons answer")
+        .override_usage(MOUNT_USAGE)
         .after_help(MOUNT_HELP)
         .arg(word_arg(alloc, MOUNTPOINT, "The directory to mount at"))?
         .arg(word_arg(alloc, SOCKET, "The socket to listen at"))?
