@@ -25,7 +25,7 @@ put_in text offset before rest behind mode more after filled owner none p1 p2 p3
     let behind_is : behind ≡ drop (offset + 44) text = is_behind ∙ ap (λ (r : List ℕ). drop 44 r) is_rest ∙ times_apart offset text in
     let mode_is : mode ≡ take 8 (drop (offset + 44) text) = is_mode ∙ ap (λ (r : List ℕ). take 8 r) behind_is in
     let after_is : after ≡ drop (offset + 60) text =
-        is_after ∙ ap (λ (r : List ℕ). drop 8 r) (is_more ∙ ap (λ (r : List ℕ). drop 8 r) behind_is) ∙ owner_apart offset text in
+    is_after ∙ ap (λ (r : List ℕ). drop 8 r) (is_more ∙ ap (λ (r : List ℕ). drop 8 r) behind_is) ∙ owner_apart offset text in
     let p1_is : p1 ≡ take offset text = is_p1 ∙ ap (λ (n : List ℕ). n ++ before) is_none ∙ is_before in
     let p2_is : p2 ≡ take offset text ++ filled = is_p2 ∙ ap (λ (p : List ℕ). p ++ filled) p1_is in
     let p3_is : p3 ≡ (take offset text ++ filled) ++ take 8 (drop (offset + 44) text) = is_p3 ∙ ap₂ (λ (p m : List ℕ). p ++ m) p2_is mode_is in

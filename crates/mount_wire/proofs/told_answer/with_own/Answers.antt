@@ -6,6 +6,6 @@ use Rattle.mount_wire.proofs.told_answer.with_own.Goals as goal
 pub returns : goal.returns
 returns c = record {
   told = put_in c.args.text.now c.args.shown.now.offset _ _ _ _ _ _ (filled c.args.shown.now.size c.args.own.now.since) (owner_text c.args.own.now.owner) _ _ _ _ _ _
-    c.split_at.ensures.front c.split_at.ensures.back c.split_at-2.ensures.back c.split_at-3.ensures.front c.split_at-3.ensures.back c.split_at-4.ensures.back
-    c.new-reply.ensures.empty c.put.ensures.put c.put_blocks_and_times.ensures.put c.put-2.ensures.put c.put_owner.ensures.put c.put-3.ensures.put;
+      c.split_at.ensures.front c.split_at.ensures.back c.split_at-2.ensures.back c.split_at-3.ensures.front c.split_at-3.ensures.back c.split_at-4.ensures.back
+      c.new-reply.ensures.empty c.put.ensures.put c.put_blocks_and_times.ensures.put c.put-2.ensures.put c.put_owner.ensures.put c.put-3.ensures.put;
 }
