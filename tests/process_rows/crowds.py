@@ -34,12 +34,13 @@ def behind_a_crowd(room, comes):
     """Shows that a new daemon is through within its patience, which is two seconds, behind a crowd of connections that
     came while the old one stood still. `comes` makes one of them, and returns it where it is to stay open."""
     allow_many_files()
+    patience = PATIENCE if room.is_proved else PATIENCE_OF_UNPROVED
     broker = room.broker("seat 1", "seat 2")
-    old = room.mount(patience=None)
+    old = room.mount(patience=patience)
     old.printed("serving 1")
     os.kill(old.pid, signal.SIGSTOP)
     open_ends = [end for number in range(size_of_crowd(room)) if (end := comes(room.takeover_at, number))]
-    new = room.take_over(patience=None)
+    new = room.take_over(patience=patience)
     until_reached(new, room)
     os.kill(old.pid, signal.SIGCONT)
     broker.ends(["seat 1", "seat 2", "ended"])

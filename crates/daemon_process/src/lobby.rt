@@ -1,5 +1,5 @@
 //! The connections of other daemons.
-ghost use Rattle.std.specs.Prelude.{◌≡◌, ◌||◌, false, not, length, IsSome};
+ghost use Rattle.std.specs.Prelude.{◌≡◌, ◌||◌, false, true, not, length, IsSome};
 ghost use Rattle.daemon_process.specs.Guests.{TakesFirst, admission, gives_way, has_place, silent_for};
 
 use crate::guests::{Admission, Guests, Offer};
@@ -69,16 +69,16 @@ impl State {
         self.is_sent_away = true;
     }
 
-    /// Takes the connection that offered first.
+    /// Takes the connection that offered first, which has a takeover under way by that.
     fn take(&mut self) -> Option<Offer>
         ensures first { TakesFirst result self.old.guests.offers.items self.new.guests.offers.items }
         ensures silent { self.new.guests.silent.items ≡ self.old.guests.silent.items }
-        ensures engaged { IsSome result → self.new.is_engaged ≡ false }
+        ensures engaged { IsSome result → self.new.is_engaged ≡ true }
         ensures sent { IsSome result → self.new.is_sent_away ≡ false }
     {
         let offer = self.guests.take()?;
         self.current = offer.stream.try_clone().ok();
-        self.is_engaged = false;
+        self.is_engaged = true;
         self.is_sent_away = false;
         Some(offer)
     }
