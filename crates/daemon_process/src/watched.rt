@@ -1,4 +1,7 @@
 //! Waits for the broker, which last for as long as the connection stands.
+ghost use Rattle.std.specs.Prelude.{IfOk};
+ghost use Rattle.std.specs.Counts.{IsPrefixLen};
+
 use crate::silence::{Silences, soon};
 use links::{Frame, FrameFault};
 use sockets::{Connection, Deadline, Timed};
@@ -25,7 +28,9 @@ impl<'a, R: Wait + Clock> Watched<'a, R> {
     }
 
     /// Reads what comes behind a silence that was long, however late that is.
-    fn read_late(&mut self, bytes: &mut [u8]) -> io::Result<usize> {
+    fn read_late(&mut self, bytes: &mut [u8]) -> io::Result<usize>
+        ensures bound { IfOk result (λ count. IsPrefixLen count bytes.new) }
+    {
         self.silences.begin(self.rt);
         self.reader.begin_by(Deadline::Never);
         let read = self.reader.read(bytes);

@@ -1,5 +1,26 @@
+use Rattle.std.proofs.Common.{refl, subst, List, Option, ℕ, ◌≡◌}
+use Rattle.broker_process.specs.Writing.{Writes}
+use Rattle.broker_process.specs.declared.writing.Written.{Written}
+use Rattle.mount_desk.specs.declared.hearing.Progress.TheVariants.{Answers}
 use Rattle.broker_process.proofs.ServingSteps.{never_left}
 use Rattle.broker_process.proofs.service.handle.Goals as goal
+
+-- the writes of one text in the place of both
+both_written : (reply one other : List ℕ) (told : Written) (old new : Option (List ℕ)) → one ≡ reply → other ≡ reply → Writes one other told old new → Writes reply reply told old new
+both_written reply one other told old new first second writes =
+    subst (λ (text : List ℕ). Writes text reply told old new) first (subst (λ (text : List ℕ). Writes one text told old new) second writes)
+
+-- an answer of the program's own is written as one text, which stands for the error too
+pub returns-in-Answers : goal.returns-in-Answers
+returns-in-Answers g c = record {
+  handles = record {
+    message = c.read_message.result;
+    reads = c.read_message.ensures.reads;
+    end = Answers c.in-Answers.reply;
+    heard = c.in-Answers.ensures.heard;
+    tells = (refl, c.write_reply-told.result, both_written c.in-Answers.reply c.as_slice.result.now c.as_slice-in-Answers.result.now c.write_reply-told.result _ _ c.as_slice.ensures.bytes c.as_slice-in-Answers.ensures.bytes c.write_reply-told.ensures.writes);
+  };
+}
 
 pub unreachable-requires : goal.unreachable-requires
 unreachable-requires g c =

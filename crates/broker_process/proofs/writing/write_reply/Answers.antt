@@ -8,7 +8,7 @@ use Rattle.broker_process.proofs.writing.write_reply.Goals as goal
 pub returns-in-Some : goal.returns-in-Some
 returns-in-Some g c = record {
   writes = c.loop-refusals.invariant c.in-Some.written _ (write_last c.loop-refusals.refusals c.args.texts.now.reply.now c.args.texts.now.error.now c.next_text.result.now c.give-given.result c.in-Some.written _ _
-    (omega (arith, c.loop-refusals-test.true)) c.next_text.ensures.text c.give-given.ensures.gives (sym c.written_by.ensures.written ∙ c.in-Some.is));
+      (omega (arith, c.loop-refusals-test.true)) c.next_text.ensures.text c.give-given.ensures.gives (sym c.written_by.ensures.written ∙ c.in-Some.is));
 }
 
 pub loop-refusals-preserved : goal.loop-refusals-preserved
@@ -20,5 +20,5 @@ loop-refusals-preserved g c =
 pub returns : goal.returns
 returns g c = record {
   writes = c.loop-refusals.invariant Refused _ (none_left c.loop-refusals.refusals c.args.texts.now.reply.now c.args.texts.now.error.now _
-    (omega (arith, c.loop-refusals-test.false, c.loop-refusals.auto.refusals-end)));
+      (omega (arith, c.loop-refusals-test.false, c.loop-refusals.auto.refusals-end)));
 }
