@@ -3,7 +3,7 @@ ghost use Rattle.std.specs.Prelude.{◌≡◌, vec_len, IfOk, OnErr, OnOk};
 ghost use Rattle.std.specs.Io.KnownBytes.{Appends};
 ghost use Rattle.daemon_process.specs.Ending.{IsHeeded, PrintsServing};
 ghost use Rattle.daemon_process.specs.Rounds.{EndsCrew};
-ghost use Rattle.daemon_process.specs.Serving.{IsSameSpell, PrintsRound, begins, serving_line};
+ghost use Rattle.daemon_process.specs.Serving.{IsSameSpell, PrintsRound, begins, printed_of, serving_line};
 
 use crate::arrival::{Worker, channels};
 use crate::exit::{Ending, Exit};
@@ -97,9 +97,7 @@ fn serve_lease<'a, R: Threads + Wait + Clock + Sync, W: Unblock>(
         thread::sleep(rt, Duration::from_millis(PAUSE));
         return None;
     };
-    if is_new {
-        print_serving(out, lease.generation);
-    }
+    print_round(out, is_new, lease.generation);
     serve_crew(rt, alloc, shared, crew, lease, stop)
 }
 
@@ -161,6 +159,16 @@ fn man<'a, R: Wait + Clock>(
     crew.generation = generation;
     crew.stops = stops;
     Ok(true)
+}
+
+/// Prints that the daemon serves at `generation`, if `is_new`.
+fn print_round<W: Unblock>(out: &mut W, is_new: bool, generation: u64)
+    ensures line { Appends (W.contents out.old) (W.contents out.new) (printed_of is_new generation) }
+{
+    if !is_new {
+        return;
+    }
+    print_serving(out, generation);
 }
 
 /// Prints that the daemon serves at `generation`.
