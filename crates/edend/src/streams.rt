@@ -21,9 +21,9 @@ pub struct Kept {
 /// Opens a file in place of each standard stream that the program was started without. So no socket gets its number, and
 /// with that what is printed. Nothing can be read from the first, and nothing written to the others.
 pub fn keep_numbers<R: Files<File = File>>(rt: &R) -> Kept {
-    let input = kept(OpenOptions::new().write(true).open(rt, NULL).ok(), 0);
-    let output = kept(OpenOptions::new().read(true).open(rt, NULL).ok(), LAST);
-    let errors = kept(OpenOptions::new().read(true).open(rt, NULL).ok(), LAST);
+    let input = keep_up_to(OpenOptions::new().write(true).open(rt, NULL).ok(), 0);
+    let output = keep_up_to(OpenOptions::new().read(true).open(rt, NULL).ok(), LAST);
+    let errors = keep_up_to(OpenOptions::new().read(true).open(rt, NULL).ok(), LAST);
     Kept {
         _input: input,
         _others: [output, errors],
@@ -31,7 +31,7 @@ pub fn keep_numbers<R: Files<File = File>>(rt: &R) -> Kept {
 }
 
 /// Returns `file` if its number is `last` at most, else none: it is closed.
-fn kept(file: Option<File>, last: i32) -> Option<File> {
+fn keep_up_to(file: Option<File>, last: i32) -> Option<File> {
     file.filter(|file| file.as_raw_fd() <= last)
 }
 
