@@ -13,10 +13,10 @@ from process_rows.rooms import allow_many_files
 CROWD = 2000
 # A program without a proof takes milliseconds for each connection.
 CROWD_OF_UNPROVED = 500
-UPGRADES, UPGRADES_OF_UNPROVED = 18, 6
+UPGRADES, UPGRADES_OF_UNPROVED = 18, 3
 # The patience of two seconds, which a daemon has by itself. A program without a proof may take them for what waits in
 # the system's queue.
-PATIENCE, PATIENCE_OF_UNPROVED = None, "20000"
+PATIENCE, PATIENCE_OF_UNPROVED = None, "60000"
 
 
 def size_of_crowd(room):
