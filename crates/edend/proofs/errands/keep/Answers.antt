@@ -8,5 +8,5 @@ pub returns : goal.returns
 returns g c =
     let input = g.P.Sources.input_bytes c.args.process.now in
     let file = g.P.Sources.file_bytes c.args.process.now in
-    let kept = subst (λ (known : Option (List ℕ)). Keeps (g.P.Process.errors_bytes c.args.process.now) known) (sym c.write_behind.ensures.same) c.errors-errors.ensures.bytes in
+    let kept = subst (λ (known : Option (List ℕ)). Keeps (g.P.Process.errors_bytes c.args.process.now) known) (sym c.write_behind-refused.ensures.same) c.errors-errors.ensures.bytes in
     runs_over _ input file c.mount-out.result.ended _ _ _ _ _ _ _ _ _ (c.mount-out.ensures input file) c.output.ensures.bytes kept c.end_ungathered.ensures.ends
