@@ -1,4 +1,5 @@
 """Rows: lines that can't be printed, since a disk is full, a stream is closed or nobody reads a pipe."""
+import contextlib
 import os
 import struct
 
@@ -47,7 +48,9 @@ def a_first_line_may_not_be_printed(room):
             daemon = room.mount()
             ends_unprinted(broker, said)
             same(daemon.ending(), ("fault: broken", 1))
-            os.unlink(room.takeover_at)
+            # The broker may be gone before the daemon listens.
+            with contextlib.suppress(FileNotFoundError):
+                os.unlink(room.takeover_at)
 
 
 @row
