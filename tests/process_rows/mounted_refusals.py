@@ -112,7 +112,7 @@ def a_mount_listens_where_its_words_say(room):
 
 
 # The commands by which a broker mounts, but for `mount`.
-COMMANDS = ("sh", "findmnt", "sed", "cat", "grep", "dirname", "basename", "umount", "stat")
+COMMANDS = ("sh", "setsid", "findmnt", "sed", "cat", "grep", "dirname", "basename", "umount", "stat")
 
 
 def commands_in(room, mount=None):
