@@ -20,6 +20,8 @@ pub {last}_spec : {{M : Type 1}} → statement M
 """
 # The functions that may have a file of their own for a proof: those of a path of words, and how a type is dropped.
 HAS_FILE = re.compile(r"\w+(::\w+)*|\w+(\+\+\w+)+\+Destruct::drop")
+# A proof file at a path where the prover makes the module itself, as for a type that holds others of its kind.
+MADE_BY_PROVER = re.compile(r"^\./proofs/(\S+)/Proof\.antt: error\[reserved-name\]", re.M)
 REFUSED, LET_THROUGH = "refused", "LET THROUGH"
 HIDDEN = "NOT TRIED: only what it stands on is refused"
 UNKNOWN = "NOT TRIED: the check names no such function"
@@ -79,13 +81,14 @@ class Crate:
             words += ["--only", function]
         return words
 
-    def dig(self, proofs, functions):
-        """Puts a hole in place of each proof, but not of the functions and their closures. Returns whose they were."""
+    def dig(self, proofs, functions, left):
+        """Puts a hole in place of each proof, but not of the functions and their closures, nor of those that are left.
+        Returns whose they were."""
         dug = []
         for function in self.functions:
             owner = function.replace("fn::", "").rpartition("::")[0] if "fn::" in function else function
             folder = proofs / function.replace("::", "/")
-            if owner in functions or not HAS_FILE.fullmatch(function) or (folder / "Proof.antt").exists():
+            if owner in functions or function in left or not HAS_FILE.fullmatch(function) or (folder / "Proof.antt").exists():
                 continue
             folder.mkdir(parents=True, exist_ok=True)
             for file in ("Answers.antt", "Invariants.antt"):
@@ -95,8 +98,9 @@ class Crate:
             dug.append(function)
         return dug
 
-    def check(self, functions, bodies):
-        """Checks the functions in a copy with the wrong bodies. Returns what was said, and the seconds that it took."""
+    def check(self, functions, bodies, left=frozenset()):
+        """Checks the functions in a copy with the wrong bodies, amid holes but for those that are left. Returns what was
+        said, and the seconds that it took."""
         with tempfile.TemporaryDirectory() as room:
             copy = pathlib.Path(room)
             for part in ("src", "specs", "proofs"):
@@ -107,13 +111,18 @@ class Crate:
                     body.apply(copy)
             except ValueError as clash:
                 return f"error: {clash}", 0.0
-            stubs.empty_functions(copy / "src", self.dig(copy / "proofs", functions), functions)
+            stubs.empty_functions(copy / "src", self.dig(copy / "proofs", functions, left), functions)
             with open(copy / "said", "w+", errors="replace") as said:
                 process = subprocess.Popen(self.words(functions), cwd=copy, stdout=said, stderr=subprocess.STDOUT)
                 _, status, usage = os.wait4(process.pid, 0)
                 process.returncode = os.waitstatus_to_exitcode(status)
                 said.seek(0)
-                return said.read(), usage.ru_utime + usage.ru_stime
+                text, seconds = said.read(), usage.ru_utime + usage.ru_stime
+        made = {path.replace("/", "::") for path in MADE_BY_PROVER.findall(text)} - left
+        if made:
+            text, more = self.check(functions, bodies, left | made)
+            seconds += more
+        return text, seconds
 
     def words_on(self, said):
         """Returns the prover's last word on each function, or None where the check did not come so far."""
