@@ -4,7 +4,7 @@ use Rattle.std.specs.Prelude.{IsTrue}
 use Rattle.fuse_wire.specs.declared.fault.WireFault.{WireFault}
 use Rattle.fuse_wire.specs.declared.fault.WireFault.TheVariants.{Short, BadLength, BadBody, BadCount, BadName, NoMemory}
 use Rattle.byte_codec.specs.Reading.{◌>>=◌}
-use Rattle.fuse_wire.specs.Reading.{Gives, MayLack, TakesSome}
+use Rattle.fuse_wire.specs.Reading.{Gives, MayLack}
 
 false_not : IsTrue false → ⊥
 false_not e = cc
@@ -42,11 +42,12 @@ not_out_of_memory Takes (Err BadCount) read given = λ e. cc
 not_out_of_memory Takes (Err (BadName name)) read given = λ e. cc
 
 -- what is at fault, or lacks memory, is so beside something more
-pub fault_beside : {X Y : Type 0} (may_lack : Bool) (more : X → Y) (fault : WireFault) (read : Result X WireFault) → Gives (MayLack may_lack TakesSome) (Err fault) read → Gives (MayLack may_lack TakesSome) (Err fault) (read >>= λ x. Ok (more x))
-fault_beside may_lack more NoMemory (Ok x) given = given
-fault_beside may_lack more NoMemory (Err fault) given = absurd given
-fault_beside may_lack more Short read given = ap (λ (r : Result _ WireFault). r >>= λ x. Ok (more x)) given
-fault_beside may_lack more BadLength read given = ap (λ (r : Result _ WireFault). r >>= λ x. Ok (more x)) given
-fault_beside may_lack more BadBody read given = ap (λ (r : Result _ WireFault). r >>= λ x. Ok (more x)) given
-fault_beside may_lack more BadCount read given = ap (λ (r : Result _ WireFault). r >>= λ x. Ok (more x)) given
-fault_beside may_lack more (BadName fault) read given = ap (λ (r : Result _ WireFault). r >>= λ x. Ok (more x)) given
+pub fault_beside : {X Y : Type 0} (may_lack : Bool) (Takes : Y → Type 0) (more : X → Y) (fault : WireFault) (read : Result X WireFault) → Gives (MayLack may_lack (λ x. Takes (more x))) (Err fault) read
+    → Gives (MayLack may_lack Takes) (Err fault) (read >>= λ x. Ok (more x))
+fault_beside may_lack Takes more NoMemory (Ok x) given = given
+fault_beside may_lack Takes more NoMemory (Err fault) given = absurd given
+fault_beside may_lack Takes more Short read given = ap (λ (r : Result _ WireFault). r >>= λ x. Ok (more x)) given
+fault_beside may_lack Takes more BadLength read given = ap (λ (r : Result _ WireFault). r >>= λ x. Ok (more x)) given
+fault_beside may_lack Takes more BadBody read given = ap (λ (r : Result _ WireFault). r >>= λ x. Ok (more x)) given
+fault_beside may_lack Takes more BadCount read given = ap (λ (r : Result _ WireFault). r >>= λ x. Ok (more x)) given
+fault_beside may_lack Takes more (BadName fault) read given = ap (λ (r : Result _ WireFault). r >>= λ x. Ok (more x)) given

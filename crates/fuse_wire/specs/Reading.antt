@@ -9,7 +9,7 @@ Gives Takes (Ok x) read = read ≡ Ok x
 Gives Takes (Err NoMemory) read = IsOkAnd read Takes
 Gives Takes (Err fault) read = read ≡ Err fault
 
--- each value of this type takes memory, as each name does
+-- each value of this type takes memory, as each batch does
 abbrev pub TakesSome : {X : Type 0} → X → Type 0
 TakesSome x = Unit {0}
 

@@ -1,7 +1,7 @@
 -- The body of a request, by its kind (linux/fuse.h: the struct of each opcode). First comes how it is written, with 0
 -- in the fields that no reader uses, then which bytes are read as the body. Last comes what bytes are read as, or their
 -- first fault. Each table has a row for each kind of request.
-use Rattle.std.specs.Prelude.{All, ◌≡◌, ◌<◌, ◌≤◌, ◌^◌, ◌+◌, ◌-◌, ◌*◌, ◌%◌, ℕ, zero, suc, not, ◌||◌, ◌&&◌, ◌==◌, nat_lt, List, [], ◌∷◌, ◌++◌, length, take, drop, slice_index, Option, Some, None, Result, Ok, Err, if◌then◌else◌}
+use Rattle.std.specs.Prelude.{All, ◌≡◌, ◌<◌, ◌≤◌, ◌^◌, ◌+◌, ◌-◌, ◌*◌, ◌%◌, ◌⊎◌, ℕ, zero, suc, not, ◌||◌, ◌&&◌, ◌==◌, nat_lt, List, [], ◌∷◌, ◌++◌, length, take, drop, slice_index, Option, Some, None, Result, Ok, Err, if◌then◌else◌}
 use Rattle.std.specs.List.{flat_map}
 use Rattle.eden_base.specs.declared.attr.Perm.{Perm}
 use Rattle.eden_base.specs.declared.name.NameFault.{NameFault}
@@ -209,13 +209,21 @@ items_told request = Err BadBody
 
 -- ---- what takes memory
 
--- a request takes memory: it has a name or two, or is a batch
+-- a name takes memory of its own: it has more than the 16 bytes that stand in its value (eden_base: `SHORT`)
+abbrev pub IsLongName : List ℕ → Type 0
+IsLongName name = 16 < length name
+
+-- one of two names takes memory
+abbrev pub IsLongEither : List ℕ → List ℕ → Type 0
+IsLongEither first second = IsLongName first ⊎ IsLongName second
+
+-- a request takes memory: it has a long name, or is a batch
 abbrev pub TakesMemory : Request → Type 0
-TakesMemory (Lookup dir name) = Unit {0}
-TakesMemory (Create dir name perm) = Unit {0}
-TakesMemory (Mkdir dir name perm) = Unit {0}
-TakesMemory (Unlink dir name) = Unit {0}
-TakesMemory (Rmdir dir name) = Unit {0}
-TakesMemory (Rename dir name to_dir to_name) = Unit {0}
+TakesMemory (Lookup dir name) = IsLongName name
+TakesMemory (Create dir name perm) = IsLongName name
+TakesMemory (Mkdir dir name perm) = IsLongName name
+TakesMemory (Unlink dir name) = IsLongName name
+TakesMemory (Rmdir dir name) = IsLongName name
+TakesMemory (Rename dir name to_dir to_name) = IsLongEither name to_name
 TakesMemory (BatchForget items) = Unit {0}
 TakesMemory request = ⊥

@@ -4,7 +4,7 @@ ghost use Rattle.std.specs.Prelude.{All, ◌≡◌, ◌<◌, ◌≤◌, ◌+◌,
 ghost use Rattle.std.specs.List.{flat_map};
 ghost use Rattle.eden_base.specs.Name.{IsNameText};
 ghost use Rattle.fuse_wire.specs.Reading.{Gives, TakesSome, TakesNone, MayLack};
-ghost use Rattle.fuse_wire.specs.RequestBody.{name_text, made_body, move_body, batch_body, item_text, FitsItem, IsMoveBody, name_of, named_with, made_of, ended_by_nul, both_checked, names_of, move_of, forget_of, batch_of, items_at};
+ghost use Rattle.fuse_wire.specs.RequestBody.{IsLongName, IsLongEither, name_text, made_body, move_body, batch_body, item_text, FitsItem, IsMoveBody, name_of, named_with, made_of, ended_by_nul, both_checked, names_of, move_of, forget_of, batch_of, items_at};
 ghost use Rattle.fuse_wire.specs.Writing.{HasRoom, Puts};
 
 use crate::layout::{BATCH_FIXED, BATCH_REST_LEN, FORGET_LEN, MODE_LEN, RENAME_FIXED};
@@ -53,7 +53,7 @@ fn ended_by_nul(bytes: &[u8]) -> Result<&[u8], WireFault>
 /// Reads a name and its NUL.
 #[tactic(auto, unfolding(crate::specs::RequestBody::name_of))]
 pub(crate) fn read_name<M: Memory>(memory: M, body: &[u8]) -> Result<Name, WireFault>
-    ensures { Gives (MayLack M.may_lack TakesSome) result (name_of body.now) }
+    ensures { Gives (MayLack M.may_lack IsLongName) result (name_of body.now) }
 {
     let bytes = ended_by_nul(body)?;
     if let Some(fault) = Name::fault(bytes) {
@@ -114,7 +114,7 @@ pub(crate) fn read_made<M: Memory>(
     body: &[u8],
 ) -> Result<(Name, Perm), WireFault>
     requires { offset + rest ≤ 12 }
-    ensures { Gives (MayLack M.may_lack TakesSome) result (made_of offset rest body.now) }
+    ensures { Gives (MayLack M.may_lack (λ made. IsLongName made.0)) result (made_of offset rest body.now) }
 {
     let (perm, named) = mode_part(offset, rest, body)?;
     let name = read_name(memory, named)?;
@@ -145,7 +145,7 @@ pub(crate) fn put_move(fields: &mut Writer, to_dir: Number, name: &Name, to_name
 
 /// Makes two names of `first` and `second`, or returns the first fault.
 fn both_names<M: Memory>(memory: M, first: &[u8], second: &[u8]) -> Result<(Name, Name), WireFault>
-    ensures { Gives (MayLack M.may_lack TakesSome) result (both_checked first.now second.now) }
+    ensures { Gives (MayLack M.may_lack (λ names. IsLongEither names.0 names.1)) result (both_checked first.now second.now) }
 {
     if let Some(fault) = Name::fault(first) {
         return Err(WireFault::BadName(fault));
@@ -162,7 +162,7 @@ fn both_names<M: Memory>(memory: M, first: &[u8], second: &[u8]) -> Result<(Name
 /// Reads two names, each with its NUL: the first ends at the first NUL, the second at the last byte.
 #[tactic(auto, unfolding(crate::specs::RequestBody::names_of))]
 fn read_names<M: Memory>(memory: M, bytes: &[u8]) -> Result<(Name, Name), WireFault>
-    ensures { Gives (MayLack M.may_lack TakesSome) result (names_of bytes.now) }
+    ensures { Gives (MayLack M.may_lack (λ names. IsLongEither names.0 names.1)) result (names_of bytes.now) }
 {
     let Some((first, rest)) = cut(bytes, 0) else {
         return Err(WireFault::BadBody);
@@ -177,7 +177,7 @@ pub(crate) fn read_move<M: Memory>(
     memory: M,
     body: &[u8],
 ) -> Result<(Number, Name, Name), WireFault>
-    ensures { Gives (MayLack M.may_lack TakesSome) result (move_of body.now) }
+    ensures { Gives (MayLack M.may_lack (λ move. IsLongEither move.1 move.2)) result (move_of body.now) }
 {
     if body.len() < RENAME_FIXED {
         return Err(WireFault::BadBody);

@@ -1,7 +1,7 @@
 //! The memory for the names or the batch of a request that is read or copied.
 ghost use Rattle.std.specs.Prelude.{◌≡◌, ◌≤◌, ◌*◌, Bool, true, false, IsTrue, length, IfOk, OnErr};
 ghost use Rattle.eden_base.specs.Name.{IsNameText};
-ghost use Rattle.fuse_wire.specs.RequestBody.{items_at};
+ghost use Rattle.fuse_wire.specs.RequestBody.{IsLongName, IsLongEither, items_at};
 
 use crate::{Batch, BatchRoom};
 use eden_base::{Name, NameRoom, NoMemory};
@@ -16,7 +16,7 @@ pub(crate) trait Memory: Drop {
     fn name(self, bytes: &[u8]) -> Result<Name, NoMemory>
         requires { IsNameText bytes.now }
         ensures name { IfOk result (λ name. name ≡ bytes.now) }
-        ensures lack { OnErr result (IsTrue may_lack) };
+        ensures lack { OnErr result (IsTrue may_lack × IsLongName bytes.now) };
 
     /// Makes two names of `first` and `second`, which must be valid names.
     fn names(self, first: &[u8], second: &[u8]) -> Result<(Name, Name), NoMemory>
@@ -24,7 +24,7 @@ pub(crate) trait Memory: Drop {
         requires is_second { IsNameText second.now }
         ensures first { IfOk result (λ names. names.0 ≡ first.now) }
         ensures second { IfOk result (λ names. names.1 ≡ second.now) }
-        ensures lack { OnErr result (IsTrue may_lack) };
+        ensures lack { OnErr result (IsTrue may_lack × IsLongEither first.now second.now) };
 
     /// Reads a batch of `count` items from `bytes`.
     fn batch(self, count: usize, bytes: &[u8]) -> Result<Batch, NoMemory>
@@ -36,13 +36,13 @@ pub(crate) trait Memory: Drop {
     /// Copies a name.
     fn copy_name(self, name: &Name) -> Result<Name, NoMemory>
         ensures name { IfOk result (λ copy. copy ≡ name.now) }
-        ensures lack { OnErr result (IsTrue may_lack) };
+        ensures lack { OnErr result (IsTrue may_lack × IsLongName name.now) };
 
     /// Copies two names.
     fn copy_names(self, first: &Name, second: &Name) -> Result<(Name, Name), NoMemory>
         ensures first { IfOk result (λ copies. copies.0 ≡ first.now) }
         ensures second { IfOk result (λ copies. copies.1 ≡ second.now) }
-        ensures lack { OnErr result (IsTrue may_lack) };
+        ensures lack { OnErr result (IsTrue may_lack × IsLongEither first.now second.now) };
 
     /// Copies a batch.
     fn copy_batch(self, batch: &Batch) -> Result<Batch, NoMemory>

@@ -1,6 +1,7 @@
 //! The requests of the kernel, and their opcodes.
 ghost use Rattle.std.specs.Prelude.{◌≡◌, ◌≤◌, ◌↔◌, length, IsTrue, IfOk, OnErr};
 ghost use Rattle.fuse_wire.specs.Request.{code, opcode, opcode_of, nodeid, is_forget, form_of, is_ask, nodes, item_of, items_of, other_of};
+ghost use Rattle.fuse_wire.specs.RequestBody.{TakesMemory};
 
 use crate::memory::{Memory, Rooms};
 use crate::same::{same_perm, same_place};
@@ -82,7 +83,7 @@ impl Request {
     /// Makes a copy of the request in `memory`.
     fn copied<M: Memory>(&self, memory: M) -> Result<Request, NoMemory>
         ensures copy { IfOk result (λ copy. copy ≡ self.now) }
-        ensures lack { OnErr result (IsTrue M.may_lack) }
+        ensures lack { OnErr result (IsTrue M.may_lack × TakesMemory self.now) }
     {
         match self {
             Request::Lookup { dir, name } => {
@@ -143,6 +144,7 @@ impl Request {
     /// Makes a copy of the request, in memory that `alloc` gives.
     pub fn copy(&self, alloc: Global) -> Result<Request, NoMemory>
         ensures copy { IfOk result (λ copy. copy ≡ self.now) }
+        ensures lack { OnErr result (TakesMemory self.now) }
     {
         self.copied(alloc)
     }
