@@ -2,7 +2,9 @@
 import time
 
 from process_rows.checks import WAIT, TooSlow, row, row_of_proved, same, took_between
-from process_rows.daemons import ends_by_claim, ends_by_takeover, handed_over, offered, serving
+from process_rows.daemons import (
+    CLOSED, GIVEN_UP, SILENT, UNSENT, ends_by_claim, ends_by_takeover, handed_over, offered, serving,
+)
 from process_rows.frames import OFFER, frame, u32, u64
 
 
@@ -48,7 +50,7 @@ def a_peer_that_is_silent_before_the_data_is_closed(room):
     same(it.read(), ("Failed", u32(1)))
     same(it.read(), None)
     took_between(0.2, time.monotonic() - began, 3, "it was closed")
-    ends_by_takeover(room, broker, daemon)
+    ends_by_takeover(room, broker, daemon, f"{SILENT} Pong")
 
 
 @row
@@ -70,7 +72,7 @@ def frames_that_say_nothing_buy_no_time(room):
             break
         time.sleep(0.05)
     took_between(0.4, time.monotonic() - began, 4, "it was closed")
-    ends_by_takeover(room, broker, daemon)
+    ends_by_takeover(room, broker, daemon, f"{SILENT} Pong")
 
 
 @row
@@ -83,7 +85,7 @@ def a_peer_that_is_silent_behind_the_data_gets_nothing(room):
     same(it.read(), ("Failed", u32(1)))
     same(it.read(), None)
     took_between(0.7, time.monotonic() - began, 5, "it was closed")
-    ends_by_claim(broker, daemon)
+    ends_by_claim(broker, daemon, f"{SILENT} its claim of the seat")
 
 
 @row
@@ -91,7 +93,7 @@ def a_peer_that_closes_behind_the_data_gets_nothing(room):
     """A peer that closes behind the data gets nothing: the daemon claims the seat, and serves at the next generation."""
     broker, daemon = serving(room)
     handed_over(room)
-    ends_by_claim(broker, daemon)
+    ends_by_claim(broker, daemon, f"{CLOSED} its claim of the seat")
 
 
 @row
@@ -102,7 +104,7 @@ def a_peer_that_fails_behind_the_data_gets_nothing(room):
     same(it.ask("Pong", u32(1))[0], "Data")
     it.send("Failed", u32(1))
     same(it.read(), None)
-    ends_by_claim(broker, daemon)
+    ends_by_claim(broker, daemon, GIVEN_UP)
 
 
 @row
@@ -120,7 +122,7 @@ def a_peer_that_closes_before_the_data_changes_nothing(room):
     it.send("Offer", b"\x01\x00\x09")
     same(it.read(), ("NoCommon", b""))
     it.close()
-    ends_by_takeover(room, broker, daemon)
+    ends_by_takeover(room, broker, daemon, f"{CLOSED} Pong", GIVEN_UP, f"{CLOSED} Pong")
 
 
 @row
@@ -160,7 +162,7 @@ def a_peer_that_never_reads_stops_no_mount(room):
             deaf.end.sendall(OFFER * 16)
     except (TimeoutError, BrokenPipeError, ConnectionResetError):
         pass
-    ends_by_takeover(room, broker, daemon)
+    ends_by_takeover(room, broker, daemon, f"{UNSENT} Pong")
 
 
 def share_of_a_processor(daemon, seconds):

@@ -5,6 +5,23 @@ from process_rows.checks import same
 from process_rows.frames import OFFER, PART, u32, u64
 from process_rows.rooms import ATTR_1
 
+# the causes of a takeover that failed
+NO_COMMON = "the daemons have no version of the image in common"
+BUSY = "the other daemon takes no offer at present"
+CLOSED = "the other daemon closed the connection; awaited was"
+SILENT = "the other daemon was silent; awaited was"
+UNSENT = "the other daemon can't be written to; awaited was"
+ODD = "the other daemon said what no daemon says; awaited was"
+BAD_IMAGE = "the image can't be restored"
+GIVEN_UP = "the other daemon gave up"
+NO_IMAGE = "no image can be made in the chosen version"
+OTHER = "another manifest"
+
+
+def because(cause):
+    """Returns the line on standard error that tells the cause of a takeover that failed."""
+    return f"edend: takeover failed: {cause}\n"
+
 
 def serving(room, *options, script=("seat 1", "seat 2", "ask getattr 1"), **others):
     """Starts a broker and a daemon, and waits until the daemon serves."""
@@ -24,19 +41,21 @@ def mounted_anew(room, *options, manifest="m", **streams):
     raise AssertionError("a daemon that ended is still seated")
 
 
-def ends_by_takeover(room, broker, daemon):
+def ends_by_takeover(room, broker, daemon, *causes):
     """Shows that a daemon serves on at generation 1: another one takes over from it. Behind each takeover that came to
-    nothing it says that it serves, unless it was offered the next one before."""
+    nothing it says that it serves, unless it was offered the next one before. It told these causes alone."""
     new = room.take_over()
     broker.ends(["seat 1", "seat 2", f"answer 1 {ATTR_1}", "ended"])
     daemon.ends(["serving 1", "handed over"], may_repeat=True)
+    same(daemon.said(), "".join(map(because, causes)))
     new.ends(["serving 2", "ended"])
 
 
-def ends_by_claim(broker, daemon):
-    """Shows that a daemon claimed the seat again."""
+def ends_by_claim(broker, daemon, cause):
+    """Shows that a daemon claimed the seat again, and told this cause alone."""
     broker.ends(["seat 1", "seat 2", f"answer 1 {ATTR_1}", "ended"])
     daemon.ends(["serving 1", "serving 2", "ended"], may_repeat=True)
+    same(daemon.said(), because(cause))
 
 
 def offered(room, session=1, generation=1):

@@ -4,51 +4,53 @@ import time
 
 from process_rows.checks import PATIENCE, row, same, took_between
 from process_rows.counts import counts_of, handed_to, image_of
-from process_rows.daemons import LONG_NAMES, handed_over, long_checkout, parts_of
+from process_rows.daemons import (
+    BAD_IMAGE, BUSY, CLOSED, LONG_NAMES, NO_COMMON, NO_IMAGE, ODD, SILENT, because, handed_over, long_checkout, parts_of,
+)
 from process_rows.frames import ALL_VERSIONS, PART, u32, u64
 from process_rows.rooms import ENTRY
 
 
-def against_a_daemon(room, talk, lines, status=1, patience=PATIENCE):
-    """Lets a daemon take over from a peer that talks by hand."""
+def against_a_daemon(room, talk, lines, cause, patience=PATIENCE):
+    """Lets a daemon take over from a peer that talks by hand, and compares what it printed and the cause that it told."""
     room.broker("seat 1")
     listener = room.listen(room.takeover_at)
     new = room.take_over(patience=patience)
     other = room.accept(listener)
     same(other.read(), ("Offer", ALL_VERSIONS))
     talk(other)
-    new.ends(lines, status)
+    new.ends(lines, 1, error=because(cause))
 
 
 @row
 def an_offer_may_have_no_version_in_common(room):
     """An offer that is answered NoCommon is refused."""
-    against_a_daemon(room, lambda other: other.send("NoCommon"), ["fault: offer refused"])
+    against_a_daemon(room, lambda other: other.send("NoCommon"), ["fault: offer refused"], NO_COMMON)
 
 
 @row
 def an_offer_may_come_at_a_bad_time(room):
     """An offer that is answered Busy is refused."""
-    against_a_daemon(room, lambda other: other.send("Busy"), ["fault: offer refused"])
+    against_a_daemon(room, lambda other: other.send("Busy"), ["fault: offer refused"], BUSY)
 
 
 @row
 def a_takeover_fails_where_the_other_daemon_closes(room):
     """A takeover fails where the other daemon closes the connection, and nothing is left of the socket."""
-    against_a_daemon(room, lambda other: other.close(), ["fault: takeover failed"])
+    against_a_daemon(room, lambda other: other.close(), ["fault: takeover failed"], f"{CLOSED} Choice")
     same([name for name in os.listdir(room.path) if name.startswith("takeover.sock.")], [])
 
 
 @row
 def a_takeover_fails_where_the_other_daemon_is_silent(room):
     """A takeover fails where the other daemon is silent."""
-    against_a_daemon(room, lambda other: None, ["fault: takeover failed"], patience="500")
+    against_a_daemon(room, lambda other: None, ["fault: takeover failed"], f"{SILENT} Choice", patience="500")
 
 
 @row
 def a_takeover_fails_by_a_brokers_frame(room):
     """A takeover fails where the other daemon sends a broker's frame."""
-    against_a_daemon(room, lambda other: other.send("Empty"), ["fault: takeover failed"])
+    against_a_daemon(room, lambda other: other.send("Empty"), ["fault: takeover failed"], f"{ODD} Choice")
 
 
 @row
@@ -60,7 +62,7 @@ def a_takeover_fails_by_bad_data(room):
         same(other.ask("Ready", u32(1) + u64(1)), ("Pong", u32(1)))
         same(other.ask("Data", u32(1) + u64(1) + b"no image"), ("Failed", u32(1)))
 
-    against_a_daemon(room, talk, ["fault: takeover failed"])
+    against_a_daemon(room, talk, ["fault: takeover failed"], BAD_IMAGE)
 
 
 def part(position, count, text, session=1, generation=1):
@@ -77,7 +79,7 @@ def a_takeover_fails_by_a_bad_first_part(room):
         same(other.ask("Ready", u32(1) + u64(1)), ("Pong", u32(1)))
         same(other.ask("Part", part(1, 2, b"no image" * 512)), ("Failed", u32(1)))
 
-    against_a_daemon(room, talk, ["fault: takeover failed"])
+    against_a_daemon(room, talk, ["fault: takeover failed"], BAD_IMAGE)
 
 
 @row
@@ -103,7 +105,7 @@ def a_takeover_fails_between_parts(room):
     images.append(b"".join(parts_of(room)))
     same((broker.ending(), first.ending()), (("ended", 0), ("ended", 0)))
     os.unlink(room.takeover_at)
-    against_a_daemon(room, talk, ["fault: takeover failed"])
+    against_a_daemon(room, talk, ["fault: takeover failed"], f"{CLOSED} Part 2 of 2")
 
 
 @row
@@ -116,7 +118,7 @@ def a_new_daemon_waits_longer_behind_pong(room):
         same(other.ask("Ready", u32(1) + u64(1)), ("Pong", u32(1)))
         ponged.append(time.monotonic())
 
-    against_a_daemon(room, talk, ["fault: takeover failed"], patience="600")
+    against_a_daemon(room, talk, ["fault: takeover failed"], f"{SILENT} Data", patience="600")
     took_between(5.5, time.monotonic() - ponged[0], 14, "it ended")
 
 
@@ -143,7 +145,7 @@ def a_stale_claim_fails(room):
     other = room.accept(listener)
     other.read()
     talk(other)
-    new.ends(["fault: takeover failed"], 1)
+    new.ends(["fault: takeover failed"], 1, error=because("a stale claim: the seat was claimed again before"))
     guest.close()
     broker.ends(["seat 1", "seat 2", "ended"])
     first.ends(["serving 1", "serving 2", "ended"])
@@ -183,7 +185,7 @@ def a_count_of_33_bits_goes_in_version_3_alone(room):
     is_told_failed(room, 2, 2)
     third = room.take_over()
     third.printed("serving 3")
-    second.ends(["serving 2", "handed over"], may_repeat=True)
+    second.ends(["serving 2", "handed over"], may_repeat=True, error=because(NO_IMAGE) * 2)
     generation, image = image_of(room.takeover_at, 3)
     same((generation, counts_of(image, 3, generation)), (3, {2: 1 << 32}))
     broker.printed("idle")

@@ -5,7 +5,7 @@ import subprocess
 import threading
 
 from process_rows.checks import TOP, WAIT, row, same
-from process_rows.daemons import LONG_NAMES, long_checkout, parts_of
+from process_rows.daemons import GIVEN_UP, LONG_NAMES, OTHER, because, long_checkout, parts_of
 from process_rows.frames import OFFER, VERSIONS_WITH_COMMIT, u32, u64
 from process_rows.kernel import Client, Kernel, await_answers
 from process_rows.proxies import Proxy
@@ -170,9 +170,9 @@ def another_manifest_takes_nothing_over(room):
     first = room.mount()
     broker.printed(2)
     room.write("other", OTHER_MANIFEST)
-    room.take_over(manifest="other").ends(["fault: takeover failed"], 1)
+    room.take_over(manifest="other").ends(["fault: takeover failed"], 1, error=because(OTHER))
     broker.ends(["seat 1", f"answer 1 {ENTRY}", "seat 2", f"answer 2 {ENTRY}", "held 2 2", "ended"])
-    first.ends(["serving 1", "serving 2", "ended"])
+    first.ends(["serving 1", "serving 2", "ended"], error=because(GIVEN_UP))
 
 
 FILE = "entry 3 file 0644 12 1"
@@ -186,10 +186,10 @@ def other_lines_of_one_commit_take_nothing_over(room):
     first = room.mount()
     broker.printed(3)
     room.write("other", OTHER_LINES)
-    room.take_over(manifest="other").ends(["fault: takeover failed"], 1)
+    room.take_over(manifest="other").ends(["fault: takeover failed"], 1, error=because(OTHER))
     answers = [f"answer 1 {ENTRY}", f"answer 2 {FILE}", "seat 2", "answer 3 attr 3 file 0644 12 1"]
     broker.ends(["seat 1", *answers, "held 2 1", "held 3 1", "ended"])
-    first.ends(["serving 1", "serving 2", "ended"])
+    first.ends(["serving 1", "serving 2", "ended"], error=because(GIVEN_UP))
 
 
 class OfRelease(Proxy):

@@ -7,6 +7,7 @@ use Rattle.eden_base.specs.declared.claim.ClaimFault.{ClaimFault}
 use Rattle.eden_base.specs.declared.claim.ClaimFault.TheVariants as claim
 use Rattle.manifest.specs.Manifest.{Manifest}
 use Rattle.fuse_ops.specs.Served.{ServedState}
+use Rattle.map_codec.specs.Handover.{NamesAnother}
 use Rattle.takeover_core.specs.Phases.{heard, Hear, claim_wanted}
 use Rattle.takeover_core.specs.declared.message.Message.{Message}
 use Rattle.takeover_core.specs.declared.message.Message.TheVariants as message
@@ -83,6 +84,13 @@ pub record Stays {X : Type 0} (old : DeskState) (is what : X) (new : DeskState) 
 abbrev pub Hears : DeskState → Frame → Hearing → DeskState → Type 0
 Hears old (frame.Takeover said) what new = HearsMessage old said what new ⊎ LacksMemory old said what new
 Hears old other what new = Stays old hearing.Closes what new
+
+-- a frame brings an image, or the first part of one, and that names another manifest
+abbrev pub BringsAnother : Manifest → Frame → Type 0
+BringsAnother manifest (frame.Takeover (message.Data session generation bytes)) = NamesAnother manifest bytes
+BringsAnother manifest (frame.Takeover (message.Part session generation position count bytes)) =
+    (position ≡ 1) × NamesAnother manifest bytes
+BringsAnother manifest other = ⊥
 
 -- ---- a mount
 

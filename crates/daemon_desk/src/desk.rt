@@ -1,6 +1,6 @@
 //! A daemon with the frames of its connections: what each frame leads to.
 ghost use Rattle.std.specs.Option.{option_map, IfSome};
-ghost use Rattle.std.specs.Prelude.{◌≡◌, ◌≢◌, ◌≤◌, ◌⊎◌, Some, None, true, false, length, is_some, IsSome, IsTrue, OnOk, OnErr};
+ghost use Rattle.std.specs.Prelude.{◌≡◌, ◌≢◌, ◌≤◌, ◌⊎◌, ◌↔◌, Some, None, true, false, length, is_some, IsSome, IsTrue, OnOk, OnErr};
 ghost use Rattle.fuse_ops.specs.Served.{new_served};
 ghost use Rattle.takeover_core.specs.Histories.{seat_of};
 ghost use Rattle.takeover_core.specs.Phases.{heard, may_take, claim_wanted, Hear};
@@ -9,7 +9,7 @@ ghost use Rattle.frames.specs.declared.frame.Frame.TheVariants.{Takeover};
 ghost use Rattle.daemon.specs.Daemon.{is_waiting, lent_server};
 ghost use Rattle.daemon.specs.Saying.{what_is_said};
 ghost use Rattle.daemon.specs.Talking.{brings_part};
-ghost use Rattle.daemon_desk.specs.Desk.{new_desk, taking_at, is_draining, is_lent_at, lendable, lent, mounted_at, claimed_at, returned, ready_in, ready_of, claim_of, claim_answer, Hears, HearsMessage, LacksMemory, IsTold, IsSaid, MountsAt, Mounts, Drains, DrainsNow, GivesUp, ClaimsBy, Claims};
+ghost use Rattle.daemon_desk.specs.Desk.{BringsAnother, new_desk, taking_at, is_draining, is_lent_at, lendable, lent, mounted_at, claimed_at, returned, ready_in, ready_of, claim_of, claim_answer, Hears, HearsMessage, LacksMemory, IsTold, IsSaid, MountsAt, Mounts, Drains, DrainsNow, GivesUp, ClaimsBy, Claims};
 
 use crate::answers::{Claiming, Hearing, Mounting};
 use crate::frame_list::FrameList;
@@ -18,6 +18,7 @@ use eden_base::{ClaimFault, NoMemory};
 use frames::Frame;
 use fuse_ops::Served;
 use manifest::Manifest;
+use map_codec::names_another;
 use std::alloc::Global;
 use std::marker::Model;
 use takeover_core::{Message, Phase, Versions};
@@ -148,6 +149,26 @@ impl DaemonDesk {
         ensures offer { result ≡ Takeover (Message.Offer self.now.daemon.node.versions) }
     {
         Frame::Takeover(self.daemon.offer())
+    }
+
+    /// Returns whether `frame` brings an image or the first part of one, and that names another manifest than the
+    /// daemon's.
+    pub fn is_of_another_manifest(&self, frame: &Frame) -> bool
+        ensures another { IsTrue result ↔ BringsAnother self.now.manifest frame.now }
+    {
+        match frame {
+            Frame::Takeover(Message::Data { bytes, .. }) => {
+                names_another(bytes.as_slice(), &self.manifest)
+            }
+            Frame::Takeover(
+                Message::Part {
+                    position: 1,
+                    bytes,
+                    ..
+                },
+            ) => names_another(bytes.as_slice(), &self.manifest),
+            _ => false,
+        }
     }
 
     /// Hears a frame of another daemon. In this call an image to hand over is written, and an image that comes is read

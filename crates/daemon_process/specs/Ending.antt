@@ -12,7 +12,7 @@ use Rattle.daemon_process.specs.declared.exit.Exit.TheVariants.{Ended, Faulty, H
 use Rattle.daemon_process.specs.declared.exit.Ending.{Ending}
 use Rattle.daemon_process.specs.declared.exit.Ending.TheVariants.{Closed, Exits}
 use Rattle.daemon_process.specs.declared.fault.DaemonFault.{DaemonFault}
-use Rattle.daemon_process.specs.declared.fault.DaemonFault.TheVariants.{Broken, TakeoverFailed}
+use Rattle.daemon_process.specs.declared.fault.DaemonFault.TheVariants.{Broken}
 
 -- ---- how a claim, a round or the end of standard input ends a daemon
 
@@ -23,12 +23,6 @@ exit_behind_handover (claiming.Serves generation) = None
 exit_behind_handover claiming.Stale = Some HandedOver
 exit_behind_handover claiming.Ended = Some Ended
 exit_behind_handover answer = Some (Faulty Broken)
-
--- how a new daemon ends, by the answer to its claim; with the seat it serves
-abbrev pub exit_of_claim : Claiming → Option Exit
-exit_of_claim (claiming.Serves generation) = None
-exit_of_claim claiming.Ended = Some Ended
-exit_of_claim answer = Some (Faulty TakeoverFailed)
 
 -- whether the broker said that the mount is over, by why it has no more for a channel
 abbrev pub is_over : Option TakeFault → Bool

@@ -1,3 +1,4 @@
+pub mod Causes
 pub mod Ending
 pub mod Guests
 pub mod Patience

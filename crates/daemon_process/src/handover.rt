@@ -3,6 +3,7 @@ ghost use Rattle.std.specs.Prelude.{◌≡◌};
 ghost use Rattle.daemon_process.specs.Ending.{exit_behind_handover};
 ghost use Rattle.daemon_process.specs.Takeovers.{times_of};
 
+use crate::cause::{Cause, awaited_in, failed_by, is_under_way, loss_by, tell};
 use crate::claiming::claim;
 use crate::exit::Exit;
 use crate::fault::DaemonFault;
@@ -37,17 +38,20 @@ pub(crate) fn hand_over_all<R: Wait + Clock>(
         let Some(Offer { stream, frame }) = lobby.next(rt) else {
             return;
         };
+        let mut cause = None;
         if let Ok(mut connection) = Connection::over(alloc, rt, stream, Some(patience)) {
-            attend(rt, shared, lobby, &mut connection, frame, patience);
+            cause = attend(rt, shared, lobby, &mut connection, frame, patience);
         }
         lobby.finish(rt);
-        claim_back(rt, shared, &mut broker);
+        if let (true, Some(cause)) = (serves_on(rt, shared, &mut broker), cause) {
+            tell(rt, shared.notes(), cause);
+        }
     }
     unreachable!()
 }
 
 /// Serves the connection of another daemon, which began by `first`, until it ends. A takeover that is still under way is
-/// given up then.
+/// given up then. Returns why the takeover failed, if one did and this daemon has the seat still.
 fn attend<R: Wait + Clock>(
     rt: &R,
     shared: &Shared,
@@ -55,16 +59,17 @@ fn attend<R: Wait + Clock>(
     connection: &mut Connection<'_, R>,
     first: Frame,
     patience: Duration,
-) {
-    converse(rt, shared, lobby, connection, first, patience);
+) -> Option<Cause> {
+    let cause = converse(rt, shared, lobby, connection, first, patience);
     if let Some(told) = shared.give_up(rt) {
         let _told = connection.write(&told);
     }
     connection.end();
+    cause
 }
 
 /// Hears the frames of another daemon from the first one on, and answers them. It returns when the connection ends, the
-/// other daemon is silent for too long, or this daemon is to claim the seat.
+/// other daemon is silent for too long, or this daemon is to claim the seat: with the cause, if that ends a takeover.
 fn converse<R: Wait + Clock>(
     rt: &R,
     shared: &Shared,
@@ -72,29 +77,54 @@ fn converse<R: Wait + Clock>(
     connection: &mut Connection<'_, R>,
     first: Frame,
     patience: Duration,
-) {
+) -> Option<Cause> {
     let mut phase = shared.phase(rt);
     let mut frame = first;
     connection.end_by(Deadline::after(rt, patience));
     for _ in rt.forever() {
-        if !lobby.stay(rt) || !answer(rt, shared, connection, &frame) {
-            return;
+        if !lobby.stay(rt) {
+            return None;
         }
+        let course = answer(rt, shared, connection, &frame);
         let now = shared.phase(rt);
+        if let Some(failed) = failed_by(phase, &frame, now) {
+            if !is_serving(now) {
+                return Some(failed);
+            }
+            tell(rt, shared.notes(), failed);
+        }
+        match course {
+            Course::GoesOn => {}
+            Course::Ends => return None,
+            Course::Fails(cause) => return cause_under_way(now, cause),
+        }
         if now != phase {
             phase = now;
             let silence = patience.saturating_mul(times_of(phase));
             connection.end_by(Deadline::after(rt, silence));
         }
-        if let Phase::Serving { .. } = now {
+        if is_serving(now) {
             lobby.make_way(rt);
         }
         match connection.read_next() {
             Ok(Some(next)) => frame = next,
-            _ => return,
+            read => {
+                let cause = loss_by(read.err(), connection.is_late(), awaited_in(false, now));
+                return cause_under_way(now, cause);
+            }
         }
     }
     unreachable!()
+}
+
+/// Returns `cause`, if a daemon in this phase has a takeover under way.
+fn cause_under_way(phase: Phase, cause: Cause) -> Option<Cause> {
+    is_under_way(phase).then_some(cause)
+}
+
+/// Returns whether a daemon in this phase serves, and has no takeover under way.
+fn is_serving(phase: Phase) -> bool {
+    matches!(phase, Phase::Serving { .. })
 }
 
 /// Returns how long another daemon may be silent in a phase, as a multiple of the patience.
@@ -107,39 +137,72 @@ fn times_of(phase: Phase) -> u32
     }
 }
 
-/// Answers a frame of another daemon. Returns whether the connection goes on.
+/// What becomes of a connection by a frame of another daemon.
+#[derive(Clone, Copy)]
+enum Course {
+    GoesOn,
+    Ends,
+    /// It ends, and with it the takeover that is under way, for this cause.
+    Fails(Cause),
+}
+
+/// Answers a frame of another daemon.
 fn answer<R: Wait + Clock>(
     rt: &R,
     shared: &Shared,
     connection: &mut Connection<'_, R>,
     frame: &Frame,
-) -> bool {
-    match shared.hear(rt, frame) {
+) -> Course {
+    let heard = shared.hear(rt, frame);
+    let phase = shared.phase(rt);
+    let awaited = awaited_in(false, phase);
+    match heard {
         Hearing::Tells(told) => {
             if !tell_all(connection, told) {
-                return false;
+                return Course::Fails(Cause::Unsent(awaited));
             }
         }
         Hearing::Heeds | Hearing::Ignores => {}
-        Hearing::Closes | Hearing::NoMemory => return false,
+        Hearing::Closes => return Course::Fails(Cause::Unreadable(awaited)),
+        Hearing::NoMemory => return Course::Fails(Cause::NoMemory),
     }
-    match shared.phase(rt) {
-        Phase::Draining { .. } => match shared.drain(rt) {
-            Some(ready) => connection.write(&ready).is_ok(),
-            None => false,
-        },
-        Phase::Holding { .. } => false,
-        _ => true,
+    match phase {
+        Phase::Draining { .. } => ask_whether_there(rt, shared, connection),
+        Phase::Holding { .. } => Course::Ends,
+        _ => Course::GoesOn,
+    }
+}
+
+/// Waits until the daemon has drained, and asks the other one whether it is there to take the data.
+fn ask_whether_there<R: Wait + Clock>(
+    rt: &R,
+    shared: &Shared,
+    connection: &mut Connection<'_, R>,
+) -> Course {
+    let Some(ready) = shared.drain(rt) else {
+        return Course::Ends;
+    };
+    match connection.write(&ready) {
+        Ok(()) => Course::GoesOn,
+        Err(_fault) => Course::Fails(Cause::Unsent(awaited_in(false, shared.phase(rt)))),
     }
 }
 
 /// Claims the seat if the daemon wants to, as it does after a handover. If the daemon ends by that, notes its exit.
-fn claim_back<R: Wait + Clock>(rt: &R, shared: &Shared, broker: &mut Connection<'_, R>) {
-    if shared.claim(rt).is_none() || shared.is_over(rt) {
-        return;
+/// Returns whether it serves on.
+fn serves_on<R: Wait + Clock>(rt: &R, shared: &Shared, broker: &mut Connection<'_, R>) -> bool {
+    if shared.is_over(rt) {
+        return false;
     }
-    if let Some(exit) = exit_behind_handover(claim(rt, shared, broker)) {
-        shared.end(rt, exit);
+    if shared.claim(rt).is_none() {
+        return true;
+    }
+    match exit_behind_handover(claim(rt, shared, broker)) {
+        Some(exit) => {
+            shared.end(rt, exit);
+            false
+        }
+        None => true,
     }
 }
 

@@ -3,6 +3,7 @@
 
 mod arrival;
 mod beginning;
+mod cause;
 mod claiming;
 mod closing;
 mod exit;

@@ -225,6 +225,11 @@ impl Shared {
         self.state.lock(rt).desk.phase()
     }
 
+    /// Returns whether `frame` brings the beginning of data that names another manifest than the daemon's.
+    pub(crate) fn is_of_another_manifest<R: Wait>(&self, rt: &R, frame: &Frame) -> bool {
+        self.state.lock(rt).desk.is_of_another_manifest(frame)
+    }
+
     /// Takes in a frame of another daemon, and signals a change.
     pub(crate) fn hear<R: Wait>(&self, rt: &R, frame: &Frame) -> Hearing {
         let heard = self.state.lock(rt).hear(frame);

@@ -84,6 +84,12 @@ pub record HasRightHeader (manifest : Manifest) (at : ℕ) (bytes : List ℕ) : 
   pub generation : header.generation ≡ at
   pub name : IsNameOf manifest header.name
 
+-- the header of the bytes is whole and right, and names another manifest
+pub record NamesAnother (manifest : Manifest) (bytes : List ℕ) : Type 0 where
+  pub header : Header
+  pub is : header_of_bytes bytes ≡ Ok header
+  pub another : IsNameOf manifest header.name → ⊥
+
 -- no image is read for this cause: the bytes are no image, or memory was refused after their header
 abbrev pub IsReadRefusal : List ℕ → HandoverFault → Type 0
 IsReadRefusal bytes Refused = (image : Image) (version : ℕ) → IsImageText image version bytes → ⊥

@@ -17,4 +17,4 @@ pub use giver::hand_over;
 pub use map_image::{Entries, Image, ImageFault, ImageReader, NamedBy, WriteFault, read, write};
 pub use raising::raise;
 pub use served_image::image_of;
-pub use taker::{take_over, take_over_read};
+pub use taker::{names_another, take_over, take_over_read};

@@ -5,7 +5,7 @@ ghost use Rattle.map_image.specs.Fit.{CountsFit, IsFit};
 ghost use Rattle.map_image.specs.ImageText.{IsImageText};
 ghost use Rattle.map_codec.specs.Raising.{IsRaisable, IsRaised};
 ghost use Rattle.map_codec.specs.declared.fault.HandoverFault.TheVariants.{Refused};
-ghost use Rattle.map_codec.specs.Handover.{told_of_raise, told_of_read, HasRightHeader, IsReadRefusal, IsServingRefusal, IsTakenOver, IsTakingRefusal};
+ghost use Rattle.map_codec.specs.Handover.{told_of_raise, told_of_read, HasRightHeader, NamesAnother, IsReadRefusal, IsServingRefusal, IsTakenOver, IsTakingRefusal};
 
 use crate::served_image::is_name_of;
 use crate::{HandoverFault, RaiseFault, raise};
@@ -20,6 +20,17 @@ fn has_right_header(bytes: &[u8], manifest: &Manifest, generation: u64) -> bool
 {
     match read_header(bytes) {
         Ok(header) => header.generation == generation && is_name_of(header.name, manifest),
+        Err(_) => false,
+    }
+}
+
+/// Returns whether `bytes` begin with the header of an image that names another manifest than `manifest`. So it can be
+/// told why nothing is taken over.
+pub fn names_another(bytes: &[u8], manifest: &Manifest) -> bool
+    ensures another { IsTrue result ↔ NamesAnother manifest.now bytes.now }
+{
+    match read_header(bytes) {
+        Ok(header) => !is_name_of(header.name, manifest),
         Err(_) => false,
     }
 }

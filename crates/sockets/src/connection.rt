@@ -70,6 +70,11 @@ impl<'a, R: Clock> Connection<'a, R> {
         self.reader.get_ref().is_silent()
     }
 
+    /// Returns whether the last read gave up at its deadline, be it before a frame or within one.
+    pub fn is_late(&self) -> bool {
+        self.reader.get_ref().is_late()
+    }
+
     /// Waits until something comes, or the other end closes the connection. Returns whether that was so by `deadline`. What
     /// came is kept for the next read.
     pub fn hears(&mut self, deadline: Deadline) -> bool {

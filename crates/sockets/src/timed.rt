@@ -101,6 +101,11 @@ impl<'a, R: Clock> Timed<'a, R> {
         self.is_late && self.passage.is_between()
     }
 
+    /// Returns whether the last read gave up at its deadline.
+    pub fn is_late(&self) -> bool {
+        self.is_late
+    }
+
     /// Returns which deadline the next byte has.
     fn term(&self) -> Term
         ensures term { result ≡ term_of self.now.whole (is_between self.now.passage) }

@@ -1,0 +1,167 @@
+//! Why a takeover failed, as each of its two daemons tells it on standard error.
+ghost use Rattle.std.specs.Prelude.{◌≡◌};
+ghost use Rattle.daemon_process.specs.Causes.{awaited_in, cause_by, cause_of_claim, exit_of, failed_by, is_under_way, loss_by};
+
+use crate::exit::Exit;
+use crate::fault::DaemonFault;
+use daemon_desk::Claiming;
+use links::{Frame, FrameFault};
+use non_blocking::Notes;
+use std::sync::Wait;
+use takeover_core::{Message, Phase};
+use thiserror::Error;
+
+/// What a daemon awaited of the other one when a takeover failed.
+#[derive(Clone, Copy, Debug, PartialEq, Eq, Error)]
+pub(crate) enum Awaited {
+    #[error("Choice")]
+    Choice,
+    #[error("Ready")]
+    Ready,
+    #[error("Data")]
+    Data,
+    /// The part at this position, of so many.
+    #[error("Part {0} of {1}")]
+    Part(u32, u32),
+    #[error("Pong")]
+    Pong,
+    /// The end of the connection, which comes once the new daemon has the seat.
+    #[error("its claim of the seat")]
+    Claim,
+    #[error("no frame")]
+    Nothing,
+}
+
+/// Why a takeover failed.
+#[derive(Clone, Copy, Debug, PartialEq, Eq, Error)]
+pub(crate) enum Cause {
+    #[error("the other daemon was silent; awaited was {0}")]
+    Silent(Awaited),
+    #[error("the other daemon closed the connection; awaited was {0}")]
+    Closed(Awaited),
+    #[error("the other daemon can't be written to; awaited was {0}")]
+    Unsent(Awaited),
+    #[error("the other daemon said what no daemon says; awaited was {0}")]
+    Unreadable(Awaited),
+    #[error("the other daemon gave up")]
+    GivenUp,
+    #[error("the daemons have no version of the image in common")]
+    NoCommon,
+    #[error("the other daemon takes no offer at present")]
+    Busy,
+    #[error("out of memory")]
+    NoMemory,
+    #[error("another manifest")]
+    OtherManifest,
+    #[error("the image can't be restored")]
+    BadImage,
+    #[error("no image can be made in the chosen version")]
+    NoImage,
+    #[error("a stale claim: the seat was claimed again before")]
+    StaleClaim,
+    #[error("the seat was given as often as it may be")]
+    LastGeneration,
+    #[error("the broker didn't answer the claim")]
+    NoAnswer,
+    #[error("the mount is over")]
+    Ended,
+}
+
+/// Says that a takeover failed, and why.
+pub(crate) fn tell<R: Wait>(rt: &R, notes: &Notes, cause: Cause) {
+    notes.say(rt, format_args!("takeover failed: {cause}"));
+}
+
+/// Returns what a daemon in this phase awaits of the other one. A new daemon awaits data once it said Pong.
+pub(crate) fn awaited_in(is_ponged: bool, phase: Phase) -> Awaited
+    ensures awaited { result ≡ awaited_in is_ponged phase }
+{
+    match phase {
+        Phase::Waiting => Awaited::Choice,
+        Phase::Chosen { .. } if is_ponged => Awaited::Data,
+        Phase::Chosen { .. } => Awaited::Ready,
+        Phase::Reading {
+            position,
+            count,
+            ..
+        } => Awaited::Part(position, count),
+        Phase::Pinged { .. } => Awaited::Pong,
+        Phase::Handed { .. } => Awaited::Claim,
+        _ => Awaited::Nothing,
+    }
+}
+
+/// Returns the cause where no frame of the other daemon was read: by the fault, or by none where the connection was
+/// closed, by whether the time for a frame had passed, and by what was awaited.
+pub(crate) fn loss_by(fault: Option<FrameFault>, is_late: bool, awaited: Awaited) -> Cause
+    ensures loss { result ≡ loss_by fault is_late awaited }
+{
+    match fault {
+        None | Some(FrameFault::Torn) => Cause::Closed(awaited),
+        Some(FrameFault::Read) if is_late => Cause::Silent(awaited),
+        Some(FrameFault::Read) => Cause::Closed(awaited),
+        Some(FrameFault::NoMemory) => Cause::NoMemory,
+        Some(_) => Cause::Unreadable(awaited),
+    }
+}
+
+/// Returns why a new daemon is gone by `frame` of the other one: the data came with another manifest if `is_another`.
+pub(crate) fn cause_by(is_another: bool, frame: &Frame) -> Cause
+    ensures cause { result ≡ cause_by is_another frame.now }
+{
+    match frame {
+        Frame::Takeover(Message::NoCommon) => Cause::NoCommon,
+        Frame::Takeover(Message::Busy) => Cause::Busy,
+        Frame::Takeover(Message::Failed { .. }) => Cause::GivenUp,
+        _ if is_another => Cause::OtherManifest,
+        _ => Cause::BadImage,
+    }
+}
+
+/// Returns why a new daemon has no seat, by the answer to its claim; none if it has the seat.
+pub(crate) fn cause_of_claim(claiming: Claiming) -> Option<Cause>
+    ensures cause { result ≡ cause_of_claim claiming }
+{
+    match claiming {
+        Claiming::Serves(_) => None,
+        Claiming::Ended => Some(Cause::Ended),
+        Claiming::Stale => Some(Cause::StaleClaim),
+        Claiming::LastGeneration => Some(Cause::LastGeneration),
+        Claiming::Waits | Claiming::Broken => Some(Cause::NoAnswer),
+    }
+}
+
+/// Returns how a new daemon ends whose takeover failed for `cause`.
+pub(crate) fn exit_of(cause: Cause) -> Exit
+    ensures exit { result ≡ exit_of cause }
+{
+    match cause {
+        Cause::NoCommon | Cause::Busy => Exit::Faulty(DaemonFault::OfferRefused),
+        Cause::Ended => Exit::Ended,
+        _ => Exit::Faulty(DaemonFault::TakeoverFailed),
+    }
+}
+
+/// Returns whether a serving daemon in this phase has a takeover under way.
+pub(crate) fn is_under_way(phase: Phase) -> bool
+    ensures under_way { result ≡ is_under_way phase }
+{
+    matches!(
+        phase,
+        Phase::Draining { .. } | Phase::Pinged { .. } | Phase::Making { .. } | Phase::Handed { .. }
+    )
+}
+
+/// Returns why a serving daemon's takeover was over by `frame` of the other one, by the phase before it and the one
+/// behind it; none if none was over by that.
+pub(crate) fn failed_by(before: Phase, frame: &Frame, after: Phase) -> Option<Cause>
+    ensures failed { result ≡ failed_by before frame.now after }
+{
+    if !is_under_way(before) || is_under_way(after) {
+        return None;
+    }
+    match frame {
+        Frame::Takeover(Message::Failed { .. }) => Some(Cause::GivenUp),
+        _ => Some(Cause::NoImage),
+    }
+}
