@@ -300,12 +300,12 @@ class Tap(Proxy):
 class Mount:
     """A checkout that is mounted, and the daemon that serves it."""
 
-    def __init__(self, room, *options, owner=None):
+    def __init__(self, room, *options, owner=None, **streams):
         self.room = room
         self.options = options if "--patience" in options else ("--patience", PATIENCE, *options)
         self.path = room.mountpoint
         is_left = os.path.exists(room.broker_at)
-        self.broker = room.mount_broker("--held", "held", *(("--owner", owner) if owner else ()))
+        self.broker = room.mount_broker("--held", "held", *(("--owner", owner) if owner else ()), **streams)
         room.await_socket(room.broker_at, is_left)
         self.number = 0
         self.generation = 1

@@ -1,5 +1,5 @@
 -- What becomes of the messages that are read from a kernel's device, one after another. (This project's own.)
-use Rattle.std.specs.Prelude.{◌≡◌, ⊤, ◌⊎◌, ℕ, zero, suc, Bool, true, false, List, Option, Result, Ok, Err}
+use Rattle.std.specs.Prelude.{◌≡◌, ⊤, ◌⊎◌, ℕ, zero, suc, List, Option, Result, Ok, Err}
 use Rattle.broker_desk.specs.Desk.{DeskState}
 use Rattle.mount_desk.specs.Hearing.{HearsMessage}
 use Rattle.mount_desk.specs.declared.hearing.Progress.{Progress}
@@ -13,9 +13,12 @@ use Rattle.broker_process.specs.declared.device.Taken.{Taken}
 use Rattle.broker_process.specs.declared.device.Taken.TheVariants as taken
 use Rattle.broker_process.specs.declared.fault.MountFault.{MountFault}
 use Rattle.broker_process.specs.declared.fault.MountFault.TheVariants.{Broken, NoMemory}
+use Rattle.broker_process.specs.declared.service.Handled.{Handled}
+use Rattle.broker_process.specs.declared.service.Handled.TheVariants as handled
 use Rattle.broker_process.specs.declared.service.MountEnd.{MountEnd}
 use Rattle.broker_process.specs.declared.service.MountEnd.TheVariants.{Unmounted, Dead}
 use Rattle.broker_process.specs.declared.writing.Written.{Written}
+use Rattle.broker_process.specs.declared.writing.Written.TheVariants as written
 
 -- ---- one message
 
@@ -41,33 +44,40 @@ IsHeardIn (suc turns) message end = (left : Message) × IsHeard message (Leaves 
 abbrev pub IsHeardToTheEnd : Message → Progress → Type 0
 IsHeardToTheEnd message end = (turns : ℕ) × IsHeardIn turns message end
 
--- what the program writes of its own at a message's end, and whether the mount goes on
-abbrev pub Tells : Progress → Bool → Option (List ℕ) → Option (List ℕ) → Type 0
-Tells Done goes_on old new = (goes_on ≡ true) × (new ≡ old)
-Tells (Answers text) goes_on old new = (goes_on ≡ true) × (told : Written) × Writes text text told old new
-Tells NotMounted goes_on old new = (goes_on ≡ false) × (new ≡ old)
-Tells (Leaves message) goes_on old new = ⊥
+-- what becomes of a mount whose program wrote an answer of its own: it goes on, unless the device refused each write
+abbrev pub handled_by : Written → Handled
+handled_by written.Refused = handled.Refused
+handled_by told = handled.GoesOn
+
+-- what the program writes of its own at a message's end, and what becomes of the mount
+abbrev pub Tells : Progress → Handled → Option (List ℕ) → Option (List ℕ) → Type 0
+Tells Done becomes old new = (becomes ≡ handled.GoesOn) × (new ≡ old)
+Tells (Answers text) becomes old new = (told : Written) × (becomes ≡ handled_by told) × Writes text text told old new
+Tells NotMounted becomes old new = (becomes ≡ handled.NotMounted) × (new ≡ old)
+Tells (Leaves message) becomes old new = ⊥
 
 -- the bytes of one message were read as a message, which was heard to its end; an answer of the program's own was written
--- until the kernel took it
-pub record Handles (bytes : List ℕ) (goes_on : Bool) (old new : Option (List ℕ)) : Type 0 where
+-- until the kernel took it, six times at most
+pub record Handles (bytes : List ℕ) (becomes : Handled) (old new : Option (List ℕ)) : Type 0 where
   pub message : Message
   pub reads : Reads bytes message
   pub end : Progress
   pub heard : IsHeardToTheEnd message end
-  pub tells : Tells end goes_on old new
+  pub tells : Tells end becomes old new
 
 -- ---- all messages of a mount
 
 -- what a read gave was handled, and the mount goes on
 abbrev pub GoesOn : Taken → Option (List ℕ) → Option (List ℕ) → Type 0
-GoesOn (taken.Message bytes) old new = Handles bytes.now true old new
+GoesOn (taken.Message bytes) old new = Handles bytes.now handled.GoesOn old new
 GoesOn taken.Again old new = new ≡ old
 GoesOn taken old new = ⊥
 
--- what a read gave ended the mount: no daemon had the seat when it was handled, somebody unmounted, or the device broke
+-- what a read gave ended the mount: no daemon had the seat when it was handled, the device refused an answer, somebody
+-- unmounted, or the device broke
 abbrev pub EndsBy : Taken → Result MountEnd MountFault → Option (List ℕ) → Option (List ℕ) → Type 0
-EndsBy (taken.Message bytes) (Ok Dead) old new = Handles bytes.now false old new
+EndsBy (taken.Message bytes) (Ok Dead) old new = Handles bytes.now handled.NotMounted old new
+EndsBy (taken.Message bytes) (Err (Broken error)) old new = Handles bytes.now handled.Refused old new
 EndsBy taken.Unmounted (Ok Unmounted) old new = new ≡ old
 EndsBy (taken.Broken error) (Err (Broken told)) old new = (told ≡ error) × (new ≡ old)
 EndsBy taken ended old new = ⊥

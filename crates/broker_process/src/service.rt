@@ -1,7 +1,7 @@
 //! One mount of a real kernel, from its first request to its end.
 ghost use Rattle.std.specs.Prelude.{◌≡◌};
 ghost use Rattle.mount_wire.specs.Message.{IsForDaemons};
-ghost use Rattle.broker_process.specs.Serving.{Handles, IsHeardToTheEnd, ServesMount};
+ghost use Rattle.broker_process.specs.Serving.{Handles, IsHeardToTheEnd, ServesMount, handled_by};
 
 use crate::control::Control;
 use crate::device::{BUFFER_LEN, Taken, take};
@@ -14,7 +14,7 @@ use mount_desk::{Forgot, Progress};
 use mount_wire::{Message, MountAttributes, read_message, tell_answer, tell_error};
 use std::alloc::Global;
 use std::fs::File;
-use std::io::{Read, Write};
+use std::io::{self, Read, Write};
 use std::process::Processes;
 use std::rt::Clock;
 use std::sync::Wait;
@@ -23,6 +23,9 @@ use std::time::Duration;
 
 /// How long the kernel isn't read while no more can be under way, in milliseconds.
 const PAUSE: u64 = 1;
+
+/// The error number of a device that can't be written to.
+const EIO: i32 = 5;
 
 /// How a mount ended.
 #[derive(Clone, Copy, PartialEq, Eq)]
@@ -74,10 +77,20 @@ fn serve_within<'s, 'e: 's, R: Threads + Wait + Clock + Processes + Sync + 's>(
     let Ok(reading) = scope.spawn(move || read_to_the_end(rt, alloc, hall, device, answers)) else {
         return Err(MountFault::NoThread);
     };
-    if deliver_all(rt, hall, writer, own) == Delivery::Stuck {
+    let delivery = deliver_all(rt, hall, writer, own);
+    if delivery != Delivery::Over {
         control.end(rt, alloc, mountpoint);
     }
-    reading.join(rt)
+    let ended = reading.join(rt);
+    match delivery {
+        Delivery::Refused => Err(MountFault::Broken(refused())),
+        Delivery::Over | Delivery::Gone => ended,
+    }
+}
+
+/// Returns the error of a device that refuses every write.
+fn refused() -> io::Error {
+    io::Error::from_raw_os_error(EIO)
 }
 
 /// Reads what the kernel asks by `device` until the mount ends, and writes this program's own answers by `answers`. Where
@@ -109,8 +122,10 @@ fn read_to_the_end<R: Wait + Clock>(
 enum Delivery {
     /// The mount is over.
     Over,
-    /// The daemon of the seat is gone, or the device refuses everything: the connection has to be ended.
-    Stuck,
+    /// The daemon of the seat is gone.
+    Gone,
+    /// The device refuses everything.
+    Refused,
 }
 
 /// Writes each posted reply to the kernel, with what each file of the mount has as its `own`, until no daemon has the
@@ -126,11 +141,11 @@ fn deliver_all<R: Wait + Clock>(
         match hall.next(rt) {
             Next::Nothing | Next::NoMemory => {}
             Next::Over => return Delivery::Over,
-            Next::Gone => return Delivery::Stuck,
+            Next::Gone => return Delivery::Gone,
             Next::Unasked(answer) => take_back(rt, hall, &answer),
             Next::Reply(reply) => {
                 if !deliver(rt, hall, &mut device, &reply, own) {
-                    return Delivery::Stuck;
+                    return Delivery::Refused;
                 }
             }
         }
@@ -193,8 +208,10 @@ fn read_all<R: Wait + Clock, I: Read, O: Write>(
     for _ in rt.forever() {
         match take(device, buffer.as_mut_slice()) {
             Taken::Message(message) => {
-                if !handle(rt, alloc, hall, answers, message) {
-                    return Ok(MountEnd::Dead);
+                match handle(rt, alloc, hall, answers, message) {
+                    Handled::GoesOn => {}
+                    Handled::NotMounted => return Ok(MountEnd::Dead),
+                    Handled::Refused => return Err(MountFault::Broken(refused())),
                 }
             }
             Taken::Again => {}
@@ -205,29 +222,47 @@ fn read_all<R: Wait + Clock, I: Read, O: Write>(
     unreachable!()
 }
 
-/// Does what the message `bytes` of the kernel says, and writes the answer if it is this program's own. Returns whether
-/// the mount goes on.
+/// What becomes of a mount by a message of the kernel.
+#[derive(Clone, Copy, PartialEq, Eq)]
+enum Handled {
+    GoesOn,
+    /// No daemon has the seat.
+    NotMounted,
+    /// The device refuses this program's own answer.
+    Refused,
+}
+
+/// Does what the message `bytes` of the kernel says, and writes the answer if it is this program's own.
 fn handle<R: Wait + Clock, O: Write>(
     rt: &R,
     alloc: Global,
     hall: &Hall,
     answers: &mut O,
     bytes: &[u8],
-) -> bool
+) -> Handled
     ensures handles { Handles bytes.now result (O.contents answers.old) (O.contents answers.new) }
 {
     match hear(rt, hall, read_message(alloc, bytes)) {
-        Progress::Done => true,
+        Progress::Done => Handled::GoesOn,
         Progress::Answers(reply) => {
             let texts = Texts {
                 reply: reply.as_slice(),
                 error: reply.as_slice(),
             };
-            let _told = write_reply(rt, answers, &texts);
-            true
+            handled_by(write_reply(rt, answers, &texts))
         }
-        Progress::NotMounted => false,
+        Progress::NotMounted => Handled::NotMounted,
         Progress::Leaves(_) => unreachable!(),
+    }
+}
+
+/// Returns what becomes of a mount whose program wrote an answer of its own.
+fn handled_by(told: Written) -> Handled
+    ensures handled { result ≡ handled_by told }
+{
+    match told {
+        Written::Refused => Handled::Refused,
+        Written::Reply | Written::Error | Written::Withdrawn => Handled::GoesOn,
     }
 }
 

@@ -1,4 +1,4 @@
-use Rattle.std.proofs.Common.{refl, subst, List, Option, ℕ, ◌≡◌}
+use Rattle.std.proofs.Common.{subst, List, Option, ℕ, ◌≡◌}
 use Rattle.broker_process.specs.Writing.{Writes}
 use Rattle.broker_process.specs.declared.writing.Written.{Written}
 use Rattle.mount_desk.specs.declared.hearing.Progress.TheVariants.{Answers}
@@ -18,7 +18,7 @@ returns-in-Answers g c = record {
     reads = c.read_message.ensures.reads;
     end = Answers c.in-Answers.reply;
     heard = c.in-Answers.ensures.heard;
-    tells = (refl, c.write_reply-told.result, both_written c.in-Answers.reply c.as_slice.result.now c.as_slice-in-Answers.result.now c.write_reply-told.result _ _ c.as_slice.ensures.bytes c.as_slice-in-Answers.ensures.bytes c.write_reply-told.ensures.writes);
+    tells = (c.write_reply.result, c.handled_by.ensures.handled, both_written c.in-Answers.reply c.as_slice.result.now c.as_slice-in-Answers.result.now c.write_reply.result _ _ c.as_slice.ensures.bytes c.as_slice-in-Answers.ensures.bytes c.write_reply.ensures.writes);
   };
 }
 
