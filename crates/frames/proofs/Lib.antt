@@ -1,3 +1,4 @@
+pub mod AnswerLaws
 pub mod EndLaws
 pub mod Ending
 pub mod Examples

@@ -12,18 +12,8 @@ use Rattle.frames.specs.declared.kind.Kind.{Kind}
 use Rattle.frames.specs.declared.kind.Kind.TheVariants as kinds
 use Rattle.frames.specs.declared.kind.MessageKind.{MessageKind}
 use Rattle.frames.specs.declared.kind.MessageKind.TheVariants as messages
+use Rattle.frames.specs.Kind.{IsPlain, IsPlainMessage}
 use Rattle.frames.specs.Reading.{Gives, HasBytes, HasImage, Is, alone, front, frame_of, message_of, nothing, versions_of}
-
-abbrev pub IsPlainMessage : MessageKind → Type 0
-IsPlainMessage messages.Data = ⊥
-IsPlainMessage messages.Part = ⊥
-IsPlainMessage kind = Unit {0}
-
-abbrev pub IsPlain : Kind → Type 0
-IsPlain kinds.Ask = ⊥
-IsPlain kinds.Post = ⊥
-IsPlain (kinds.Takeover kind) = IsPlainMessage kind
-IsPlain kind = Unit {0}
 
 -- what is made of a value has no bytes
 then_none : {A B : Type 0} (Has : B → Type 0) (read : Result A FrameFault) (next : A → Result B FrameFault) → ((x : A) → IsOkAnd (next x) Has → ⊥) → IsOkAnd (read >>= next) Has → ⊥

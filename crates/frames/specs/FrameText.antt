@@ -1,6 +1,7 @@
 -- The text of a frame: the length of its body in four bytes, the number of its kind in one byte, and its body. (This
 -- project's own.)
-use Rattle.std.specs.Prelude.{◌≡◌, ◌<◌, ◌≤◌, ◌^◌, ℕ, nat_lt, List, [], ◌∷◌, ◌++◌, length, Option, Some, None, IsSome, if◌then◌else◌}
+use Rattle.std.specs.Prelude.{◌≡◌, ◌<◌, ◌≤◌, ◌+◌, ◌^◌, ℕ, nat_lt, List, [], ◌∷◌, ◌++◌, length, Option, Some, None, IsSome, if◌then◌else◌, vec_capacity}
+use Rattle.std.specs.Global.{Vec}
 use Rattle.std.specs.Int.{w16, w32, w64}
 use Rattle.std.specs.List.{All, flat_map}
 use Rattle.byte_codec.specs.Field.{number_bytes}
@@ -111,6 +112,15 @@ abbrev pub IsNotWritten : Frame → FrameFault → Type 0
 IsNotWritten frame TooLong = frame_text frame ≡ None
 IsNotWritten frame NoMemory = IsSome (frame_text frame)
 IsNotWritten frame fault = ⊥
+
+-- the fault is another one than that memory was refused
+abbrev pub IsNotMemory : FrameFault → Type 0
+IsNotMemory NoMemory = ⊥
+IsNotMemory fault = Unit {0}
+
+-- there is room for the text of this frame, whatever else is there
+abbrev pub HasRoomFor : Frame → Vec ℕ → Type 0
+HasRoomFor frame text = 5 + length (body_of frame) ≤ vec_capacity text
 
 -- ---- numbers that fit their fields, as those of every frame in a program do
 

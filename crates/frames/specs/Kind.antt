@@ -63,3 +63,18 @@ of_takeover (Some kind) = Some (kinds.Takeover kind)
 -- the kind of frame that has this number, if there is one
 unfoldable pub kind_with : ℕ → Option Kind
 kind_with n = first_with number_of n plain_kinds (of_takeover (message_kind_with n))
+
+-- ---- frames without bytes of any length
+
+-- a message of this kind keeps no bytes of its body
+abbrev pub IsPlainMessage : MessageKind → Type 0
+IsPlainMessage messages.Data = ⊥
+IsPlainMessage messages.Part = ⊥
+IsPlainMessage kind = Unit {0}
+
+-- a frame of this kind keeps no bytes of its body
+abbrev pub IsPlain : Kind → Type 0
+IsPlain kinds.Ask = ⊥
+IsPlain kinds.Post = ⊥
+IsPlain (kinds.Takeover kind) = IsPlainMessage kind
+IsPlain kind = Unit {0}

@@ -1,3 +1,4 @@
+pub mod Answer
 pub mod FrameText
 pub mod Kind
 pub mod Lacking

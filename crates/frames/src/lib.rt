@@ -1,6 +1,7 @@
 //! The frames that daemons and the broker send each other.
 #![tactic(auto)]
 
+mod answer;
 mod body;
 mod fault;
 mod field;
@@ -12,7 +13,9 @@ mod parts;
 mod reader;
 mod writer;
 
+pub use answer::Answer;
 pub use fault::FrameFault;
 pub use frame::Frame;
 pub use parts::missing;
 pub use reader::FrameReader;
+pub use writer::write_post_to;

@@ -4,6 +4,8 @@ ghost use Rattle.byte_codec.specs.Field.{AreBytes};
 ghost use Rattle.frames.specs.declared.fault.FrameFault.TheVariants.{BadBody};
 ghost use Rattle.frames.specs.declared.kind.Kind.TheVariants as kinds;
 ghost use Rattle.frames.specs.declared.kind.MessageKind.TheVariants as messages;
+ghost use Rattle.frames.specs.FrameText.{kind_of};
+ghost use Rattle.frames.specs.Kind.{IsPlain};
 ghost use Rattle.frames.specs.Lacking.{IsHeadFault, lacking};
 ghost use Rattle.frames.specs.Reading.{Faulty, Is, NotYet, frame_of, message_of, said, said_frame};
 ghost use Rattle.frames.specs.Says.{IsFirst};
@@ -13,6 +15,7 @@ use crate::front::{BEFORE_BODY, LENGTH, LONGEST_BODY, is_body};
 use crate::kind::{Kind, MessageKind};
 use crate::{Frame, FrameFault};
 use byte_codec::{Bytes, u32_in, u64_in};
+use std::mem;
 use takeover_core::Message;
 
 /// Returns how many bytes the frame at the front of `bytes` lacks, as `missing` does.
@@ -112,23 +115,32 @@ fn part_of(body: Vec<u8>) -> Result<Message, FrameFault>
     })
 }
 
+/// Returns the bytes of `body` in its memory, and leaves none.
+fn taken(body: &mut Vec<u8>) -> Vec<u8>
+    ensures bytes { result ≡ body.old }
+{
+    let alloc = *body.allocator();
+    mem::replace(body, Vec::new(alloc))
+}
+
 /// Reads a frame of this kind from its body. Bytes that the frame keeps stay in the memory of `body`.
 #[tactic(auto, using(crate::proofs::PlainKinds::plain_is), unfolding(crate::specs::Reading::frame_of))]
-fn frame_of(kind: Kind, body: Vec<u8>) -> Result<Frame, FrameFault>
-    ensures frame { Is (λ x. x) result (frame_of kind body.items) }
-    ensures bytes { AreBytes body.items }
+fn frame_of(kind: Kind, body: &mut Vec<u8>) -> Result<Frame, FrameFault>
+    ensures frame { Is (λ x. x) result (frame_of kind body.old.items) }
+    ensures bytes { AreBytes body.old.items }
+    ensures plain { IsPlain kind → body.new ≡ body.old }
 {
     if !is_body(kind, body.as_slice()) {
         return Err(FrameFault::BadBody);
     }
     match kind {
-        Kind::Ask => Ok(Frame::Ask(Bytes::of(body))),
-        Kind::Post => post_of(body),
-        Kind::Takeover(MessageKind::Data) => match data_of(body) {
+        Kind::Ask => Ok(Frame::Ask(Bytes::of(taken(body)))),
+        Kind::Post => post_of(taken(body)),
+        Kind::Takeover(MessageKind::Data) => match data_of(taken(body)) {
             Ok(message) => Ok(Frame::Takeover(message)),
             Err(fault) => Err(fault),
         },
-        Kind::Takeover(MessageKind::Part) => match part_of(body) {
+        Kind::Takeover(MessageKind::Part) => match part_of(taken(body)) {
             Ok(message) => Ok(Frame::Takeover(message)),
             Err(fault) => Err(fault),
         },
@@ -138,14 +150,15 @@ fn frame_of(kind: Kind, body: Vec<u8>) -> Result<Frame, FrameFault>
 
 impl Frame {
     /// Reads a frame from a head of five bytes and a body, whose length is what `missing` returns for the head. Takes
-    /// no memory: bytes that the frame keeps stay in the memory of `body`.
+    /// no memory: bytes that the frame keeps take that of `body` along. A frame that keeps none leaves `body` as it is.
     #[tactic(auto, using(crate::proofs::LackingLaws::body_says, crate::proofs::LackingLaws::kind_there, crate::proofs::LackingLaws::parts_text))]
-    pub fn of_parts(head: &[u8], body: Vec<u8>) -> Result<Frame, FrameFault>
+    pub fn of_parts(head: &[u8], body: &mut Vec<u8>) -> Result<Frame, FrameFault>
         requires head { length head.now ≡ 5 }
-        requires body { lacking head.now ≡ Ok (length body.items) }
-        ensures read { said (head.now ++ body.items) ≡ said_frame result [] }
-        ensures text { IfOk result (λ frame. IsFirst (head.now ++ body.items) frame []) }
+        requires body { lacking head.now ≡ Ok (length body.old.items) }
+        ensures read { said (head.now ++ body.old.items) ≡ said_frame result [] }
+        ensures text { IfOk result (λ frame. IsFirst (head.now ++ body.old.items) frame []) }
         ensures bad { IfErr result (λ fault. fault ≡ BadBody) }
+        ensures plain { IfOk result (λ frame. IsPlain (kind_of frame) → body.new ≡ body.old) }
     {
         match Kind::with(head[LENGTH]) {
             Some(kind) => match frame_of(kind, body) {

@@ -1,8 +1,9 @@
 //! Frames as bytes.
-ghost use Rattle.std.specs.Prelude.{◌≡◌, ◌++◌, ◌≤◌, ℕ, List, length, IfOk, IfErr, Some};
+ghost use Rattle.std.specs.Prelude.{◌≡◌, ◌++◌, ◌≤◌, ℕ, List, [], length, vec_capacity, IfOk, IfErr, OnOk, OnErr, Some};
 ghost use Rattle.std.specs.List.{All, flat_map};
 ghost use Rattle.byte_codec.specs.Writing.{HasRoom, Puts};
-ghost use Rattle.frames.specs.FrameText.{Fits, FitsMessage, FitsVersion, IsNotWritten, body_of, framed, frame_text, kind_of, message_body, message_kind, version_text};
+ghost use Rattle.frames.specs.declared.frame.Frame.TheVariants.{Post as APost};
+ghost use Rattle.frames.specs.FrameText.{Fits, FitsMessage, FitsVersion, HasRoomFor, IsNotMemory, IsNotWritten, body_of, framed, frame_text, kind_of, message_body, message_kind, version_text};
 ghost use Rattle.frames.specs.Reading.{First, said};
 
 use crate::front::{BEFORE_BODY, LONGEST_BODY};
@@ -11,6 +12,9 @@ use crate::{Frame, FrameFault};
 use byte_codec::{put_byte, put_slice, put_u16, put_u32, put_u64};
 use std::alloc::Global;
 use takeover_core::Message;
+
+/// How many bytes a generation takes.
+const GENERATION: usize = 8;
 
 /// Returns the kind of `message`.
 fn message_kind(message: &Message) -> MessageKind
@@ -207,20 +211,73 @@ fn put_frame(out: &mut Vec<u8>, len: u32, frame: &Frame)
 
 impl Frame {
     /// Writes the text of the frame. Memory is taken once, only for this text.
-    #[tactic(auto, using(crate::proofs::Written::lengths, crate::proofs::StreamLaws::framed_again))]
     pub fn write(&self, alloc: Global) -> Result<Vec<u8>, FrameFault>
         ensures text { IfOk result (λ bytes. frame_text self.now ≡ Some bytes.items) }
         ensures read_again { IfOk result (λ bytes. (rest : List ℕ) → said (bytes.items ++ rest) ≡ First self.now rest) }
         ensures refused { IfErr result (IsNotWritten self.now) }
     {
+        let mut text = Vec::new(alloc);
+        match self.write_to(&mut text) {
+            Ok(()) => Ok(text),
+            Err(fault) => Err(fault),
+        }
+    }
+
+    /// Writes the text of the frame in place of what `text` has, and takes memory only where that lacks room for it.
+    /// After a fault `text` is empty.
+    #[tactic(auto, using(crate::proofs::Written::lengths, crate::proofs::StreamLaws::framed_again))]
+    pub fn write_to(&self, text: &mut Vec<u8>) -> Result<(), FrameFault>
+        ensures text { OnOk result (frame_text self.now ≡ Some text.new.items) }
+        ensures read_again { OnOk result ((rest : List ℕ) → said (text.new.items ++ rest) ≡ First self.now rest) }
+        ensures refused { IfErr result (IsNotWritten self.now) }
+        ensures empty { OnErr result (text.new.items ≡ []) }
+        ensures in_room { HasRoomFor self.now text.old → IfErr result IsNotMemory }
+        ensures capacity { vec_capacity text.old ≤ vec_capacity text.new }
+    {
+        text.clear();
         let len = body_len(self);
         if len > LONGEST_BODY {
             return Err(FrameFault::TooLong);
         }
-        let Ok(mut out) = Vec::with_capacity(alloc, BEFORE_BODY + len) else {
+        if text.reserve(BEFORE_BODY + len).is_err() {
             return Err(FrameFault::NoMemory);
-        };
-        put_frame(&mut out, len as u32, self);
-        Ok(out)
+        }
+        put_frame(text, len as u32, self);
+        Ok(())
     }
+}
+
+/// Appends the text of a `Post` to `text`. `len` is the length of the body.
+#[tactic(auto, using(crate::proofs::Written::written), unfolding(byte_codec::specs::Field::byte_text))]
+fn put_post(text: &mut Vec<u8>, len: u32, generation: u64, reply: &[u8])
+    requires len { len ≡ length (body_of (APost generation reply.now)) }
+    requires room { HasRoom text.old (length (framed (kind_of (APost generation reply.now)) (body_of (APost generation reply.now)))) }
+    ensures text { Puts text.old text.new (framed (kind_of (APost generation reply.now)) (body_of (APost generation reply.now))) }
+    ensures fits { Fits (APost generation reply.now) }
+{
+    put_u32(text, len);
+    put_byte(text, Kind::Post.number());
+    put_u64(text, generation);
+    put_slice(text, reply);
+}
+
+/// Writes the text of the `Post` of `reply` at `generation`, as `Frame::write_to` does.
+#[tactic(auto, using(crate::proofs::Written::lengths))]
+pub fn write_post_to(text: &mut Vec<u8>, generation: u64, reply: &[u8]) -> Result<(), FrameFault>
+    ensures text { OnOk result (frame_text (APost generation reply.now) ≡ Some text.new.items) }
+    ensures refused { IfErr result (IsNotWritten (APost generation reply.now)) }
+    ensures empty { OnErr result (text.new.items ≡ []) }
+    ensures in_room { HasRoomFor (APost generation reply.now) text.old → IfErr result IsNotMemory }
+    ensures capacity { vec_capacity text.old ≤ vec_capacity text.new }
+{
+    text.clear();
+    if reply.len() > LONGEST_BODY - GENERATION {
+        return Err(FrameFault::TooLong);
+    }
+    let len = GENERATION + reply.len();
+    if text.reserve(BEFORE_BODY + len).is_err() {
+        return Err(FrameFault::NoMemory);
+    }
+    put_post(text, len as u32, generation, reply);
+    Ok(())
 }

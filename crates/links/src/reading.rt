@@ -115,7 +115,7 @@ fn read_body<R: Read>(
 {
     let mut body = Vec::new(alloc);
     if len == 0 {
-        return Frame::of_parts(head, body);
+        return Frame::of_parts(head, &mut body);
     }
     if body.resize(len, 0).is_err() {
         return Err(FrameFault::NoMemory);
@@ -126,7 +126,7 @@ fn read_body<R: Read>(
     if held < len {
         return Err(FrameFault::Torn);
     }
-    Frame::of_parts(head, body)
+    Frame::of_parts(head, &mut body)
 }
 
 /// Reads the head of a frame and then its body. Returns none if the input has ended.
