@@ -1,10 +1,13 @@
 -- A frame that was written and one that was read are an exchange.
-use Rattle.std.proofs.Common.{◌≡◌, ℕ, Bool, true, false, cond, ltb, List, [], ◌++◌, length, Option, Some, None, Ok, sym, subst, ◌∙◌, append-nil}
+use Rattle.std.proofs.Common.{◌≡◌, ℕ, Bool, true, false, cond, ltb, List, length, Option, Some, None, Ok, Err, sym, subst, ◌∙◌, append-nil}
 use Rattle.std.specs.Io.KnownBytes.{Appends, Consumes}
+use Rattle.frames.specs.declared.answer.Answer.{Answer}
+use Rattle.frames.specs.declared.fault.FrameFault.{FrameFault}
 use Rattle.frames.specs.declared.frame.Frame.{Frame}
-use Rattle.frames.specs.FrameText.{body_of, frame_text, longest_body}
-use Rattle.links.specs.Channel.{ConnectionState, Exchanged, Hears, Takes, Heard, NoRoom, Unanswered, Unheard, take_of, text_of}
-use Rattle.links.specs.Reading.{Gives, Took}
+use Rattle.frames.specs.Answer.{IsAnswer, answer_of}
+use Rattle.frames.specs.FrameText.{IsNotMemory, body_of, frame_text, longest_body}
+use Rattle.links.specs.Channel.{Answers, ConnectionState, Hears, IsAnswered, NotHeard, Takes, Heard, NoRoom, Unanswered, Unheard, take_of, text_of}
+use Rattle.links.specs.Reading.{GivesAnswer, IsFault, Took}
 use Rattle.links.specs.Writing.{Sends}
 use Rattle.workers.specs.declared.channel.Taken.{Taken}
 use Rattle.workers.specs.declared.channel.Taken.TheVariants as took
@@ -19,15 +22,45 @@ its_text frame text e = by_length (ltb longest_body (length (body_of frame))) te
 pub sent : (old new : Option (List ℕ)) (frame : Frame) → Sends old new frame → Appends old new (text_of frame)
 sent old new frame is = subst (Appends old new) (its_text frame is.text is.is_text) is.written
 
-pub heard : (old new : Option (List ℕ)) (frame : Frame) → Took old new (λ bytes. Gives bytes new (Ok (Some frame))) → Consumes old new (text_of frame)
-heard old new frame is =
-    let first = is.holds in
-    subst (Consumes old new) (first.in_front ∙ append-nil first.text ∙ its_text frame first.text first.is_text) is.taken
+-- the text of a frame that was read as an answer
+heard : (old new : Option (List ℕ)) (bytes body : List ℕ) (answer : Answer) → Consumes old new bytes → (is : IsAnswer bytes body answer) → Consumes old new (text_of is.frame)
+heard old new bytes body answer taken is =
+    let first = is.is_first in
+    subst (Consumes old new) (first.in_front ∙ append-nil first.text ∙ its_text is.frame first.text first.is_text) taken
+
+-- what was written and then read is an exchange
+pub answered : (old new : ConnectionState) (said : Frame) (answer : Answer) (body : List ℕ) → new.generation ≡ old.generation → new.ended ≡ old.ended → Sends old.outgoing new.outgoing said → Took old.incoming new.incoming (λ bytes. IsAnswer bytes body answer) → IsAnswered old new said answer body
+answered old new said answer body generation ended sends took = record {
+  heard = took.holds.frame;
+  exchanged = record {
+    generation = generation;
+    ended = ended;
+    wrote = sent old.outgoing new.outgoing said sends;
+    read = heard old.incoming new.incoming took.bytes body answer took.taken took.holds;
+  };
+  has_body = took.holds.has_body;
+  is_told = took.holds.is_told;
+}
+
+-- what reading gives behind what was written
+pub answered_by : (old new : ConnectionState) (said : Frame) (answer : Option Answer) (body : List ℕ) → new.generation ≡ old.generation → new.ended ≡ old.ended → Sends old.outgoing new.outgoing said → Took old.incoming new.incoming (λ bytes. GivesAnswer bytes new.incoming body (Ok answer)) → Answers old said answer body new
+answered_by old new said (Some answer) body generation ended sends took = answered old new said answer body generation ended sends took
+answered_by old new said None body generation ended sends took = NotHeard (Ok None) sends tt took
+
+pub unheard : (old new : ConnectionState) (said : Frame) (fault : FrameFault) → IsNotMemory fault → Sends old.outgoing new.outgoing said → Took old.incoming new.incoming (λ bytes. IsFault bytes new.incoming fault) → Unanswered old said new
+unheard old new said fault memory sends took = NotHeard (Err fault) sends memory took
 
 -- ---- a look for an ask, from a state that making room left as it was
 
-pub takes_heard : (old start mid new : ConnectionState) (answer : Frame) (taken : Taken) → start ≡ old → Exchanged start mid (take_of start) answer → Hears mid answer taken new → Takes old taken new
-takes_heard old start mid new answer taken same exchanged hears = let P : ConnectionState → Type 0 = λ state. Takes state taken new in subst P same (Heard mid answer exchanged hears)
+hears_frame : (mid new : ConnectionState) (answer : Answer) (body : List ℕ) (heard : Frame) (taken : Taken) → answer ≡ answer_of heard → body_of heard ≡ body → Hears mid answer body taken new → Hears mid (answer_of heard) (body_of heard) taken new
+hears_frame mid new answer body heard taken told its hears =
+    let by_answer = subst (λ (a : Answer). Hears mid a body taken new) told hears in
+    subst (λ (t : List ℕ). Hears mid (answer_of heard) t taken new) (sym its) by_answer
+
+pub takes_heard : (old start mid new : ConnectionState) (answer : Answer) (body : List ℕ) (taken : Taken) → start ≡ old → IsAnswered start mid (take_of start) answer body → Hears mid answer body taken new → Takes old taken new
+takes_heard old start mid new answer body taken same is hears =
+    let P : ConnectionState → Type 0 = λ state. Takes state taken new in
+    subst P same (Heard mid is.heard is.exchanged (hears_frame mid new answer body is.heard taken is.is_told is.has_body hears))
 
 pub takes_unheard : (old start new : ConnectionState) → start ≡ old → Unanswered start (take_of start) new → Takes old took.Broken new
 takes_unheard old start new same unanswered = let P : ConnectionState → Type 0 = λ state. Takes state took.Broken new in subst P same (Unheard unanswered)

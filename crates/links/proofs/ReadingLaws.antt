@@ -5,9 +5,12 @@ use Rattle.std.proofs.lemmas.List.{take-append-le}
 use borrow.Rule.Slice.PartMut.{put_mid, post_of}
 use Rattle.std.proofs.KnownBytes.{Consumes-nil, Consumes-kept, Consumes-trans}
 use Rattle.std.specs.Io.KnownBytes.{Consumes, IsAtEnd, Keeps}
+use Rattle.frames.specs.declared.answer.Answer.{Answer}
 use Rattle.frames.specs.declared.fault.FrameFault.{FrameFault}
 use Rattle.frames.specs.declared.fault.FrameFault.TheVariants.{TooLong, BadKind, BadBody, Torn, Read, Write, NoMemory}
 use Rattle.frames.specs.declared.frame.Frame.{Frame}
+use Rattle.frames.specs.Answer.{IsAnswer}
+use Rattle.frames.specs.FrameText.{IsNotMemory}
 use Rattle.frames.specs.Lacking.{IsHeadFault, lacking}
 use Rattle.frames.specs.Laws.{grown}
 use Rattle.frames.specs.Reading.{First, Faulty, NotYet, said}
@@ -15,7 +18,7 @@ use Rattle.frames.specs.Says.{IsFirst}
 use Rattle.frames.proofs.GrowingLaws.{grows}
 use Rattle.frames.proofs.LackingLaws.{few_say_nothing, part_says_nothing}
 use Rattle.frames.proofs.StreamLaws.{text_again}
-use Rattle.links.specs.Reading.{Gives, GivesBehind, GivesFirst, GivesHead, GivesKnown, IsFault, Took}
+use Rattle.links.specs.Reading.{Gives, GivesFirst, GivesHead, GivesKnown, IsFault, Took}
 
 -- ---- a room that is filled from its front on
 
@@ -64,6 +67,19 @@ head_fault bytes left Read is says = absurd is
 head_fault bytes left Write is says = absurd is
 head_fault bytes left NoMemory is says = absurd is
 
+-- neither such a fault nor one of a body is for memory
+pub head_not_memory : (fault : FrameFault) → IsHeadFault fault → IsNotMemory fault
+head_not_memory TooLong is = tt
+head_not_memory BadKind is = tt
+head_not_memory BadBody is = tt
+head_not_memory Torn is = tt
+head_not_memory Read is = tt
+head_not_memory Write is = tt
+head_not_memory NoMemory is = absurd is
+
+pub bad_not_memory : (fault : FrameFault) → fault ≡ BadBody → IsNotMemory fault
+bad_not_memory fault is = subst IsNotMemory (sym is) tt
+
 -- a fault of bytes that were read after a front is one of all of them
 pub joined_fault : (old mid new : Option (List ℕ)) (front : List ℕ) (fault : FrameFault) → Consumes old mid front → Took mid new (λ bytes. IsFault (front ++ bytes) new fault) → Took old new (λ bytes. IsFault bytes new fault)
 joined_fault old mid new front fault first then = record {
@@ -83,6 +99,22 @@ joined_frame old mid new head frame first then = record {
   bytes = head ++ then.bytes;
   taken = Consumes-trans old mid new head then.bytes first then.taken;
   holds = then.holds;
+}
+
+-- an answer that was read after its head was read as a whole
+pub joined_answer : (old mid new : Option (List ℕ)) (head body : List ℕ) (answer : Answer) → Consumes old mid head → Took mid new (λ bytes. IsAnswer (head ++ bytes) body answer) → Took old new (λ bytes. IsAnswer bytes body answer)
+joined_answer old mid new head body answer first then = record {
+  bytes = head ++ then.bytes;
+  taken = Consumes-trans old mid new head then.bytes first then.taken;
+  holds = then.holds;
+}
+
+-- a body that is at fault
+pub bad_behind : (old new : Option (List ℕ)) (head body : List ℕ) (fault : FrameFault) → fault ≡ BadBody → Consumes old new body → said (head ++ body) ≡ Faulty fault → Took old new (λ bytes. IsFault (head ++ bytes) new fault)
+bad_behind old new head body fault is taken says = record {
+  bytes = body;
+  taken = taken;
+  holds = subst (λ (it : FrameFault). said (head ++ body) ≡ Faulty it → IsFault (head ++ body) new it) (sym is) (λ it. it) says;
 }
 
 -- a head that was read in two parts was read as a whole

@@ -1,9 +1,11 @@
 -- What reading a frame takes from a reader, and what it gives. (This project's own.)
 use Rattle.std.specs.Prelude.{◌≡◌, ◌<◌, ℕ, List, [], ◌++◌, length, Option, Some, None, Result, Ok, Err, ⊤}
 use Rattle.std.specs.Io.KnownBytes.{Consumes, IsAtEnd}
+use Rattle.frames.specs.declared.answer.Answer.{Answer}
 use Rattle.frames.specs.declared.fault.FrameFault.{FrameFault}
 use Rattle.frames.specs.declared.fault.FrameFault.TheVariants.{Torn, Read, Write, NoMemory}
 use Rattle.frames.specs.declared.frame.Frame.{Frame}
+use Rattle.frames.specs.Answer.{IsAnswer}
 use Rattle.frames.specs.Lacking.{lacking}
 use Rattle.frames.specs.Reading.{First, Faulty, NotYet, said}
 use Rattle.frames.specs.Says.{IsFirst}
@@ -50,6 +52,13 @@ GivesKnown None new result = ⊤
 GivesKnown (Some all) None result = ⊥
 GivesKnown (Some all) (Some left) result = GivesFirst all left result
 
+-- What the bytes that were read give as the answer to a Take or a Post: the answer that their frame is, which has this
+-- body; or none or a fault, as for a frame.
+abbrev pub GivesAnswer : List ℕ → Option (List ℕ) → List ℕ → Result (Option Answer) FrameFault → Type 0
+GivesAnswer bytes left body (Ok (Some answer)) = IsAnswer bytes body answer
+GivesAnswer bytes left body (Ok None) = (bytes ≡ []) × IsAtEnd left
+GivesAnswer bytes left body (Err fault) = IsFault bytes left fault
+
 -- ---- in two parts, head and body
 
 -- what reading a head of five bytes gives: the length of the body after it, or none or a fault as for a frame
@@ -68,3 +77,8 @@ GivesKind front old new head (Err fault) = Took old new (λ bytes. IsFault (fron
 abbrev pub GivesBehind : List ℕ → Option (List ℕ) → Option (List ℕ) → Result Frame FrameFault → Type 0
 GivesBehind front old new (Ok frame) = Took old new (λ bytes. IsFirst (front ++ bytes) frame [])
 GivesBehind front old new (Err fault) = Took old new (λ bytes. IsFault (front ++ bytes) new fault)
+
+-- the same of an answer whose frame has this body
+abbrev pub AnswersBehind : List ℕ → Option (List ℕ) → Option (List ℕ) → List ℕ → Result Answer FrameFault → Type 0
+AnswersBehind front old new body (Ok answer) = Took old new (λ bytes. IsAnswer (front ++ bytes) body answer)
+AnswersBehind front old new body (Err fault) = Took old new (λ bytes. IsFault (front ++ bytes) new fault)

@@ -1,12 +1,13 @@
 //! Frames, read from a reader.
-ghost use Rattle.std.specs.Prelude.{◌≡◌, ◌<◌, ◌≤◌, Ok, length, take, IfOk, IfErr};
+ghost use Rattle.std.specs.Prelude.{◌≡◌, ◌<◌, ◌≤◌, ◌++◌, Ok, length, take, vec_capacity, IfOk, IfErr, OnOk};
 ghost use Rattle.std.specs.Io.KnownBytes.{Consumes, IsAtEnd};
 ghost use Rattle.frames.specs.declared.fault.FrameFault.TheVariants.{Read as ReadFault};
+ghost use Rattle.frames.specs.FrameText.{IsNotMemory};
 ghost use Rattle.frames.specs.Lacking.{lacking};
-ghost use Rattle.links.specs.Reading.{Gives, GivesBehind, GivesHead, GivesKind, GivesKnown, Took};
+ghost use Rattle.links.specs.Reading.{AnswersBehind, Gives, GivesAnswer, GivesBehind, GivesHead, GivesKind, GivesKnown, IsFault, Took};
 
 use crate::{Frame, FrameFault};
-use frames::missing;
+use frames::{Answer, missing};
 use std::alloc::Global;
 use std::io::{ErrorKind, Read};
 
@@ -56,7 +57,7 @@ fn fill<R: Read>(
 }
 
 /// Reads the kind after a length that was read, and returns the length of the body.
-#[tactic(auto, using(crate::proofs::ReadingLaws::head_fault, crate::proofs::ReadingLaws::kind_fault, crate::proofs::ReadingLaws::kind_torn))]
+#[tactic(auto, using(crate::proofs::ReadingLaws::head_fault, crate::proofs::ReadingLaws::head_not_memory, crate::proofs::ReadingLaws::kind_fault, crate::proofs::ReadingLaws::kind_torn))]
 fn read_kind<R: Read>(
     reader: &mut R,
     head: &mut [u8],
@@ -65,6 +66,7 @@ fn read_kind<R: Read>(
     requires five { length head.old ≡ 5 }
     ensures kind { GivesKind (take 4 head.old) (R.remaining reader.old) (R.remaining reader.new)
         head.new result }
+    ensures memory { IfErr result IsNotMemory }
 {
     missing(&head[..LENGTH])?;
     match fill(reader, &mut head[LENGTH..], 1, left) {
@@ -76,7 +78,7 @@ fn read_kind<R: Read>(
 }
 
 /// Reads a head, and returns the length of the body after it, or none if the input ends before the head.
-#[tactic(auto, using(crate::proofs::ReadingLaws::few_fault, crate::proofs::ReadingLaws::head_torn, crate::proofs::ReadingLaws::joined_fault, crate::proofs::ReadingLaws::joined_head))]
+#[tactic(auto, using(crate::proofs::ReadingLaws::few_fault, crate::proofs::ReadingLaws::head_not_memory, crate::proofs::ReadingLaws::head_torn, crate::proofs::ReadingLaws::joined_fault, crate::proofs::ReadingLaws::joined_head))]
 fn read_head<R: Read>(
     reader: &mut R,
     head: &mut [u8],
@@ -84,6 +86,7 @@ fn read_head<R: Read>(
 ) -> Result<Option<usize>, FrameFault>
     requires five { length head.old ≡ 5 }
     ensures head { GivesHead (R.remaining reader.old) (R.remaining reader.new) head.new result }
+    ensures memory { IfErr result IsNotMemory }
 {
     let Ok(held) = fill(reader, head, LENGTH, left) else {
         return Err(FrameFault::Read);
@@ -100,22 +103,28 @@ fn read_head<R: Read>(
     Ok(Some(missing(head)?))
 }
 
-/// Reads the body after `head`, and returns the frame.
+/// Reads the `len` bytes after `head` into `body`, in place of what that has. Takes memory only where the capacity of
+/// `body` doesn't suffice.
 #[tactic(auto, using(crate::proofs::ReadingLaws::body_fault, crate::proofs::ReadingLaws::body_torn, crate::proofs::ReadingLaws::body_unread))]
-fn read_body<R: Read>(
-    alloc: Global,
+fn fill_body<R: Read>(
     reader: &mut R,
     head: &[u8],
     len: usize,
     left: &mut usize,
-) -> Result<Frame, FrameFault>
+    body: &mut Vec<u8>,
+) -> Result<(), FrameFault>
     requires five { length head.now ≡ 5 }
     requires len { lacking head.now ≡ Ok len }
-    ensures behind { GivesBehind head.now (R.remaining reader.old) (R.remaining reader.new) result }
+    ensures whole { OnOk result (length body.new.items ≡ len) }
+    ensures filled { OnOk result (Consumes (R.remaining reader.old) (R.remaining reader.new) body.new.items) }
+    ensures behind { IfErr result (λ fault. Took (R.remaining reader.old) (R.remaining reader.new)
+        (λ bytes. IsFault (head.now ++ bytes) (R.remaining reader.new) fault)) }
+    ensures in_room { len ≤ vec_capacity body.old → IfErr result IsNotMemory }
+    ensures capacity { vec_capacity body.old ≤ vec_capacity body.new }
 {
-    let mut body = Vec::new(alloc);
     if len == 0 {
-        return Frame::of_parts(head, &mut body);
+        body.clear();
+        return Ok(());
     }
     if body.resize(len, 0).is_err() {
         return Err(FrameFault::NoMemory);
@@ -126,20 +135,41 @@ fn read_body<R: Read>(
     if held < len {
         return Err(FrameFault::Torn);
     }
-    Frame::of_parts(head, &mut body)
+    Ok(())
+}
+
+/// Reads the body after `head` into `room`, and returns the frame.
+#[tactic(auto, using(crate::proofs::ReadingLaws::bad_not_memory))]
+fn read_body<R: Read>(
+    reader: &mut R,
+    head: &[u8],
+    len: usize,
+    left: &mut usize,
+    room: &mut Vec<u8>,
+) -> Result<Frame, FrameFault>
+    requires five { length head.now ≡ 5 }
+    requires len { lacking head.now ≡ Ok len }
+    ensures behind { GivesBehind head.now (R.remaining reader.old) (R.remaining reader.new) result }
+    ensures in_room { len ≤ vec_capacity room.old → IfErr result IsNotMemory }
+{
+    match fill_body(reader, head, len, left, room) {
+        Ok(()) => Frame::of_parts(head, room),
+        Err(fault) => Err(fault),
+    }
 }
 
 /// Reads the head of a frame and then its body. Returns none if the input has ended.
-#[tactic(auto, using(crate::proofs::ReadingLaws::joined_frame, crate::proofs::ReadingLaws::joined_fault))]
-fn read_parts<R: Read>(alloc: Global, reader: &mut R) -> Result<Option<Frame>, FrameFault>
+#[tactic(auto, using(crate::proofs::ReadingLaws::joined_frame, crate::proofs::ReadingLaws::joined_fault, frames::proofs::LackingLaws::lacking_few))]
+fn read_parts<R: Read>(reader: &mut R, room: &mut Vec<u8>) -> Result<Option<Frame>, FrameFault>
     ensures gives { Took (R.remaining reader.old) (R.remaining reader.new)
         (λ bytes. Gives bytes (R.remaining reader.new) result) }
+    ensures in_room { 65536 ≤ vec_capacity room.old → IfErr result IsNotMemory }
 {
     let mut left = MAX_READS;
     let mut head = [0; HEAD];
     match read_head(reader, &mut head, &mut left) {
         Ok(None) => Ok(None),
-        Ok(Some(len)) => match read_body(alloc, reader, &head, len, &mut left) {
+        Ok(Some(len)) => match read_body(reader, &head, len, &mut left, room) {
             Ok(frame) => Ok(Some(frame)),
             Err(fault) => Err(fault),
         },
@@ -156,5 +186,68 @@ pub fn read_frame<R: Read>(alloc: Global, reader: &mut R) -> Result<Option<Frame
         (λ bytes. Gives bytes (R.remaining reader.new) result) }
     ensures first { GivesKnown (R.remaining reader.old) (R.remaining reader.new) result }
 {
-    read_parts(alloc, reader)
+    let mut room = Vec::new(alloc);
+    read_parts(reader, &mut room)
+}
+
+/// Reads one frame as `read_frame` does, its body into `room`. Takes memory only for a body that is longer than the
+/// capacity of `room`. A frame that keeps its body takes the memory of `room` along; any other leaves it.
+#[tactic(auto, using(crate::proofs::ReadingLaws::gives_known))]
+pub fn read_frame_to<R: Read>(
+    reader: &mut R,
+    room: &mut Vec<u8>,
+) -> Result<Option<Frame>, FrameFault>
+    ensures gives { Took (R.remaining reader.old) (R.remaining reader.new)
+        (λ bytes. Gives bytes (R.remaining reader.new) result) }
+    ensures first { GivesKnown (R.remaining reader.old) (R.remaining reader.new) result }
+    ensures in_room { 65536 ≤ vec_capacity room.old → IfErr result IsNotMemory }
+{
+    read_parts(reader, room)
+}
+
+/// Reads the body after `head` into `body`, and returns the answer.
+#[tactic(auto, using(crate::proofs::ReadingLaws::bad_behind, crate::proofs::ReadingLaws::bad_not_memory))]
+fn read_answer_body<R: Read>(
+    reader: &mut R,
+    head: &[u8],
+    len: usize,
+    left: &mut usize,
+    body: &mut Vec<u8>,
+) -> Result<Answer, FrameFault>
+    requires five { length head.now ≡ 5 }
+    requires len { lacking head.now ≡ Ok len }
+    requires room { len ≤ vec_capacity body.old }
+    ensures behind { AnswersBehind head.now (R.remaining reader.old) (R.remaining reader.new) body.new.items result }
+    ensures memory { IfErr result IsNotMemory }
+    ensures capacity { vec_capacity body.old ≤ vec_capacity body.new }
+{
+    match fill_body(reader, head, len, left, body) {
+        Ok(()) => Answer::of_parts(head, body.as_slice()),
+        Err(fault) => Err(fault),
+    }
+}
+
+/// Reads the answer to a Take or a Post, and no byte after it, with the body of its frame into `body`. Returns none if
+/// the input has ended. Takes no memory. After a fault, close the connection.
+#[tactic(auto, using(crate::proofs::ReadingLaws::joined_answer, crate::proofs::ReadingLaws::joined_fault, frames::proofs::LackingLaws::lacking_few))]
+pub(crate) fn read_answer<R: Read>(
+    reader: &mut R,
+    body: &mut Vec<u8>,
+) -> Result<Option<Answer>, FrameFault>
+    requires room { 65536 ≤ vec_capacity body.old }
+    ensures gives { Took (R.remaining reader.old) (R.remaining reader.new)
+        (λ bytes. GivesAnswer bytes (R.remaining reader.new) body.new.items result) }
+    ensures memory { IfErr result IsNotMemory }
+    ensures capacity { vec_capacity body.old ≤ vec_capacity body.new }
+{
+    let mut left = MAX_READS;
+    let mut head = [0; HEAD];
+    match read_head(reader, &mut head, &mut left) {
+        Ok(None) => Ok(None),
+        Ok(Some(len)) => match read_answer_body(reader, &head, len, &mut left, body) {
+            Ok(answer) => Ok(Some(answer)),
+            Err(fault) => Err(fault),
+        },
+        Err(fault) => Err(fault),
+    }
 }

@@ -1,16 +1,13 @@
 //! A worker's channel over a connection to the broker.
 ghost use Rattle.std.specs.Prelude.{◌≡◌, [], None, false, IfOk, IsSome, IsTrue};
 ghost use Rattle.fuse_wire.specs.RequestReading.{request_of};
-ghost use Rattle.links.specs.Channel.{Answers, Hears, Posts, Refuses, Serves, Stops, Takes, ended_by, posted_of, state_of};
+ghost use Rattle.links.specs.Channel.{Answers, Hears, Posts, Refuses, Serves, Stops, Takes, ended_by, post_of, posted_of, state_of, take_of};
 
-use crate::{Frame, read_frame, write_frame};
+use crate::frame_room::FrameRoom;
 use broker_core::TakeFault;
-use byte_codec::Bytes;
 use eden_base::{NameRoom, NoMemory};
-use fuse_wire::{
-    Ask, BatchRoom, MAX_REPLY_LEN, Reply, WireFault, fault_reply, read_request, read_request_to,
-    write_reply,
-};
+use frames::Answer;
+use fuse_wire::{Ask, BatchRoom, Reply, WireFault, fault_reply, read_request, read_request_to};
 use std::alloc::Global;
 use std::io::{Read, Write};
 use workers::{Channel, Posted, Taken};
@@ -44,7 +41,8 @@ impl Rooms {
     }
 }
 
-/// A worker's channel over its connection to the broker: a reader and a writer, for which a socket has two handles.
+/// A worker's channel over its connection to the broker: a reader and a writer, for which a socket has two handles. It
+/// has the memory that a Take and a Post need from its first moment on.
 #[derive(Drop)]
 pub struct SocketChannel<R, W> {
     alloc: Global,
@@ -53,6 +51,7 @@ pub struct SocketChannel<R, W> {
     generation: u64,
     ended: Option<TakeFault>,
     rooms: Option<Rooms>,
+    frame_room: FrameRoom,
 }
 
 impl<R: Read, W: Write> SocketChannel<R, W> {
@@ -76,6 +75,7 @@ impl<R: Read, W: Write> SocketChannel<R, W> {
             }) }
     {
         let rooms = Rooms::new(alloc)?;
+        let frame_room = FrameRoom::new(alloc)?;
         Ok(SocketChannel {
             alloc,
             reader,
@@ -83,6 +83,7 @@ impl<R: Read, W: Write> SocketChannel<R, W> {
             generation,
             ended: None,
             rooms: Some(rooms),
+            frame_room,
         })
     }
 
@@ -93,18 +94,39 @@ impl<R: Read, W: Write> SocketChannel<R, W> {
         self.ended
     }
 
-    /// Writes a frame and reads the answer. Returns none if either fails.
-    fn ask(&mut self, frame: &Frame) -> Option<Frame>
-        ensures answers { Answers (state_of R.remaining W.contents self.old) frame.now result
+    /// Writes a Take and reads the answer. Returns none if either fails.
+    fn ask_next(&mut self) -> Option<Answer>
+        ensures answers { Answers (state_of R.remaining W.contents self.old)
+            (take_of (state_of R.remaining W.contents self.old)) result self.new.frame_room
             (state_of R.remaining W.contents self.new) }
         ensures rooms { self.new.rooms ≡ self.old.rooms }
     {
-        if let Err(_fault) = write_frame(self.alloc, &mut self.writer, frame) {
-            return None;
+        match self
+            .frame_room
+            .write_take(&mut self.writer, self.generation)
+        {
+            Ok(()) => match self.frame_room.read(&mut self.reader) {
+                Ok(answer) => answer,
+                Err(_fault) => None,
+            },
+            Err(_fault) => None,
         }
-        match read_frame(self.alloc, &mut self.reader) {
-            Ok(Some(answer)) => Some(answer),
-            Ok(None) => None,
+    }
+
+    /// Writes the Post of a reply and reads the answer. Returns none if either fails.
+    fn ask_posted(&mut self, reply: &Reply) -> Option<Answer>
+        ensures answers { Answers (state_of R.remaining W.contents self.old)
+            (post_of (state_of R.remaining W.contents self.old) reply.now) result self.new.frame_room
+            (state_of R.remaining W.contents self.new) }
+    {
+        match self
+            .frame_room
+            .write_post(&mut self.writer, self.generation, reply)
+        {
+            Ok(()) => match self.frame_room.read(&mut self.reader) {
+                Ok(answer) => answer,
+                Err(_fault) => None,
+            },
             Err(_fault) => None,
         }
     }
@@ -127,29 +149,31 @@ impl<R: Read, W: Write> SocketChannel<R, W> {
         }
     }
 
-    /// Reads the request that `bytes` are, in new memory, or in the rooms if memory is refused.
-    fn read(&mut self, bytes: &[u8]) -> Result<Ask, WireFault>
+    /// Reads the request that came, in new memory, or in the rooms if memory is refused.
+    fn read(&mut self) -> Result<Ask, WireFault>
         requires rooms { IsSome self.old.rooms }
-        ensures exact { result ≡ request_of bytes.now }
+        ensures exact { result ≡ request_of self.old.frame_room }
         ensures same { state_of R.remaining W.contents self.new
             ≡ state_of R.remaining W.contents self.old }
+        ensures room { self.new.frame_room ≡ self.old.frame_room }
     {
-        match read_request(self.alloc, bytes) {
+        match read_request(self.alloc, self.frame_room.body()) {
             Ok(ask) => Ok(ask),
             Err(WireFault::NoMemory) => match self.rooms.take() {
-                Some(rooms) => rooms.read(bytes),
+                Some(rooms) => rooms.read(self.frame_room.body()),
                 None => Err(WireFault::NoMemory),
             },
             Err(fault) => Err(fault),
         }
     }
 
-    /// Answers a request that cannot be read by an error, if the kernel waits for a reply. Otherwise returns Broken.
-    fn refuse(&mut self, bytes: &[u8], fault: WireFault) -> Taken
-        ensures refuses { Refuses (state_of R.remaining W.contents self.old) bytes.now fault result
+    /// Answers a request that came and cannot be read by an error, if the kernel waits for a reply. Otherwise returns
+    /// Broken.
+    fn refuse(&mut self, fault: WireFault) -> Taken
+        ensures refuses { Refuses (state_of R.remaining W.contents self.old) self.old.frame_room fault result
             (state_of R.remaining W.contents self.new) }
     {
-        let Some(reply) = fault_reply(bytes, &fault) else {
+        let Some(reply) = fault_reply(self.frame_room.body(), &fault) else {
             return Taken::Broken;
         };
         match self.post(reply) {
@@ -158,15 +182,15 @@ impl<R: Read, W: Write> SocketChannel<R, W> {
         }
     }
 
-    /// Returns the ask that `bytes` are. A request that cannot be read is refused.
-    fn serve(&mut self, bytes: &[u8]) -> Taken
+    /// Returns the ask that came. A request that cannot be read is refused.
+    fn serve(&mut self) -> Taken
         requires rooms { IsSome self.old.rooms }
-        ensures serves { Serves (state_of R.remaining W.contents self.old) bytes.now
-            (request_of bytes.now) result (state_of R.remaining W.contents self.new) }
+        ensures serves { Serves (state_of R.remaining W.contents self.old) self.old.frame_room
+            (request_of self.old.frame_room) result (state_of R.remaining W.contents self.new) }
     {
-        match self.read(bytes) {
+        match self.read() {
             Ok(ask) => Taken::Ask(ask),
-            Err(fault) => self.refuse(bytes, fault),
+            Err(fault) => self.refuse(fault),
         }
     }
 
@@ -180,16 +204,16 @@ impl<R: Read, W: Write> SocketChannel<R, W> {
     }
 
     /// Takes in the broker's answer to a Take, and returns the result of the `take`.
-    fn hear(&mut self, answer: Frame) -> Taken
+    fn hear(&mut self, answer: Answer) -> Taken
         requires rooms { IsSome self.old.rooms }
-        ensures hears { Hears (state_of R.remaining W.contents self.old) answer result
+        ensures hears { Hears (state_of R.remaining W.contents self.old) answer self.old.frame_room result
             (state_of R.remaining W.contents self.new) }
     {
         match answer {
-            Frame::Ask(bytes) => self.serve(bytes.as_slice()),
-            Frame::Empty => Taken::Empty,
-            Frame::Ended => self.stop(TakeFault::Ended),
-            Frame::Stale { now } => self.stop(TakeFault::Stale(now)),
+            Answer::Ask => self.serve(),
+            Answer::Empty => Taken::Empty,
+            Answer::Ended => self.stop(TakeFault::Ended),
+            Answer::Stale { now } => self.stop(TakeFault::Stale(now)),
             _ => Taken::Broken,
         }
     }
@@ -204,30 +228,22 @@ impl<R: Read, W: Write> SocketChannel<R, W> {
         if !self.has_rooms() {
             return Taken::Empty;
         }
-        let generation = self.generation;
-        match self.ask(&Frame::Take { generation }) {
+        match self.ask_next() {
             Some(answer) => self.hear(answer),
             None => Taken::Broken,
         }
     }
 
-    /// Posts the reply to an ask that was taken. If the result is Broken, close the connection; `ended` tells whether
-    /// the broker said why.
+    /// Posts the reply to an ask that was taken. Takes no memory. If the result is Broken, close the connection; `ended`
+    /// tells whether the broker said why.
     pub fn post(&mut self, reply: Reply) -> Posted
         ensures posts { Posts (state_of R.remaining W.contents self.old) reply result
             (state_of R.remaining W.contents self.new) }
     {
-        let mut room = [0; MAX_REPLY_LEN];
-        let len = write_reply(&reply, &mut room);
-        let Ok(text) = room[..len].to_vec(self.alloc) else {
-            return Posted::Broken;
-        };
-        let generation = self.generation;
-        let reply = Bytes::of(text);
-        match self.ask(&Frame::Post { generation, reply }) {
+        match self.ask_posted(&reply) {
             Some(answer) => {
-                self.ended = ended_by(&answer, self.ended);
-                posted_of(&answer)
+                self.ended = ended_by(answer, self.ended);
+                posted_of(answer)
             }
             None => Posted::Broken,
         }
@@ -235,22 +251,22 @@ impl<R: Read, W: Write> SocketChannel<R, W> {
 }
 
 /// Returns the result of a `post`, by the broker's answer.
-fn posted_of(answer: &Frame) -> Posted
-    ensures { result ≡ posted_of answer.now }
+fn posted_of(answer: Answer) -> Posted
+    ensures { result ≡ posted_of answer }
 {
     match answer {
-        Frame::Posted => Posted::Done,
+        Answer::Posted => Posted::Done,
         _ => Posted::Broken,
     }
 }
 
 /// Returns why the broker has no more for a channel, if its answer to a Post says so; else returns `noted`.
-fn ended_by(answer: &Frame, noted: Option<TakeFault>) -> Option<TakeFault>
-    ensures { result ≡ ended_by answer.now noted }
+fn ended_by(answer: Answer, noted: Option<TakeFault>) -> Option<TakeFault>
+    ensures { result ≡ ended_by answer noted }
 {
     match answer {
-        Frame::Ended => Some(TakeFault::Ended),
-        Frame::Stale { now } => Some(TakeFault::Stale(*now)),
+        Answer::Ended => Some(TakeFault::Ended),
+        Answer::Stale { now } => Some(TakeFault::Stale(now)),
         _ => noted,
     }
 }

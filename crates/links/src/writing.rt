@@ -1,10 +1,13 @@
 //! Frames, written to a writer.
-ghost use Rattle.std.specs.Prelude.{◌≡◌, ◌<◌, ◌≤◌, [], length, take, OnOk, OnErr, IfOk, IfErr};
+ghost use Rattle.std.specs.Prelude.{◌≡◌, ◌<◌, ◌≤◌, [], length, take, vec_capacity, OnOk, OnErr, IfOk, IfErr};
 ghost use Rattle.std.specs.Io.KnownBytes.{Appends};
 ghost use Rattle.frames.specs.declared.fault.FrameFault.TheVariants.{Write as WriteFault};
+ghost use Rattle.frames.specs.declared.frame.Frame.TheVariants.{Post as APost};
+ghost use Rattle.frames.specs.FrameText.{HasRoomFor, IsNotMemory};
 ghost use Rattle.links.specs.Writing.{Cuts, Writes};
 
 use crate::{Frame, FrameFault};
+use frames::write_post_to;
 use std::alloc::Global;
 use std::io::{ErrorKind, Write};
 
@@ -56,6 +59,40 @@ pub fn write_frame<W: Write>(alloc: Global, writer: &mut W, frame: &Frame) -> Re
 {
     match frame.write(alloc) {
         Ok(text) => write_bytes(writer, text.as_slice()),
+        Err(fault) => Err(fault),
+    }
+}
+
+/// Writes `frame` as `write_frame` does, by way of `text`, whose bytes it replaces. Takes memory only where the capacity
+/// of `text` doesn't suffice.
+pub fn write_frame_to<W: Write>(
+    writer: &mut W,
+    text: &mut Vec<u8>,
+    frame: &Frame,
+) -> Result<(), FrameFault>
+    ensures writes { Writes (W.contents writer.old) (W.contents writer.new) frame.now result }
+    ensures in_room { HasRoomFor frame.now text.old → IfErr result IsNotMemory }
+    ensures capacity { vec_capacity text.old ≤ vec_capacity text.new }
+{
+    match frame.write_to(text) {
+        Ok(()) => write_bytes(writer, text.as_slice()),
+        Err(fault) => Err(fault),
+    }
+}
+
+/// Writes the Post of `reply` at `generation` as `write_frame_to` does.
+pub(crate) fn write_post<W: Write>(
+    writer: &mut W,
+    text: &mut Vec<u8>,
+    generation: u64,
+    reply: &[u8],
+) -> Result<(), FrameFault>
+    ensures writes { Writes (W.contents writer.old) (W.contents writer.new) (APost generation reply.now) result }
+    ensures in_room { HasRoomFor (APost generation reply.now) text.old → IfErr result IsNotMemory }
+    ensures capacity { vec_capacity text.old ≤ vec_capacity text.new }
+{
+    match write_post_to(text, generation, reply) {
+        Ok(()) => write_bytes(writer, text.as_slice()),
         Err(fault) => Err(fault),
     }
 }

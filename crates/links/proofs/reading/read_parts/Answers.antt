@@ -1,7 +1,7 @@
 use Rattle.links.proofs.ReadingLaws.{head_read, joined_fault}
 use Rattle.links.proofs.reading.read_parts.Goals as goal
 
-pub returns-in-Err-read_body : goal.returns-in-Err-read_body
-returns-in-Err-read_body g c =
+pub returns-in-Err-read_body-clause-gives : goal.returns-in-Err-read_body-clause-gives
+returns-in-Err-read_body-clause-gives g c =
     let head = head_read _ _ c.read_head.new.head c.in-Ok-Some.field-0 c.in-Ok-Some.len c.in-Ok-Some.field-0-is c.in-Ok-Some.ensures.head in
-    record { gives = joined_fault _ _ _ c.read_head.new.head c.in-Err-read_body.fault head c.in-Err-read_body.ensures.behind }
+    joined_fault _ _ _ c.read_head.new.head c.in-Err-read_body.fault head c.in-Err-read_body.ensures.behind

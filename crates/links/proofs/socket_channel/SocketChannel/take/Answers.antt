@@ -5,7 +5,7 @@ pub returns-then-not-has_rooms : goal.returns-then-not-has_rooms
 returns-then-not-has_rooms g c = record { takes = takes_nothing _ _ c.if-not-has_rooms.ensures.same }
 
 pub returns-in-Some : goal.returns-in-Some
-returns-in-Some g c = record { takes = takes_heard _ _ _ _ c.in-Some.answer _ c.if-not-has_rooms.ensures.same c.in-Some.ensures.answers c.hear.ensures.hears }
+returns-in-Some g c = record { takes = takes_heard _ _ _ _ c.in-Some.answer _ _ c.if-not-has_rooms.ensures.same c.in-Some.ensures.answers c.hear.ensures.hears }
 
-pub returns : goal.returns
-returns g c = record { takes = takes_unheard _ _ _ c.if-not-has_rooms.ensures.same c.in-None.ensures.answers }
+pub returns-in-None : goal.returns-in-None
+returns-in-None g c = record { takes = takes_unheard _ _ _ c.if-not-has_rooms.ensures.same c.in-None.ensures.answers }
