@@ -1,7 +1,7 @@
 //! A connection that carries frames.
 use crate::timed::Timed;
 use crate::{Deadline, Writer};
-use links::{Frame, FrameFault, read_frame, write_frame};
+use links::{Frame, FrameFault, MAX_SEAT_TEXT, read_frame_to, write_frame_to};
 use std::alloc::Global;
 use std::io::{self, BufRead, BufReader};
 use std::net::Net;
@@ -12,12 +12,17 @@ use std::time::Duration;
 /// How many bytes are read ahead.
 const AHEAD: usize = 65_536;
 
-/// One end of a connection. Dropping it closes its handles of the socket.
+/// One end of a connection. Dropping it closes its handles of the socket. It has memory for each frame that the broker
+/// and the daemon of the seat send each other, so that none of those ends it for lack of memory.
 #[derive(Drop)]
 pub struct Connection<'a, R> {
     alloc: Global,
     reader: BufReader<Timed<'a, R>>,
     writer: Writer<'a, R>,
+    /// Room for the text of a frame that is written.
+    text: Vec<u8>,
+    /// Room for the body of a frame that is read.
+    body: Vec<u8>,
 }
 
 /// Connects to the socket at a path.
@@ -35,10 +40,14 @@ impl<'a, R: Clock> Connection<'a, R> {
     ) -> io::Result<Connection<'a, R>> {
         let writer = Writer::over(clock, stream.try_clone()?, patience)?;
         let reader = BufReader::with_capacity(alloc, AHEAD, Timed::over(clock, stream))?;
+        let text = Vec::with_capacity(alloc, MAX_SEAT_TEXT)?;
+        let body = Vec::with_capacity(alloc, MAX_SEAT_TEXT)?;
         Ok(Connection {
             alloc,
             reader,
             writer,
+            text,
+            body,
         })
     }
 
@@ -62,7 +71,7 @@ impl<'a, R: Clock> Connection<'a, R> {
 
     /// Reads the next frame as `read` does, by the deadline that was set.
     pub fn read_next(&mut self) -> Result<Option<Frame>, FrameFault> {
-        read_frame(self.alloc, &mut self.reader)
+        read_frame_to(&mut self.reader, &mut self.body)
     }
 
     /// Returns whether the last read gave up at its deadline before a frame began. It may be made again then.
@@ -84,7 +93,18 @@ impl<'a, R: Clock> Connection<'a, R> {
 
     /// Writes `frame`. After a fault the caller has to close the connection.
     pub fn write(&mut self, frame: &Frame) -> Result<(), FrameFault> {
-        write_frame(self.alloc, &mut self.writer, frame)
+        write_frame_to(&mut self.writer, &mut self.text, frame)
+    }
+
+    /// Takes the memory of a Post that was read here back, for the next frame.
+    pub fn give_back(&mut self, frame: Frame) {
+        if let Frame::Post {
+            generation: _,
+            reply,
+        } = frame
+        {
+            self.body = reply.into_vec();
+        }
     }
 
     /// Writes `frame`, and reads the answer by `deadline`. Returns none if either fails, or if no answer comes.
