@@ -1,19 +1,5 @@
 //! The opcodes of requests, as `enum fuse_opcode` of `linux/fuse.h` numbers them.
 
-pub(crate) const LOOKUP: u32 = 1;
-
-pub(crate) const FORGET: u32 = 2;
-
-pub(crate) const GETATTR: u32 = 3;
-
-pub(crate) const MKDIR: u32 = 9;
-
-pub(crate) const UNLINK: u32 = 10;
-
-pub(crate) const RMDIR: u32 = 11;
-
-pub(crate) const RENAME: u32 = 12;
-
 pub(crate) const OPEN: u32 = 14;
 
 pub(crate) const STATFS: u32 = 17;
@@ -33,8 +19,6 @@ pub(crate) const RELEASEDIR: u32 = 29;
 pub(crate) const FSYNCDIR: u32 = 30;
 
 pub(crate) const ACCESS: u32 = 34;
-
-pub(crate) const CREATE: u32 = 35;
 
 pub(crate) const INTERRUPT: u32 = 36;
 

@@ -1,11 +1,13 @@
 //! Who answers a kernel's request.
 ghost use Rattle.std.specs.Prelude.{◌≡◌};
-ghost use Rattle.mount_wire.specs.Owner.{owner_of};
+ghost use Rattle.mount_wire.specs.Owner.{is_kind, owner_of};
 
 use crate::opcode::{
-    ACCESS, BATCH_FORGET, CREATE, DESTROY, FLUSH, FORGET, FSYNC, FSYNCDIR, GETATTR, INIT,
-    INTERRUPT, LOOKUP, MKDIR, OPEN, OPENDIR, RELEASE, RELEASEDIR, RENAME, RMDIR, STATFS, UNLINK,
+    ACCESS, DESTROY, FLUSH, FSYNC, FSYNCDIR, INIT, INTERRUPT, OPEN, OPENDIR, RELEASE, RELEASEDIR,
+    STATFS,
 };
+use eden_base::Number;
+use fuse_wire::Request;
 
 /// Who answers a request of a kernel. All but `Daemon` are the program that mounts.
 #[derive(Clone, Copy, PartialEq, Eq)]
@@ -24,19 +26,24 @@ pub enum Owner {
     Daemon,
 }
 
+/// Returns whether requests with this `opcode` are read as a kind of their own.
+fn is_kind(opcode: u32) -> bool
+    ensures kind { result ≡ is_kind opcode }
+{
+    Request::other(opcode, Number::ROOT).is_none()
+}
+
 /// Returns who answers a request with this `opcode`.
 #[tactic(auto, unfolding(crate::specs::Owner::owner_of))]
 pub fn owner_of(opcode: u32) -> Owner
     ensures owner { result ≡ owner_of opcode }
 {
     match opcode {
+        _ if is_kind(opcode) => Owner::Daemon,
         INIT => Owner::Init,
         STATFS => Owner::Statfs,
         OPEN | RELEASE | FSYNC | FLUSH | OPENDIR | RELEASEDIR | FSYNCDIR | ACCESS => Owner::Allowed,
         INTERRUPT | DESTROY => Owner::Nobody,
-        LOOKUP | FORGET | GETATTR | MKDIR | UNLINK | RMDIR | RENAME | CREATE | BATCH_FORGET => {
-            Owner::Daemon
-        }
         _ => Owner::Refused,
     }
 }
