@@ -144,17 +144,42 @@ void *realloc(void *old, size_t size) { return refused() ? NULL : next_realloc(o
 """
 
 
-class Refusing:
-    """A daemon of which one allocation is to be refused, at a broker that speaks by hand."""
+class Refusals:
+    """Refuses one allocation of a process that is started with its environment."""
 
-    def __init__(self, room, number):
-        self.room = room
+    def __init__(self, room):
+        room.write("refusing.c", REFUSING.encode())
+        words = ["cc", "-O1", "-shared", "-fPIC", "-o", "refusing.so", "refusing.c", "-ldl"]
+        same(run_to_end(words, cwd=room.path)[0], 0)
         room.write("left", bytes(8))
         with open(f"{room.path}/left", "r+b") as file:
             self.left = mmap.mmap(file.fileno(), 8)
-        env = {"LD_PRELOAD": f"{room.path}/refusing.so", "REFUSED": f"{room.path}/left"}
-        self.daemon, self.first, self.worker = mounted_by_hand(room, env=env)
-        self.number = number
+        self.env = {"LD_PRELOAD": f"{room.path}/refusing.so", "REFUSED": f"{room.path}/left"}
+
+    def refuse(self, number):
+        """Lets the allocation with this number be refused, counted from here on."""
+        self.left[:] = struct.pack("q", number)
+
+    def was_refused(self):
+        """Returns whether that allocation came. None is refused from here on."""
+        was_refused = struct.unpack("q", self.left)[0] == 0
+        self.left[:] = bytes(8)
+        return was_refused
+
+
+def each_is_refused(turn):
+    """Makes a turn with each of its allocations refused, and then one with none. A turn returns whether one was."""
+    count = next((number for number in range(100) if not turn(number + 1)), 100)
+    if not 0 < count < 100:
+        raise AssertionError(f"{count} allocations were refused")
+
+
+class Asking:
+    """A daemon of which allocations are refused, at a broker that speaks by hand."""
+
+    def __init__(self, room):
+        self.refusals = Refusals(room)
+        self.daemon, self.first, self.worker = mounted_by_hand(room, env=self.refusals.env)
 
     def ask(self, opcode, unique, number, body):
         """Answers a Take by an ask, and returns the error and the body of its reply. The next Take is read then."""
@@ -163,51 +188,90 @@ class Refusing:
         same(self.worker.ask("Posted"), ("Take", u64(1)))
         return struct.unpack("<i", reply[12:16])[0], reply[24:]
 
-    def forget(self, items):
-        """Answers a Take by a batch of forgets, with the allocation refused behind it. Returns whether one was, and
-        whether the daemon takes again."""
+    def look_up(self, unique, name):
+        """Asks for the number of a name in the root, and returns it."""
+        error, body = self.ask(1, unique, 1, name + b"\0")
+        same(error, 0)
+        return struct.unpack("<Q", body[:8])[0]
+
+    def forget(self, unique, items):
+        """Answers a Take by a batch of forgets. The next Take is read then."""
         body = struct.pack("<II", len(items), 0) + b"".join(struct.pack("<QQ", *item) for item in items)
-        self.left[:] = struct.pack("q", self.number)
-        took = self.worker.ask("Ask", request(42, 9, 0, body))
-        was_refused = struct.unpack("q", self.left)[0] == 0
-        self.left[:] = bytes(8)
-        return was_refused, took == ("Take", u64(1))
+        same(self.worker.ask("Ask", request(42, unique, 0, body)), ("Take", u64(1)))
 
-
-def forgotten(room, number):
-    """Serves a batch of forgets with an allocation refused. Returns whether one was, and whether the daemon serves on.
-    Where it does, what the batch says is forgotten."""
-    it = Refusing(room, number)
-    same(struct.unpack("<Q", it.ask(1, 1, 1, b"src\0")[1][:8]), (2,))
-    same(struct.unpack("<Q", it.ask(1, 2, 1, b"README\0")[1][:8]), (3,))
-    same(it.ask(3, 3, 2, bytes(16))[0], 0)
-    was_refused, serves_on = it.forget([(2, 1), (3, 1)])
-    if serves_on:
-        same([it.ask(3, 3, forgot, bytes(16))[0] for forgot in (2, 3)], [-116, -116])
-        it.worker.send("Ended")
-    it.daemon.ends(["serving 1", "ended" if serves_on else "fault: broken"], 0 if serves_on else 1)
-    it.left.close()
-    for end in room.ends:
-        end.close()
-    os.remove(room.broker_at)
-    return was_refused, serves_on
+    def ends(self):
+        self.worker.send("Ended")
+        self.daemon.ends(["serving 1", "ended"])
 
 
 @row_of_proved
 def forgets_are_not_lost_for_want_of_memory(room):
-    """A batch of forgets is served where memory for reading it is refused; else the daemon ends, and with it the mount."""
-    room.write("refusing.c", REFUSING.encode())
-    words = ["cc", "-O1", "-shared", "-fPIC", "-o", "refusing.so", "refusing.c", "-ldl"]
-    same(run_to_end(words, cwd=room.path)[0], 0)
-    outcomes = []
-    for number in range(1, 100):
-        was_refused, serves_on = forgotten(room, number)
-        if not was_refused:
-            break
-        outcomes.append(serves_on)
-    # The frame's own bytes come first, and the next Take's last: a channel that can't have those is broken.
-    if not outcomes[1:-1] or outcomes != [False, *[True] * len(outcomes[1:-1]), False]:
-        raise AssertionError(f"with each allocation refused it served on: {outcomes}")
+    """A batch of forgets is served where any allocation behind it is refused: what it says is forgotten."""
+    it = Asking(room)
+
+    def turn(number):
+        unique = 10 * number
+        src, readme = it.look_up(unique, b"src"), it.look_up(unique + 1, b"README")
+        it.refusals.refuse(number)
+        it.forget(unique + 2, [(src, 1), (readme, 1)])
+        was_refused = it.refusals.was_refused()
+        same([it.ask(3, unique + 3, forgot, bytes(16))[0] for forgot in (src, readme)], [-116, -116])
+        return was_refused
+
+    each_is_refused(turn)
+    it.ends()
+
+
+@row_of_proved
+def a_daemon_serves_on_where_memory_for_a_take_or_a_post_is_refused(room):
+    """Any allocation of a Take, a Post and looks that find nothing may be refused to a daemon: it serves on, and asks the
+    same again where a name found no memory."""
+    it = Asking(room)
+
+    def turn(number):
+        it.refusals.refuse(number)
+        same(it.ask(3, 2 * number, 1, bytes(16))[0], 0)
+        it.ask(1, 2 * number + 1, 1, b"src\0")
+        for _ in range(20):
+            same(it.worker.ask("Empty"), ("Take", u64(1)))
+        return it.refusals.was_refused()
+
+    each_is_refused(turn)
+    same(it.look_up(1, b"src"), 2)
+    it.ends()
+
+
+@row_of_proved
+def a_broker_serves_on_where_memory_for_a_take_or_a_post_is_refused(room):
+    """Any allocation of a Take or a Post may be refused to a broker: no connection of the daemon ends, and each ask is
+    answered. A line of the script that finds no memory is refused."""
+    refusals = Refusals(room)
+    asks = 20
+    broker = room.broker("seat 1", *["ask getattr 1"] * asks, env=refusals.env)
+    first, worker = room.peer(), room.peer()
+    worker.attach(first.attach())
+    same(first.ask("Mount"), ("Mounted", u64(1)))
+
+    def post(text):
+        same(worker.ask("Post", u64(1) + struct.pack("<Ii", 16, -5) + text[8:16]), ("Posted", b""))
+
+    def turn(number):
+        # The script's next line mostly waits for its answer by then.
+        time.sleep(0.02)
+        refusals.refuse(number)
+        name, text = worker.take_ask(1)
+        same(name, "Ask")
+        same(worker.ask("Post", u64(1) + bytes(160)), ("NotAsked", b""))
+        was_refused = refusals.was_refused()
+        post(text)
+        return was_refused
+
+    each_is_refused(turn)
+    while (taken := worker.take_ask(1))[0] == "Ask":
+        post(taken[1])
+    broker.printed("ended")
+    answered = [f"answer {number} error EIO" for number in range(1, asks + 1 - broker.lines.count("refused NoMemory"))]
+    same([line for line in broker.lines if line != "refused NoMemory"], ["seat 1", *answered, "ended"])
 
 
 @row

@@ -147,11 +147,11 @@ class Room:
         self.running.append(it)
         return it
 
-    def broker(self, *lines):
+    def broker(self, *lines, **streams):
         """Starts a broker, and waits until it listens."""
         self.write("script", "".join(f"{line}\n" for line in lines).encode())
         is_left = os.path.exists(self.broker_at)
-        it = self.run("broker", "broker.sock", "script")
+        it = self.run("broker", "broker.sock", "script", **streams)
         self.await_socket(self.broker_at, is_left)
         return it
 

@@ -119,8 +119,10 @@ fn answer_one<R: Wait + Clock>(
     let Ok(Some(frame)) = connection.read(by) else {
         return false;
     };
-    match hall.answer(rt, visit, &frame) {
+    let goes_on = match hall.answer(rt, visit, &frame) {
         Response::Tells(told) => connection.write(&told).is_ok(),
         Response::Closes => false,
-    }
+    };
+    connection.give_back(frame);
+    goes_on
 }
