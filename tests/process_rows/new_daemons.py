@@ -133,8 +133,8 @@ def a_stale_claim_fails(room):
         other.send("Data", u32(1) + u64(7) + images[0])
 
     broker = room.broker("seat 1", "seat 2")
-    guest = room.peer()
-    guest.attach()
+    another = room.peer()
+    another.attach()
     first = room.mount()
     first.printed("serving 1")
     images.append(handed_over(room, 1)[2].replace(u64(1), u64(7), 1))
@@ -146,7 +146,7 @@ def a_stale_claim_fails(room):
     other.read()
     talk(other)
     new.ends(["fault: takeover failed"], 1, error=because("a stale claim: the seat was claimed again before"))
-    guest.close()
+    another.close()
     broker.ends(["seat 1", "seat 2", "ended"])
     first.ends(["serving 1", "serving 2", "ended"])
 

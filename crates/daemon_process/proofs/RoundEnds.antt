@@ -12,7 +12,7 @@ use Rattle.workers.specs.Channel.{Told}
 use Rattle.workers.specs.Round.{AreLeft, AreServed}
 use Rattle.workers.specs.declared.channel.Posted.{Posted}
 use Rattle.workers.specs.declared.channel.Taken.{Taken}
-use Rattle.daemon_process.specs.Rounds.{EndsCrew, EndsRound, EndsService}
+use Rattle.daemon_process.specs.Rounds.{EndsByWorkers, EndsRound, EndsService}
 use Rattle.daemon_process.specs.declared.exit.Exit.{Exit}
 use Rattle.daemon_process.specs.declared.exit.Exit.TheVariants.{Faulty}
 use Rattle.daemon_process.specs.declared.fault.DaemonFault.TheVariants.{Broken}
@@ -45,14 +45,14 @@ unsettled_ends takes posts tells told why channels left records receipts (Ok x) 
 unsettled_ends takes posts tells told why channels left records receipts (Err exit) served unsettled is =
     inr (left, records, receipts, served, unsettled, is)
 
--- a crew's channels are those of its round, and the round ends the daemon
-pub ends_crew :
+-- the workers' channels are those of their round, and the round ends the daemon
+pub ends_by_workers :
     {C : Type 0} (takes : C → Taken → C → Type 0) (posts : C → Reply → Posted → C → Type 0)
     (tells : Bool) (told : C → Told) (why : C → Option TakeFault) (channels served : Vec C) (after : List C)
     (exit : Exit) → served ≡ channels →
     EndsService takes posts tells told why (vec_len served) served.items exit →
-    EndsCrew takes posts tells told why (vec_len channels) channels.items after (Some exit)
-ends_crew {C} takes posts tells told why channels served after exit same ends =
+    EndsByWorkers takes posts tells told why (vec_len channels) channels.items after (Some exit)
+ends_by_workers {C} takes posts tells told why channels served after exit same ends =
     inr (
       exit,
       refl,

@@ -1,7 +1,7 @@
 pub mod Causes
 pub mod Ending
-pub mod Guests
 pub mod Patience
+pub mod PeerQueue
 pub mod Rounds
 pub mod Serving
 pub mod Silence

@@ -69,9 +69,9 @@ EndsService takes posts tells told why count channels exit =
 
 -- What a round makes of a daemon, by the `count` channels `before` it and those `after` it: either those are as their
 -- workers left them, and what they heard decides; or the daemon ends, and serves no round or has served its last.
-abbrev pub EndsCrew :
+abbrev pub EndsByWorkers :
     {C : Type 0} → (C → Taken → C → Type 0) → (C → Reply → Posted → C → Type 0) → Bool → (C → Told)
     → (C → Option TakeFault) → ℕ → (before after : List C) → Option Exit → Type 0
-EndsCrew takes posts tells told why count before after result =
+EndsByWorkers takes posts tells told why count before after result =
     (AreLeft takes posts 64 before after × (result ≡ exit_of why after))
     ⊎ ((exit : Exit) × (result ≡ Some exit) × EndsService takes posts tells told why count before exit)

@@ -7,8 +7,8 @@ use crate::cause::{Cause, awaited_in, failed_by, is_under_way, loss_by, tell};
 use crate::claiming::claim;
 use crate::exit::Exit;
 use crate::fault::DaemonFault;
-use crate::guests::Offer;
-use crate::lobby::Lobby;
+use crate::peer_connections::PeerConnections;
+use crate::peer_queue::Offer;
 use crate::shared::Shared;
 use crate::telling::tell_all;
 use daemon_desk::{Claiming, Hearing};
@@ -29,20 +29,20 @@ pub(crate) fn hand_over_all<R: Wait + Clock>(
     rt: &R,
     alloc: Global,
     shared: &Shared,
-    lobby: &Lobby,
+    peers: &PeerConnections,
     broker: Connection<'_, R>,
     patience: Duration,
 ) {
     let mut broker = broker;
     for _ in rt.forever() {
-        let Some(Offer { stream, frame }) = lobby.next(rt) else {
+        let Some(Offer { stream, frame }) = peers.next(rt) else {
             return;
         };
         let mut cause = None;
         if let Ok(mut connection) = Connection::over(alloc, rt, stream, Some(patience)) {
-            cause = attend(rt, shared, lobby, &mut connection, frame, patience);
+            cause = attend(rt, shared, peers, &mut connection, frame, patience);
         }
-        lobby.finish(rt);
+        peers.finish(rt);
         if let (true, Some(cause)) = (serves_on(rt, shared, &mut broker), cause) {
             tell(rt, shared.notes(), cause);
         }
@@ -55,12 +55,12 @@ pub(crate) fn hand_over_all<R: Wait + Clock>(
 fn attend<R: Wait + Clock>(
     rt: &R,
     shared: &Shared,
-    lobby: &Lobby,
+    peers: &PeerConnections,
     connection: &mut Connection<'_, R>,
     first: Frame,
     patience: Duration,
 ) -> Option<Cause> {
-    let cause = converse(rt, shared, lobby, connection, first, patience);
+    let cause = converse(rt, shared, peers, connection, first, patience);
     if let Some(told) = shared.give_up(rt) {
         let _told = connection.write(&told);
     }
@@ -73,7 +73,7 @@ fn attend<R: Wait + Clock>(
 fn converse<R: Wait + Clock>(
     rt: &R,
     shared: &Shared,
-    lobby: &Lobby,
+    peers: &PeerConnections,
     connection: &mut Connection<'_, R>,
     first: Frame,
     patience: Duration,
@@ -82,7 +82,7 @@ fn converse<R: Wait + Clock>(
     let mut frame = first;
     connection.end_by(Deadline::after(rt, patience));
     for _ in rt.forever() {
-        if !lobby.stay(rt) {
+        if !peers.stay(rt) {
             return None;
         }
         let course = answer(rt, shared, connection, &frame);
@@ -104,7 +104,7 @@ fn converse<R: Wait + Clock>(
             connection.end_by(Deadline::after(rt, silence));
         }
         if is_serving(now) {
-            lobby.make_way(rt);
+            peers.make_way(rt);
         }
         match connection.read_next() {
             Ok(Some(next)) => frame = next,

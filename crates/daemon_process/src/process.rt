@@ -8,9 +8,9 @@ use crate::closing::close_with_input;
 use crate::exit::{Ending, Exit};
 use crate::fault::DaemonFault;
 use crate::handover::hand_over_all;
-use crate::lobby::Lobby;
 use crate::orders::Orders;
-use crate::reception::receive_all;
+use crate::peer_accept_loop::accept_peers;
+use crate::peer_connections::PeerConnections;
 use crate::serving::serve;
 use crate::shared::Shared;
 use daemon_desk::DaemonDesk;
@@ -166,9 +166,9 @@ fn run<R: Threads + Wait + Clock + Sync, W: Unblock + Drop>(
             return Service { out, ending };
         }
     };
-    let lobby = Lobby::new(alloc);
+    let peers = PeerConnections::new(alloc);
     let (patience, until_closed) = (orders.patience, orders.until_closed);
-    let (lobby, listener, closer) = (&lobby, &listener, &closer);
+    let (peers, listener, closer) = (&peers, &listener, &closer);
     let workers = workers.as_slice();
     thread::scope(
         thread::scope_env(),
@@ -182,7 +182,7 @@ fn run<R: Threads + Wait + Clock + Sync, W: Unblock + Drop>(
                 rt,
                 alloc,
                 shared,
-                lobby,
+                peers,
                 listener,
                 closer,
                 connection,
@@ -201,7 +201,7 @@ fn run_within<'s, 'e: 's, R: Threads + Wait + Clock + Sync + 's, W: Unblock + Dr
     rt: &'e R,
     alloc: Global,
     shared: &'e Shared,
-    lobby: &'e Lobby,
+    peers: &'e PeerConnections,
     listener: &'e UnixListener,
     closer: &Closer,
     broker: Connection<'e, R>,
@@ -214,12 +214,12 @@ fn run_within<'s, 'e: 's, R: Threads + Wait + Clock + Sync + 's, W: Unblock + Dr
     ensures heeds { IsHeeded until_closed result.ending }
 {
     let mut out = out;
-    let receiving = scope.spawn(move || receive_all(rt, alloc, lobby, listener, patience));
-    let handing = scope.spawn(move || hand_over_all(rt, alloc, shared, lobby, broker, patience));
-    let are_made = receiving.is_ok() && handing.is_ok();
+    let accepting = scope.spawn(move || accept_peers(rt, alloc, peers, listener, patience));
+    let handing = scope.spawn(move || hand_over_all(rt, alloc, shared, peers, broker, patience));
+    let are_made = accepting.is_ok() && handing.is_ok();
     let ending = serve_if(rt, alloc, shared, workers, are_made, until_closed, &mut out);
     shared.finish(rt);
-    lobby.end(rt);
+    peers.end(rt);
     closer.close();
     Service { out, ending }
 }

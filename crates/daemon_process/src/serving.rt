@@ -2,7 +2,7 @@
 ghost use Rattle.std.specs.Prelude.{◌≡◌, vec_len, IfOk, OnErr, OnOk};
 ghost use Rattle.std.specs.Io.KnownBytes.{Appends};
 ghost use Rattle.daemon_process.specs.Ending.{IsHeeded, PrintsServing};
-ghost use Rattle.daemon_process.specs.Rounds.{EndsCrew};
+ghost use Rattle.daemon_process.specs.Rounds.{EndsByWorkers};
 ghost use Rattle.daemon_process.specs.Serving.{IsSameSpell, PrintsRound, begins, printed_of, serving_line};
 
 use crate::arrival::{Worker, channels};
@@ -28,7 +28,7 @@ const PAUSE: u64 = 1;
 /// The channels of a daemon's workers, the generation at which they were made, and the rooms that rounds work in.
 /// Before the first round there are no channels.
 #[derive(Drop)]
-struct Crew<C: Channel + Drop> {
+struct Workers<C: Channel + Drop> {
     generation: u64,
     /// How often rounds were asked to stop before the last round began.
     stops: u64,
@@ -42,14 +42,14 @@ pub(crate) fn serve<R: Threads + Wait + Clock + Sync, W: Unblock>(
     rt: &R,
     alloc: Global,
     shared: &Shared,
-    workers: &[UnixStream],
+    streams: &[UnixStream],
     until_closed: bool,
     out: &mut W,
 ) -> Ending
     ensures prints { PrintsServing (W.contents out.old) (W.contents out.new) }
     ensures heeds { IsHeeded until_closed result }
 {
-    let mut crew = Crew {
+    let mut workers = Workers {
         generation: 0,
         stops: 0,
         channels: Vec::new(alloc),
@@ -60,7 +60,15 @@ pub(crate) fn serve<R: Threads + Wait + Clock + Sync, W: Unblock>(
         match shared.next(rt, alloc, until_closed) {
             Next::Serve(lease, stop, stops) => {
                 if let Some(exit) = serve_lease(
-                    rt, alloc, shared, workers, &mut crew, lease, &stop, stops, out,
+                    rt,
+                    alloc,
+                    shared,
+                    streams,
+                    &mut workers,
+                    lease,
+                    &stop,
+                    stops,
+                    out,
                 ) {
                     return Ending::Exits(exit);
                 }
@@ -80,49 +88,51 @@ fn serve_lease<'a, R: Threads + Wait + Clock + Sync, W: Unblock>(
     rt: &'a R,
     alloc: Global,
     shared: &'a Shared,
-    workers: &[UnixStream],
-    crew: &mut Crew<Worker<'a, R>>,
+    streams: &[UnixStream],
+    workers: &mut Workers<Worker<'a, R>>,
     lease: Lease,
     stop: &Arc<Stop>,
     stops: u64,
     out: &mut W,
 ) -> Option<Exit>
-    ensures prints { PrintsRound (crew.old.generation, crew.old.stops) (lease.generation, stops)
-        (crew.new.generation, crew.new.stops) (W.contents out.old) (W.contents out.new) }
+    ensures prints { PrintsRound (workers.old.generation, workers.old.stops) (lease.generation, stops)
+        (workers.new.generation, workers.new.stops) (W.contents out.old) (W.contents out.new) }
 {
     let generation = lease.generation;
     let silences = shared.silences();
-    let Ok(is_new) = man(rt, alloc, silences, workers, crew, generation, stop, stops) else {
+    let Ok(is_new) = prepare_workers(
+        rt, alloc, silences, streams, workers, generation, stop, stops,
+    ) else {
         shared.take_back(rt, lease);
         thread::sleep(rt, Duration::from_millis(PAUSE));
         return None;
     };
     print_round(out, is_new, lease.generation);
-    serve_crew(rt, alloc, shared, crew, lease, stop)
+    serve_by_workers(rt, alloc, shared, workers, lease, stop)
 }
 
-/// Serves a round over `lease` by the crew's channels, and gives the lease back. Returns the daemon's exit, if the daemon
+/// Serves a round over `lease` by the workers' channels, and gives the lease back. Returns the daemon's exit, if the daemon
 /// ends.
-fn serve_crew<C: Channel + HearsEnd + Drop + Send, R: Threads + Wait + Sync>(
+fn serve_by_workers<C: Channel + HearsEnd + Drop + Send, R: Threads + Wait + Sync>(
     rt: &R,
     alloc: Global,
     shared: &Shared,
-    crew: &mut Crew<C>,
+    workers: &mut Workers<C>,
     lease: Lease,
     stop: &Stop,
 ) -> Option<Exit>
-    ensures ends { EndsCrew C.takes C.posts C.tells C.told C.why_ended (vec_len crew.old.channels)
-        crew.old.channels.items crew.new.channels.items result }
-    ensures same { IsSameSpell (crew.new.generation, crew.new.stops) (crew.old.generation, crew.old.stops) }
+    ensures ends { EndsByWorkers C.takes C.posts C.tells C.told C.why_ended (vec_len workers.old.channels)
+        workers.old.channels.items workers.new.channels.items result }
+    ensures same { IsSameSpell (workers.new.generation, workers.new.stops) (workers.old.generation, workers.old.stops) }
 {
-    let channels = mem::replace(&mut crew.channels, Vec::new(alloc));
-    let rooms = mem::replace(&mut crew.rooms, Rooms::new(alloc));
+    let channels = mem::replace(&mut workers.channels, Vec::new(alloc));
+    let rooms = mem::replace(&mut workers.rooms, Rooms::new(alloc));
     match serve_one(rt, alloc, lease, channels, rooms, stop) {
         Ok(left) => {
-            crew.channels = left.channels;
-            crew.rooms = left.rooms;
+            workers.channels = left.channels;
+            workers.rooms = left.rooms;
             shared.take_back(rt, left.lease);
-            exit_of(crew.channels.as_slice())
+            exit_of(workers.channels.as_slice())
         }
         Err(exit) => Some(exit),
     }
@@ -130,34 +140,34 @@ fn serve_crew<C: Channel + HearsEnd + Drop + Send, R: Threads + Wait + Sync>(
 
 /// Makes channels at `generation` if the present ones are of another generation, else makes the present ones heed
 /// `stop`. Returns whether the daemon begins to serve: at another generation, or again after a round was asked to stop.
-fn man<'a, R: Wait + Clock>(
+fn prepare_workers<'a, R: Wait + Clock>(
     rt: &'a R,
     alloc: Global,
     silences: &'a Silences,
-    workers: &[UnixStream],
-    crew: &mut Crew<Worker<'a, R>>,
+    streams: &[UnixStream],
+    workers: &mut Workers<Worker<'a, R>>,
     generation: u64,
     stop: &Arc<Stop>,
     stops: u64,
 ) -> io::Result<bool>
     ensures new { IfOk result (λ is_new.
-        is_new ≡ begins (crew.old.generation, crew.old.stops) (generation, stops)) }
+        is_new ≡ begins (workers.old.generation, workers.old.stops) (generation, stops)) }
     ensures at { OnOk result
-        (IsSameSpell (crew.new.generation, crew.new.stops) (generation, stops)) }
-    ensures same { OnErr result (IsSameSpell (crew.new.generation, crew.new.stops)
-        (crew.old.generation, crew.old.stops)) }
+        (IsSameSpell (workers.new.generation, workers.new.stops) (generation, stops)) }
+    ensures same { OnErr result (IsSameSpell (workers.new.generation, workers.new.stops)
+        (workers.old.generation, workers.old.stops)) }
 {
-    if crew.generation == generation {
-        for channel in crew.channels.iter_mut() {
+    if workers.generation == generation {
+        for channel in workers.channels.iter_mut() {
             channel.heed(Arc::try_clone(stop)?);
         }
-        let is_new = crew.stops != stops;
-        crew.stops = stops;
+        let is_new = workers.stops != stops;
+        workers.stops = stops;
         return Ok(is_new);
     }
-    crew.channels = channels(rt, alloc, silences, workers, generation, stop)?;
-    crew.generation = generation;
-    crew.stops = stops;
+    workers.channels = channels(rt, alloc, silences, streams, generation, stop)?;
+    workers.generation = generation;
+    workers.stops = stops;
     Ok(true)
 }
 

@@ -1,8 +1,8 @@
-//! The connections of other daemons.
+//! The connections of peers, which are other daemons.
 ghost use Rattle.std.specs.Prelude.{◌≡◌, ◌||◌, false, true, not, length, IsSome};
-ghost use Rattle.daemon_process.specs.Guests.{TakesFirst, admission, gives_way, has_place, silent_for};
+ghost use Rattle.daemon_process.specs.PeerQueue.{TakesFirst, admission, gives_way, has_place, silent_for};
 
-use crate::guests::{Admission, Guests, Offer};
+use crate::peer_queue::{Admission, Offer, PeerQueue};
 use links::Frame;
 use std::alloc::Global;
 use std::net::Shutdown;
@@ -23,7 +23,7 @@ const LONGEST_SLEEP: u64 = 60_000;
 /// What the lock protects.
 #[derive(Drop)]
 struct State {
-    guests: Guests,
+    queue: PeerQueue,
     /// A handle of the connection that is served now.
     current: Option<UnixStream>,
     /// Whether the connection that is served now has a takeover under way.
@@ -36,19 +36,19 @@ struct State {
 /// The connections of other daemons: at most 64 are heard side by side, and of those that offered one is served at a
 /// time.
 #[derive(Drop)]
-pub(crate) struct Lobby {
+pub(crate) struct PeerConnections {
     state: Mutex<State>,
     changes: Condvar,
 }
 
 /// How a connection enters.
 #[derive(Clone, Copy)]
-pub(crate) enum Entrance {
+pub(crate) enum Admitted {
     /// It is heard by this number.
     Heard(u64),
     /// Memory was refused.
     Refused,
-    /// The lobby is over.
+    /// No connection is let in any more.
     Over,
 }
 
@@ -56,11 +56,11 @@ impl State {
     /// Shuts down the connection that is served now, if another one offered and no takeover is under way.
     fn send_away(&mut self)
         ensures sent { self.new.is_sent_away ≡ (self.old.is_sent_away
-            || gives_way self.old.is_engaged (length self.old.guests.offers.items)) }
+            || gives_way self.old.is_engaged (length self.old.queue.offers.items)) }
         ensures engaged { self.new.is_engaged ≡ self.old.is_engaged }
-        ensures guests { self.new.guests ≡ self.old.guests }
+        ensures queue { self.new.queue ≡ self.old.queue }
     {
-        if self.is_engaged || !self.guests.has_offer() {
+        if self.is_engaged || !self.queue.has_offer() {
             return;
         }
         if let Some(current) = &self.current {
@@ -71,12 +71,12 @@ impl State {
 
     /// Takes the connection that offered first, which has a takeover under way by that.
     fn take(&mut self) -> Option<Offer>
-        ensures first { TakesFirst result self.old.guests.offers.items self.new.guests.offers.items }
-        ensures silent { self.new.guests.silent.items ≡ self.old.guests.silent.items }
+        ensures first { TakesFirst result self.old.queue.offers.items self.new.queue.offers.items }
+        ensures silent { self.new.queue.silent.items ≡ self.old.queue.silent.items }
         ensures engaged { IsSome result → self.new.is_engaged ≡ true }
         ensures sent { IsSome result → self.new.is_sent_away ≡ false }
     {
-        let offer = self.guests.take()?;
+        let offer = self.queue.take()?;
         self.current = offer.stream.try_clone().ok();
         self.is_engaged = true;
         self.is_sent_away = false;
@@ -85,17 +85,17 @@ impl State {
 
     /// Makes a place for a connection that comes, if there may be one by now. Returns whether there is.
     fn has_place(&mut self, is_late: bool) -> bool
-        ensures place { result ≡ has_place (admission (length self.old.guests.silent.items)
-            (length self.old.guests.offers.items) is_late) }
-        ensures silent { self.new.guests.silent.items ≡ silent_for (admission
-            (length self.old.guests.silent.items) (length self.old.guests.offers.items) is_late)
-            self.old.guests.silent.items }
-        ensures offers { self.new.guests.offers.items ≡ self.old.guests.offers.items }
+        ensures place { result ≡ has_place (admission (length self.old.queue.silent.items)
+            (length self.old.queue.offers.items) is_late) }
+        ensures silent { self.new.queue.silent.items ≡ silent_for (admission
+            (length self.old.queue.silent.items) (length self.old.queue.offers.items) is_late)
+            self.old.queue.silent.items }
+        ensures offers { self.new.queue.offers.items ≡ self.old.queue.offers.items }
     {
-        match self.guests.admission(is_late) {
+        match self.queue.admission(is_late) {
             Admission::Enters => true,
             Admission::Replaces => {
-                self.guests.replace();
+                self.queue.replace();
                 true
             }
             Admission::Waits => false,
@@ -107,7 +107,7 @@ impl State {
         ensures stays { result ≡ not self.old.is_sent_away }
         ensures engaged { self.new.is_engaged ≡ (self.old.is_engaged || not self.old.is_sent_away) }
         ensures sent { self.new.is_sent_away ≡ self.old.is_sent_away }
-        ensures guests { self.new.guests ≡ self.old.guests }
+        ensures queue { self.new.queue ≡ self.old.queue }
     {
         if self.is_sent_away {
             return false;
@@ -119,21 +119,21 @@ impl State {
     /// Notes that the served connection has no takeover under way, and sends it away if another one offered.
     fn make_way(&mut self)
         ensures sent { self.new.is_sent_away ≡ (self.old.is_sent_away
-            || gives_way false (length self.old.guests.offers.items)) }
+            || gives_way false (length self.old.queue.offers.items)) }
         ensures engaged { self.new.is_engaged ≡ false }
-        ensures guests { self.new.guests ≡ self.old.guests }
+        ensures queue { self.new.queue ≡ self.old.queue }
     {
         self.is_engaged = false;
         self.send_away();
     }
 }
 
-impl Lobby {
-    /// Returns a lobby where nobody waits.
-    pub(crate) fn new(alloc: Global) -> Lobby {
-        Lobby {
+impl PeerConnections {
+    /// Returns the connections before one came.
+    pub(crate) fn new(alloc: Global) -> PeerConnections {
+        PeerConnections {
             state: Mutex::new(State {
-                guests: Guests::new(alloc),
+                queue: PeerQueue::new(alloc),
                 current: None,
                 is_engaged: false,
                 is_sent_away: false,
@@ -145,19 +145,19 @@ impl Lobby {
 
     /// Lets a connection in by a handle of it, once there is a place. Where all are taken it soon takes that of the oldest
     /// one that said nothing yet.
-    pub(crate) fn enter<R: Wait>(&self, rt: &R, stream: UnixStream) -> Entrance {
+    pub(crate) fn enter<R: Wait>(&self, rt: &R, stream: UnixStream) -> Admitted {
         let mut pause = Duration::from_micros(MOMENT);
         let mut is_late = false;
         for _ in rt.forever() {
             let seen = self.changes.notifications();
             let mut state = self.state.lock(rt);
             if state.is_over {
-                return Entrance::Over;
+                return Admitted::Over;
             }
             if state.has_place(is_late) {
-                return match state.guests.enter(stream) {
-                    Some(number) => Entrance::Heard(number),
-                    None => Entrance::Refused,
+                return match state.queue.enter(stream) {
+                    Some(number) => Admitted::Heard(number),
+                    None => Admitted::Refused,
                 };
             }
             drop(state);
@@ -170,7 +170,7 @@ impl Lobby {
 
     /// Notes that a connection ended, or said what is no offer.
     pub(crate) fn leave<R: Wait>(&self, rt: &R, number: u64) {
-        let left = self.state.lock(rt).guests.leave(number);
+        let left = self.state.lock(rt).queue.leave(number);
         drop(left);
         self.changes.notify_all();
     }
@@ -178,13 +178,14 @@ impl Lobby {
     /// Notes that a connection offered by `frame`. If the served connection has no takeover under way, it is sent away.
     pub(crate) fn offer<R: Wait>(&self, rt: &R, number: u64, frame: Frame) {
         let mut state = self.state.lock(rt);
-        state.guests.offer(number, frame);
+        state.queue.offer(number, frame);
         state.send_away();
         drop(state);
         self.changes.notify_all();
     }
 
-    /// Returns the connection that offered first, which is served from then on; none where the lobby is over.
+    /// Returns the connection that offered first, which is served from then on; none where no connection is let in any
+    /// more.
     pub(crate) fn next<R: Wait>(&self, rt: &R) -> Option<Offer> {
         for _ in rt.forever() {
             let seen = self.changes.notifications();
@@ -227,7 +228,7 @@ impl Lobby {
     pub(crate) fn end<R: Wait>(&self, rt: &R) {
         let mut state = self.state.lock(rt);
         state.is_over = true;
-        state.guests.end_all();
+        state.queue.end_all();
         if let Some(current) = &state.current {
             let _ended = current.shutdown(Shutdown::Both);
         }

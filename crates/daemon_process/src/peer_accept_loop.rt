@@ -1,8 +1,8 @@
-//! The first frames of other daemons' connections, each heard in a thread of its own.
+//! The accept loop for peers. The first frame of each connection is heard in a thread of its own.
 ghost use Rattle.std.specs.Prelude.{◌≡◌};
-ghost use Rattle.daemon_process.specs.Guests.{is_offer};
+ghost use Rattle.daemon_process.specs.PeerQueue.{is_offer};
 
-use crate::lobby::{Entrance, Lobby};
+use crate::peer_connections::{Admitted, PeerConnections};
 use links::Frame;
 use sockets::{Deadline, First};
 use std::alloc::Global;
@@ -17,35 +17,35 @@ use takeover_core::Message;
 /// How long no connection is accepted after an accept failed, in milliseconds.
 const PAUSE: u64 = 10;
 
-/// Lets in whoever connects, until the lobby is over, and returns when each of those was heard. A connection that doesn't
-/// offer within `patience` is closed.
-pub(crate) fn receive_all<R: Threads + Wait + Clock + Sync>(
+/// Accepts connections until no more are let in, and returns when each of them was heard. One that doesn't offer within
+/// `patience` is closed.
+pub(crate) fn accept_peers<R: Threads + Wait + Clock + Sync>(
     rt: &R,
     alloc: Global,
-    lobby: &Lobby,
+    peers: &PeerConnections,
     listener: &UnixListener,
     patience: Duration,
 ) {
     thread::scope(thread::scope_env(), rt, |scope| {
-        receive(scope, rt, alloc, lobby, listener, patience)
+        accept_peers_within(scope, rt, alloc, peers, listener, patience)
     })
 }
 
-/// Lets in whoever connects, until the lobby is over.
-fn receive<'s, 'e: 's, R: Threads + Wait + Clock + Sync + 's>(
+/// Accepts connections until no more are let in.
+fn accept_peers_within<'s, 'e: 's, R: Threads + Wait + Clock + Sync + 's>(
     scope: &Scope<'s, &'e ()>,
     rt: &'e R,
     alloc: Global,
-    lobby: &'e Lobby,
+    peers: &'e PeerConnections,
     listener: &UnixListener,
     patience: Duration,
 ) {
     for stream in listener.incoming() {
-        if lobby.is_over(rt) {
+        if peers.is_over(rt) {
             return;
         }
         match stream {
-            Ok(stream) => admit(scope, rt, alloc, lobby, stream, patience),
+            Ok(stream) => admit(scope, rt, alloc, peers, stream, patience),
             Err(_failed) => thread::sleep(rt, Duration::from_millis(PAUSE)),
         }
     }
@@ -56,25 +56,25 @@ fn admit<'s, 'e: 's, R: Threads + Wait + Clock + Sync + 's>(
     scope: &Scope<'s, &'e ()>,
     rt: &'e R,
     alloc: Global,
-    lobby: &'e Lobby,
+    peers: &'e PeerConnections,
     stream: UnixStream,
     patience: Duration,
 ) {
     match First::look(alloc, stream) {
         First::Frame(frame, stream) => {
             if is_offer(&frame) {
-                admit_offer(rt, lobby, stream, frame);
+                admit_offer(rt, peers, stream, frame);
             }
         }
-        First::Silent(stream) => admit_silent(scope, rt, alloc, lobby, stream, patience),
+        First::Silent(stream) => admit_silent(scope, rt, alloc, peers, stream, patience),
         First::Gone => {}
     }
 }
 
 /// Lets a connection in that offered.
-fn admit_offer<R: Wait>(rt: &R, lobby: &Lobby, stream: UnixStream, frame: Frame) {
-    if let Entrance::Heard(number) = lobby.enter(rt, stream) {
-        lobby.offer(rt, number, frame);
+fn admit_offer<R: Wait>(rt: &R, peers: &PeerConnections, stream: UnixStream, frame: Frame) {
+    if let Admitted::Heard(number) = peers.enter(rt, stream) {
+        peers.offer(rt, number, frame);
     }
 }
 
@@ -83,17 +83,17 @@ fn admit_silent<'s, 'e: 's, R: Threads + Wait + Clock + Sync + 's>(
     scope: &Scope<'s, &'e ()>,
     rt: &'e R,
     alloc: Global,
-    lobby: &'e Lobby,
+    peers: &'e PeerConnections,
     stream: UnixStream,
     patience: Duration,
 ) {
     let Ok(handle) = stream.try_clone() else {
         return;
     };
-    if let Entrance::Heard(number) = lobby.enter(rt, handle) {
-        let hearing = move || hear(rt, alloc, lobby, number, stream, patience);
+    if let Admitted::Heard(number) = peers.enter(rt, handle) {
+        let hearing = move || hear(rt, alloc, peers, number, stream, patience);
         if scope.spawn(hearing).is_err() {
-            lobby.leave(rt, number);
+            peers.leave(rt, number);
         }
     }
 }
@@ -102,14 +102,14 @@ fn admit_silent<'s, 'e: 's, R: Threads + Wait + Clock + Sync + 's>(
 fn hear<R: Wait + Clock>(
     rt: &R,
     alloc: Global,
-    lobby: &Lobby,
+    peers: &PeerConnections,
     number: u64,
     stream: UnixStream,
     patience: Duration,
 ) {
     match First::wait(alloc, rt, stream, Deadline::after(rt, patience)) {
-        Some(frame) if is_offer(&frame) => lobby.offer(rt, number, frame),
-        _ => lobby.leave(rt, number),
+        Some(frame) if is_offer(&frame) => peers.offer(rt, number, frame),
+        _ => peers.leave(rt, number),
     }
 }
 

@@ -1,6 +1,6 @@
-//! The connections of other daemons that wait to be conversed with.
+//! The connections of other daemons that wait to be served.
 ghost use Rattle.std.specs.Prelude.{◌≡◌, ◌<◌, ◌++◌, ◌∷◌, [], None, length, remove, nat_lt, IfSome};
-ghost use Rattle.daemon_process.specs.Guests.{Offers, TakesFirst, admission, left_at, place_of};
+ghost use Rattle.daemon_process.specs.PeerQueue.{Offers, TakesFirst, admission, left_at, place_of};
 
 use links::Frame;
 use std::alloc::Global;
@@ -9,11 +9,11 @@ use std::net::Shutdown;
 use std::os::unix::net::UnixStream;
 
 /// How many connections may wait.
-const MAX_GUESTS: usize = 64;
+const MAX_PEERS: usize = 64;
 
 /// A connection that said nothing yet, and a handle to end it by.
 #[derive(Drop)]
-pub(crate) struct Guest {
+pub(crate) struct SilentPeer {
     number: u64,
     stream: UnixStream,
 }
@@ -38,22 +38,22 @@ pub(crate) enum Admission {
 
 /// The connections that wait, at most 64.
 #[derive(Drop)]
-pub(crate) struct Guests {
+pub(crate) struct PeerQueue {
     /// Those that said nothing yet, in the order in which they came.
-    silent: Vec<Guest>,
+    silent: Vec<SilentPeer>,
     /// Those that offered, in the order in which they did.
     offers: VecDeque<Offer>,
     /// The number of the next one that comes.
     next: u64,
 }
 
-impl Guests {
-    /// Returns no guests.
-    pub(crate) fn new(alloc: Global) -> Guests
+impl PeerQueue {
+    /// Returns an empty queue.
+    pub(crate) fn new(alloc: Global) -> PeerQueue
         ensures silent { result.silent.items ≡ [] }
         ensures offers { result.offers.items ≡ [] }
     {
-        Guests {
+        PeerQueue {
             silent: Vec::new(alloc),
             offers: VecDeque::new(alloc),
             next: 0,
@@ -65,7 +65,7 @@ impl Guests {
         ensures admission { result ≡ admission (length self.now.silent.items)
             (length self.now.offers.items) is_late }
     {
-        if self.silent.len().saturating_add(self.offers.len()) < MAX_GUESTS {
+        if self.silent.len().saturating_add(self.offers.len()) < MAX_PEERS {
             return Admission::Enters;
         }
         if is_late && !self.silent.is_empty() {
@@ -83,7 +83,7 @@ impl Guests {
         ensures offers { self.new.offers.items ≡ self.old.offers.items }
     {
         let number = self.next;
-        match self.silent.push(Guest { number, stream }) {
+        match self.silent.push(SilentPeer { number, stream }) {
             Ok(()) => {
                 self.next = number.wrapping_add(1);
                 Some(number)
@@ -98,8 +98,8 @@ impl Guests {
         ensures offers { self.new.offers.items ≡ self.old.offers.items }
     {
         if !self.silent.is_empty() {
-            let guest = self.silent.remove(0);
-            let _ended = guest.stream.shutdown(Shutdown::Both);
+            let peer = self.silent.remove(0);
+            let _ended = peer.stream.shutdown(Shutdown::Both);
         }
     }
 
@@ -108,7 +108,7 @@ impl Guests {
         ensures place { result ≡ place_of number self.now.silent.items }
         ensures below { IfSome result (λ place. place < length self.now.silent.items) }
     {
-        self.silent.iter().position(|guest| guest.number == number)
+        self.silent.iter().position(|peer| peer.number == number)
     }
 
     /// Takes a connection that said nothing yet out, by its number, and returns its handle.
@@ -120,8 +120,8 @@ impl Guests {
     {
         match self.place_of(number) {
             Some(place) => {
-                let guest = self.silent.remove(place);
-                Some(guest.stream)
+                let peer = self.silent.remove(place);
+                Some(peer.stream)
             }
             None => None,
         }
@@ -159,8 +159,8 @@ impl Guests {
 
     /// Ends all connections that said nothing yet.
     pub(crate) fn end_all(&self) {
-        for guest in self.silent.iter() {
-            let _ended = guest.stream.shutdown(Shutdown::Both);
+        for peer in self.silent.iter() {
+            let _ended = peer.stream.shutdown(Shutdown::Both);
         }
     }
 }

@@ -1,13 +1,13 @@
--- The connections of other daemons that wait to be conversed with. (This project's own.)
+-- The connections of other daemons that wait to be served. (This project's own.)
 use Rattle.std.specs.Prelude.{◌≡◌, ◌⊎◌, ℕ, ◌+◌, ◌==◌, ◌&&◌, not, Bool, true, false, List, ◌∷◌, ◌++◌, [], nat_lt, remove, Option, Some, None, if◌then◌else◌}
 use Rattle.std.specs.List.{position_from}
 use Rattle.frames.specs.declared.frame.Frame.{Frame}
 use Rattle.frames.specs.declared.frame.Frame.TheVariants.{Takeover}
 use Rattle.takeover_core.specs.declared.message.Message.TheVariants.{Offer as OfferMessage}
-use Rattle.daemon_process.specs.declared.guests.Admission.{Admission}
-use Rattle.daemon_process.specs.declared.guests.Admission.TheVariants.{Enters, Replaces, Waits}
-use Rattle.daemon_process.specs.declared.guests.Guest.{Guest}
-use Rattle.daemon_process.specs.declared.guests.Offer.{Offer}
+use Rattle.daemon_process.specs.declared.peer_queue.Admission.{Admission}
+use Rattle.daemon_process.specs.declared.peer_queue.Admission.TheVariants.{Enters, Replaces, Waits}
+use Rattle.daemon_process.specs.declared.peer_queue.SilentPeer.{SilentPeer}
+use Rattle.daemon_process.specs.declared.peer_queue.Offer.{Offer}
 
 -- whether a frame is a daemon's offer
 abbrev pub is_offer : Frame → Bool
@@ -28,7 +28,7 @@ has_place Waits = false
 has_place admission = true
 
 -- those that said nothing yet, once a connection may come
-abbrev pub silent_for : Admission → List Guest → List Guest
+abbrev pub silent_for : Admission → List SilentPeer → List SilentPeer
 silent_for Replaces silent = remove silent 0
 silent_for admission silent = silent
 
@@ -38,17 +38,17 @@ abbrev pub gives_way : Bool → ℕ → Bool
 gives_way is_engaged offers = not is_engaged && nat_lt 0 offers
 
 -- whether a connection has this number
-abbrev pub has_number : ℕ → Guest → Bool
-has_number number guest = guest.number == number
+abbrev pub has_number : ℕ → SilentPeer → Bool
+has_number number peer = peer.number == number
 
 -- the place of the connection of this number among those that said nothing yet
-abbrev pub place_of : ℕ → List Guest → Option ℕ
-place_of number guests = position_from (has_number number) 0 guests
+abbrev pub place_of : ℕ → List SilentPeer → Option ℕ
+place_of number peers = position_from (has_number number) 0 peers
 
 -- those that are left where the connection of this number leaves
-abbrev pub left_at : List Guest → Option ℕ → List Guest
-left_at guests (Some place) = remove guests place
-left_at guests None = guests
+abbrev pub left_at : List SilentPeer → Option ℕ → List SilentPeer
+left_at peers (Some place) = remove peers place
+left_at peers None = peers
 
 -- those that offered, where one more offered by this frame: it is the last one; without memory it is dropped
 abbrev pub OffersMore : Frame → List Offer → List Offer → Type 0
