@@ -181,7 +181,7 @@ struct Kernel {
 }
 
 #[derive(Default)]
-struct Hall {
+struct SharedKernel {
     kernel: Mutex<Kernel>,
     asks: Condvar,
     events: Condvar,
@@ -259,7 +259,7 @@ impl Kernel {
     }
 }
 
-impl Hall {
+impl SharedKernel {
     fn attach(&self, body: &[u8]) -> (u64, bool) {
         let mut kernel = self.kernel.lock().unwrap();
         let daemon = be64(body);
@@ -384,23 +384,23 @@ impl Hall {
 }
 
 fn broker(socket: &str, script: &str) -> io::Result<()> {
-    let hall: &'static Hall = Box::leak(Box::default());
+    let shared: &'static SharedKernel = Box::leak(Box::default());
     let listener = UnixListener::bind(socket)?;
     thread::spawn(move || {
         for stream in listener.incoming().flatten() {
-            thread::spawn(move || hall.serve(stream));
+            thread::spawn(move || shared.serve(stream));
         }
     });
     let mut out = io::stdout().lock();
     for line in fs::read_to_string(script)?.lines() {
-        writeln!(out, "{}", hall.line(line))?;
+        writeln!(out, "{}", shared.line(line))?;
         out.flush()?;
     }
-    hall.until(|kernel| (kernel.running.len() <= kernel.holder.is_some() as usize).then_some(()));
+    shared.until(|kernel| (kernel.running.len() <= kernel.holder.is_some() as usize).then_some(()));
     writeln!(out, "ended")?;
-    hall.kernel.lock().unwrap().is_closed = true;
-    hall.asks.notify_all();
-    hall.until(|kernel| kernel.running.is_empty().then_some(()));
+    shared.kernel.lock().unwrap().is_closed = true;
+    shared.asks.notify_all();
+    shared.until(|kernel| kernel.running.is_empty().then_some(()));
     fs::remove_file(socket)
 }
 
