@@ -129,7 +129,7 @@ impl State {
 }
 
 impl PeerConnections {
-    /// Returns the connections before one came.
+    /// Makes the connections of peers. None is there yet.
     pub(crate) fn new(alloc: Global) -> PeerConnections {
         PeerConnections {
             state: Mutex::new(State {
