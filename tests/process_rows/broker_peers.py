@@ -61,25 +61,25 @@ def a_reply_that_cannot_be_read_is_not_asked(room):
 
 
 @row
-def strangers_and_workers_are_few(room):
+def unattached_connections_and_workers_are_few(room):
     """At most 64 connections that didn't attach: the oldest goes for one more. At most 16 of a daemon's workers; a silent
-    stranger is closed."""
+    unattached one is closed."""
     broker = room.broker("seat 1")
     first = room.peer()
     daemon = first.attach()
     began = time.monotonic()
-    strangers = [room.peer() for _ in range(64)]
+    unattached = [room.peer() for _ in range(64)]
     time.sleep(0.2)
-    strangers.append(room.peer())
-    same(strangers.pop(0).is_closed(), True)
-    took_between(0, time.monotonic() - began, 1.5, "the stranger that was too many was closed")
-    for it in strangers[:16]:
+    unattached.append(room.peer())
+    same(unattached.pop(0).is_closed(), True)
+    took_between(0, time.monotonic() - began, 1.5, "the connection that was too many was closed")
+    for it in unattached[:16]:
         same(it.ask("Attach", u64(daemon)), ("Attached", u64(daemon)))
-    same(strangers[16].ask("Attach", u64(daemon)), None)
-    for it in strangers[17:20]:
+    same(unattached[16].ask("Attach", u64(daemon)), None)
+    for it in unattached[17:20]:
         same(it.is_closed(), True)
-    took_between(1.5, time.monotonic() - began, 6, "silent strangers were closed")
-    strangers[0].close()
+    took_between(1.5, time.monotonic() - began, 6, "silent connections were closed")
+    unattached[0].close()
     until = time.monotonic() + WAIT
     while (answer := room.peer().ask("Attach", u64(daemon))) is None and time.monotonic() < until:
         time.sleep(0.01)

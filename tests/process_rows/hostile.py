@@ -155,7 +155,7 @@ def await_asks(kernel, more):
 
 
 def act_on_broker(room, act, is_attached):
-    """Lets hostile peers act on a broker, as strangers or as daemons, while its script's asks are answered."""
+    """Lets hostile peers act on a broker, unattached or as daemons, while its script's asks are answered."""
     allow_many_files()
     asks = 40
     broker = room.broker("seat 1", *["ask getattr 1"] * asks)

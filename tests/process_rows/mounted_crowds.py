@@ -1,4 +1,4 @@
-"""Rows: as many daemons and strangers as come to the broker of a mount."""
+"""Rows: as many daemons and unattached connections as come to the broker of a mount."""
 import socket
 import struct
 import threading

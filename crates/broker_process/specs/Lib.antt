@@ -1,7 +1,7 @@
+pub mod Connections
 pub mod Device
-pub mod Hall
 pub mod Mounting
 pub mod Playing
 pub mod Serving
-pub mod Visitors
+pub mod SharedDesk
 pub mod Writing

@@ -3,10 +3,10 @@ ghost use Rattle.std.specs.Prelude.{◌≡◌, Err, All};
 ghost use Rattle.broker_process.specs.Playing.{RunsBroker};
 ghost use Rattle.script_lines.specs.BrokerLine.{IsSendableLine};
 
+use crate::accept_loop::accept_all;
 use crate::fault::BrokerFault;
-use crate::hall::Hall;
-use crate::reception::receive_all;
 use crate::script::play;
+use crate::shared_desk::SharedDesk;
 use broker_script::BrokerLine;
 use eden_base::NoMemory;
 use sockets::{Closer, changed_at, listen_alone_at, remove_unchanged};
@@ -38,8 +38,8 @@ pub fn run_broker<R: Threads + Wait + Clock + Files + Net + Sync, W: Write + Dro
     requires sendable { All IsSendableLine script.now }
     ensures runs { RunsBroker script.now result.ended (W.contents out) (W.contents result.out) }
 {
-    let hall = match Hall::of_script(alloc) {
-        Ok(hall) => hall,
+    let shared = match SharedDesk::of_script(alloc) {
+        Ok(shared) => shared,
         Err(NoMemory) => return fails(out, BrokerFault::NoMemory),
     };
     let listener = match listen_alone_at(rt, alloc, socket) {
@@ -51,7 +51,7 @@ pub fn run_broker<R: Threads + Wait + Clock + Files + Net + Sync, W: Write + Dro
         Ok(closer) => closer,
         Err(error) => return fails(out, BrokerFault::CannotListen(error)),
     };
-    let ran = open(rt, alloc, &hall, &listener, &closer, script, out);
+    let ran = open(rt, alloc, &shared, &listener, &closer, script, out);
     remove_unchanged(rt, socket, made);
     ran
 }
@@ -67,11 +67,11 @@ fn fails<W: Write + Drop>(out: W, fault: BrokerFault) -> BrokerRun<W>
     }
 }
 
-/// Takes connections in a thread while the script is played.
+/// Accepts connections in a thread while the script is played.
 fn open<R: Threads + Wait + Clock + Sync, W: Write + Drop>(
     rt: &R,
     alloc: Global,
-    hall: &Hall,
+    shared: &SharedDesk,
     listener: &UnixListener,
     closer: &Closer,
     script: &[BrokerLine],
@@ -87,16 +87,16 @@ fn open<R: Threads + Wait + Clock + Sync, W: Write + Drop>(
             requires { All IsSendableLine script.now }
             ensures { RunsBroker script.entry.now result.ended
                 (W.contents out) (W.contents result.out) }
-        { open_within(scope, rt, alloc, hall, listener, closer, script, out) },
+        { open_within(scope, rt, alloc, shared, listener, closer, script, out) },
     )
 }
 
-/// Takes connections in a thread of a scope while the script is played, and ends them all then.
+/// Accepts connections in a thread of a scope while the script is played, and ends them all then.
 fn open_within<'s, 'e: 's, R: Threads + Wait + Clock + Sync + 's, W: Write + Drop>(
     scope: &Scope<'s, &'e ()>,
     rt: &'e R,
     alloc: Global,
-    hall: &'e Hall,
+    shared: &'e SharedDesk,
     listener: &'e UnixListener,
     closer: &Closer,
     script: &[BrokerLine],
@@ -106,14 +106,14 @@ fn open_within<'s, 'e: 's, R: Threads + Wait + Clock + Sync + 's, W: Write + Dro
     ensures runs { RunsBroker script.now result.ended (W.contents out) (W.contents result.out) }
 {
     if scope
-        .spawn(move || receive_all(rt, alloc, hall, listener))
+        .spawn(move || accept_all(rt, alloc, shared, listener))
         .is_err()
     {
         return fails(out, BrokerFault::NoThread);
     }
     let mut out = out;
-    let played = play(rt, hall, script, &mut out);
-    hall.end(rt);
+    let played = play(rt, shared, script, &mut out);
+    shared.end(rt);
     closer.close();
     match played {
         Ok(()) => BrokerRun { out, ended: Ok(()) },

@@ -1,17 +1,17 @@
 //! The broker as a process: a desk behind a Unix socket, and who plays the kernel, a script or a real mount.
 #![tactic(auto)]
 
+mod accept_loop;
+mod connections;
 mod control;
 mod device;
 mod ending;
 mod fault;
-mod hall;
 mod mount;
-mod reception;
 mod script;
 mod service;
+mod shared_desk;
 mod unmounter;
-mod visitors;
 mod writing;
 
 pub use device::DEVICE;

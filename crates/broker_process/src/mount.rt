@@ -3,12 +3,12 @@ ghost use Rattle.std.specs.Prelude.{◌≡◌, Err};
 ghost use Rattle.std.specs.Io.KnownBytes.{Appends};
 ghost use Rattle.broker_process.specs.Mounting.{PrintsMount, RunsMount, end_line, mounted_line};
 
+use crate::accept_loop::accept_all;
 use crate::control::Control;
 use crate::device::{check_place, clear_dead_mount, mount, open_device, own_user};
 use crate::fault::MountFault;
-use crate::hall::Hall;
-use crate::reception::receive_all;
 use crate::service::{MountEnd, Mounted, serve};
+use crate::shared_desk::SharedDesk;
 use crate::unmounter::{MountPoint, Unmounter};
 use eden_base::NoMemory;
 use mount_wire::{FileOwner, MountAttributes, MountTime};
@@ -58,8 +58,8 @@ pub fn run_mount<
     if let Err(error) = write_behind(rt, alloc, &mut out) {
         return fails(out, unmade(&error));
     }
-    let hall = match make_hall(rt, alloc, place) {
-        Ok(hall) => hall,
+    let shared = match make_shared_desk(rt, alloc, place) {
+        Ok(shared) => shared,
         Err(fault) => return fails(out, fault),
     };
     let owner = match owner_at(rt, place) {
@@ -84,22 +84,23 @@ pub fn run_mount<
         unmounter: unmounter.number(),
         owner,
     };
-    let ran = open(rt, alloc, &hall, &listener, &closer, &point, out);
+    let ran = open(rt, alloc, &shared, &listener, &closer, &point, out);
     remove_unchanged(rt, place.socket, made);
     ran
 }
 
-/// Makes the hall, once the file of what the kernel holds is made, and device and mountpoint are as a mount wants them.
-fn make_hall<R: Files<File = File> + Processes>(
+/// Makes the shared desk, once the file of what the kernel holds is made, and device and mountpoint are as a mount wants
+/// them.
+fn make_shared_desk<R: Files<File = File> + Processes>(
     rt: &R,
     alloc: Global,
     place: &Place<'_>,
-) -> Result<Hall, MountFault> {
+) -> Result<SharedDesk, MountFault> {
     let log = open_log(rt, alloc, place.log)?;
     let _device = open_device(rt).map_err(MountFault::NoDevice)?;
     check_place(rt, alloc, place.mountpoint).map_err(MountFault::CannotMount)?;
-    match Hall::of_mount(alloc, log) {
-        Ok(hall) => Ok(hall),
+    match SharedDesk::of_mount(alloc, log) {
+        Ok(shared) => Ok(shared),
         Err(NoMemory) => Err(MountFault::NoMemory),
     }
 }
@@ -146,11 +147,11 @@ fn fails<W: Unblock + Drop>(out: W, fault: MountFault) -> MountRun<W>
     }
 }
 
-/// Takes connections in a thread while mounts are served.
+/// Accepts connections in a thread while mounts are served.
 fn open<R: Threads + Wait + Clock + Files<File = File> + Processes + Sync, W: Unblock + Drop>(
     rt: &R,
     alloc: Global,
-    hall: &Hall,
+    shared: &SharedDesk,
     listener: &UnixListener,
     closer: &Closer,
     point: &MountPoint<'_>,
@@ -163,11 +164,11 @@ fn open<R: Threads + Wait + Clock + Files<File = File> + Processes + Sync, W: Un
         rt,
         move |scope| -> MountRun<W>
             ensures { RunsMount result.ended (W.contents out) (W.contents result.out) }
-        { open_within(scope, rt, alloc, hall, listener, closer, point, out) },
+        { open_within(scope, rt, alloc, shared, listener, closer, point, out) },
     )
 }
 
-/// Takes connections in a thread of a scope while mounts are served, and ends them all then.
+/// Accepts connections in a thread of a scope while mounts are served, and ends them all then.
 fn open_within<
     's,
     'e: 's,
@@ -177,7 +178,7 @@ fn open_within<
     scope: &Scope<'s, &'e ()>,
     rt: &'e R,
     alloc: Global,
-    hall: &'e Hall,
+    shared: &'e SharedDesk,
     listener: &'e UnixListener,
     closer: &Closer,
     point: &MountPoint<'_>,
@@ -186,18 +187,18 @@ fn open_within<
     ensures runs { RunsMount result.ended (W.contents out) (W.contents result.out) }
 {
     if scope
-        .spawn(move || receive_all(rt, alloc, hall, listener))
+        .spawn(move || accept_all(rt, alloc, shared, listener))
         .is_err()
     {
         return fails(out, MountFault::NoThread);
     }
     let mut out = out;
-    let ended = serve_mounts(rt, alloc, hall, point, &mut out);
-    hall.close(rt);
+    let ended = serve_mounts(rt, alloc, shared, point, &mut out);
+    shared.close(rt);
     if ended.is_ok() {
-        hall.wait_for_all(rt);
+        shared.wait_for_all(rt);
     }
-    hall.end(rt);
+    shared.end(rt);
     closer.close();
     MountRun { out, ended }
 }
@@ -206,16 +207,16 @@ fn open_within<
 fn serve_mounts<R: Threads + Wait + Clock + Files<File = File> + Processes + Sync, W: Unblock>(
     rt: &R,
     alloc: Global,
-    hall: &Hall,
+    shared: &SharedDesk,
     point: &MountPoint<'_>,
     out: &mut W,
 ) -> Result<(), MountFault>
     ensures runs { RunsMount result (W.contents out.old) (W.contents out.new) }
 {
     for _ in rt.forever() {
-        let generation = hall.begin_mount(rt);
-        let ended = serve_mount(rt, alloc, hall, point, generation, out);
-        hall.end_mount(rt);
+        let generation = shared.begin_mount(rt);
+        let ended = serve_mount(rt, alloc, shared, point, generation, out);
+        shared.end_mount(rt);
         let end = match ended {
             Ok(end) => end,
             Err(fault) => return Err(fault),
@@ -233,7 +234,7 @@ fn serve_mounts<R: Threads + Wait + Clock + Files<File = File> + Processes + Syn
 fn serve_mount<R: Threads + Wait + Clock + Files<File = File> + Processes + Sync, W: Unblock>(
     rt: &R,
     alloc: Global,
-    hall: &Hall,
+    shared: &SharedDesk,
     point: &MountPoint<'_>,
     generation: u64,
     out: &mut W,
@@ -244,13 +245,13 @@ fn serve_mount<R: Threads + Wait + Clock + Files<File = File> + Processes + Sync
         Ok(mounted) => mounted,
         Err(fault) => return Err(fault),
     };
-    hall.note_agreed(rt, generation);
+    shared.note_agreed(rt, generation);
     print_mounted(out, generation);
     let own = MountAttributes {
         since: now(rt),
         owner: point.owner,
     };
-    serve(rt, alloc, hall, mounted, point.path, &own)
+    serve(rt, alloc, shared, mounted, point.path, &own)
 }
 
 /// Mounts at `point` for the daemon that has the seat at `generation`.

@@ -3,7 +3,7 @@ ghost use Rattle.std.specs.Prelude.{All, OnOk};
 ghost use Rattle.broker_process.specs.Playing.{PlaysLine, PlaysScript};
 ghost use Rattle.script_lines.specs.BrokerLine.{IsSendableLine};
 
-use crate::hall::Hall;
+use crate::shared_desk::SharedDesk;
 use broker_script::{Begun, BrokerLine, print_came};
 use std::io::{self, Write};
 use std::rt::Clock;
@@ -13,7 +13,7 @@ use std::sync::Wait;
 /// the holder of the seat left, tells daemons that the mount is over, and waits until each daemon left.
 pub(crate) fn play<R: Wait + Clock, W: Write>(
     rt: &R,
-    hall: &Hall,
+    shared: &SharedDesk,
     script: &[BrokerLine],
     out: &mut W,
 ) -> io::Result<()>
@@ -21,31 +21,31 @@ pub(crate) fn play<R: Wait + Clock, W: Write>(
     ensures plays { OnOk result (PlaysScript script.now (W.contents out.old) (W.contents out.new)) }
 {
     for line in script {
-        play_line(rt, hall, line, out)?;
+        play_line(rt, shared, line, out)?;
         out.flush()?;
     }
-    hall.wait_for_others(rt);
+    shared.wait_for_others(rt);
     out.write_all(b"ended\n")?;
     out.flush()?;
-    hall.close(rt);
-    hall.wait_for_all(rt);
+    shared.close(rt);
+    shared.wait_for_all(rt);
     Ok(())
 }
 
 /// Does what a line says, and prints the result.
 fn play_line<R: Wait + Clock, W: Write>(
     rt: &R,
-    hall: &Hall,
+    shared: &SharedDesk,
     line: &BrokerLine,
     out: &mut W,
 ) -> io::Result<()>
     requires sendable { IsSendableLine line.now }
     ensures plays { OnOk result (PlaysLine line.now (W.contents out.old) (W.contents out.new)) }
 {
-    let begun = hall.begin(rt, line);
-    hall.print_begun(rt, out, &begun)?;
+    let begun = shared.begin(rt, line);
+    shared.print_begun(rt, out, &begun)?;
     match begun {
-        Begun::Waits(awaited) => print_came(out, &hall.wait_for(rt, &awaited)),
+        Begun::Waits(awaited) => print_came(out, &shared.wait_for(rt, &awaited)),
         Begun::Forgot | Begun::Refused(_) | Begun::Tells => Ok(()),
     }
 }

@@ -6,7 +6,7 @@ ghost use Rattle.broker_process.specs.Serving.{Handles, IsHeardToTheEnd, ServesM
 use crate::control::Control;
 use crate::device::{BUFFER_LEN, Taken, take};
 use crate::fault::MountFault;
-use crate::hall::{Hall, Next};
+use crate::shared_desk::{Next, SharedDesk};
 use crate::writing::{Texts, Written, write_reply};
 use eden_base::Errno;
 use fuse_wire::{Answer, Reply};
@@ -48,13 +48,13 @@ pub(crate) struct Mounted {
 pub(crate) fn serve<R: Threads + Wait + Clock + Processes + Sync>(
     rt: &R,
     alloc: Global,
-    hall: &Hall,
+    shared: &SharedDesk,
     mounted: Mounted,
     mountpoint: &str,
     own: &MountAttributes,
 ) -> Result<MountEnd, MountFault> {
     thread::scope(thread::scope_env(), rt, move |scope| {
-        serve_within(scope, rt, alloc, hall, mounted, mountpoint, own)
+        serve_within(scope, rt, alloc, shared, mounted, mountpoint, own)
     })
 }
 
@@ -63,7 +63,7 @@ fn serve_within<'s, 'e: 's, R: Threads + Wait + Clock + Processes + Sync + 's>(
     scope: &Scope<'s, &'e ()>,
     rt: &'e R,
     alloc: Global,
-    hall: &'e Hall,
+    shared: &'e SharedDesk,
     mounted: Mounted,
     mountpoint: &str,
     own: &MountAttributes,
@@ -74,10 +74,11 @@ fn serve_within<'s, 'e: 's, R: Threads + Wait + Clock + Processes + Sync + 's>(
     } = mounted;
     let writer = device.try_clone().map_err(MountFault::Broken)?;
     let answers = device.try_clone().map_err(MountFault::Broken)?;
-    let Ok(reading) = scope.spawn(move || read_to_the_end(rt, alloc, hall, device, answers)) else {
+    let Ok(reading) = scope.spawn(move || read_to_the_end(rt, alloc, shared, device, answers))
+    else {
         return Err(MountFault::NoThread);
     };
-    let delivery = deliver_all(rt, hall, writer, own);
+    let delivery = deliver_all(rt, shared, writer, own);
     if delivery != Delivery::Over {
         control.end(rt, alloc, mountpoint);
     }
@@ -99,19 +100,19 @@ fn refused() -> io::Error {
 fn read_to_the_end<R: Wait + Clock>(
     rt: &R,
     alloc: Global,
-    hall: &Hall,
+    shared: &SharedDesk,
     device: File,
     answers: File,
 ) -> Result<MountEnd, MountFault> {
     let (mut device, mut answers) = (device, answers);
-    let ended = read_all(rt, alloc, hall, &mut device, &mut answers);
+    let ended = read_all(rt, alloc, shared, &mut device, &mut answers);
     drop(device);
     drop(answers);
     match ended {
-        Ok(MountEnd::Unmounted) => Ok(hall.end_of_mount(rt)),
+        Ok(MountEnd::Unmounted) => Ok(shared.end_of_mount(rt)),
         Ok(MountEnd::Dead) => ended,
         Err(_) => {
-            hall.close(rt);
+            shared.close(rt);
             ended
         }
     }
@@ -132,19 +133,19 @@ enum Delivery {
 /// seat.
 fn deliver_all<R: Wait + Clock>(
     rt: &R,
-    hall: &Hall,
+    shared: &SharedDesk,
     device: File,
     own: &MountAttributes,
 ) -> Delivery {
     let mut device = device;
     for _ in rt.forever() {
-        match hall.next(rt) {
+        match shared.next(rt) {
             Next::Nothing | Next::NoMemory => {}
             Next::Over => return Delivery::Over,
             Next::Gone => return Delivery::Gone,
-            Next::Unasked(answer) => take_back(rt, hall, &answer),
+            Next::Unasked(answer) => take_back(rt, shared, &answer),
             Next::Reply(reply) => {
-                if !deliver(rt, hall, &mut device, &reply, own) {
+                if !deliver(rt, shared, &mut device, &reply, own) {
                     return Delivery::Refused;
                 }
             }
@@ -157,7 +158,7 @@ fn deliver_all<R: Wait + Clock>(
 /// takes replies.
 fn deliver<R: Wait + Clock>(
     rt: &R,
-    hall: &Hall,
+    shared: &SharedDesk,
     device: &mut File,
     reply: &Reply,
     own: &MountAttributes,
@@ -170,15 +171,15 @@ fn deliver<R: Wait + Clock>(
     };
     let written = write_reply(rt, device, &texts);
     if written != Written::Reply {
-        take_back(rt, hall, &reply.answer);
+        take_back(rt, shared, &reply.answer);
     }
     written != Written::Refused
 }
 
 /// Forgets at once the number of an answer that the kernel did not take.
-fn take_back<R: Wait + Clock>(rt: &R, hall: &Hall, answer: &Answer) {
+fn take_back<R: Wait + Clock>(rt: &R, shared: &SharedDesk, answer: &Answer) {
     for _ in rt.forever() {
-        match hall.take_back(rt, answer) {
+        match shared.take_back(rt, answer) {
             Forgot::Waits | Forgot::Bad | Forgot::NotMounted => return,
             Forgot::Full | Forgot::NoMemory => pause(rt),
         }
@@ -195,7 +196,7 @@ fn pause<R: Wait + Clock>(rt: &R) {
 fn read_all<R: Wait + Clock, I: Read, O: Write>(
     rt: &R,
     alloc: Global,
-    hall: &Hall,
+    shared: &SharedDesk,
     device: &mut I,
     answers: &mut O,
 ) -> Result<MountEnd, MountFault>
@@ -208,7 +209,7 @@ fn read_all<R: Wait + Clock, I: Read, O: Write>(
     for _ in rt.forever() {
         match take(device, buffer.as_mut_slice()) {
             Taken::Message(message) => {
-                match handle(rt, alloc, hall, answers, message) {
+                match handle(rt, alloc, shared, answers, message) {
                     Handled::GoesOn => {}
                     Handled::NotMounted => return Ok(MountEnd::Dead),
                     Handled::Refused => return Err(MountFault::Broken(refused())),
@@ -236,13 +237,13 @@ enum Handled {
 fn handle<R: Wait + Clock, O: Write>(
     rt: &R,
     alloc: Global,
-    hall: &Hall,
+    shared: &SharedDesk,
     answers: &mut O,
     bytes: &[u8],
 ) -> Handled
     ensures handles { Handles bytes.now result (O.contents answers.old) (O.contents answers.new) }
 {
-    match hear(rt, hall, read_message(alloc, bytes)) {
+    match hear(rt, shared, read_message(alloc, bytes)) {
         Progress::Done => Handled::GoesOn,
         Progress::Answers(reply) => {
             let texts = Texts {
@@ -267,13 +268,13 @@ fn handled_by(told: Written) -> Handled
 }
 
 /// Hears a message of the kernel to its end, in as many turns as it takes.
-fn hear<'a, R: Wait + Clock>(rt: &R, hall: &Hall, message: Message<'a>) -> Progress<'a>
+fn hear<'a, R: Wait + Clock>(rt: &R, shared: &SharedDesk, message: Message<'a>) -> Progress<'a>
     requires for_daemons { IsForDaemons message }
     ensures heard { IsHeardToTheEnd message.entry result }
 {
     let mut left = message;
     for _ in rt.forever() {
-        match hall.hear_kernel(rt, left) {
+        match shared.hear_kernel(rt, left) {
             Progress::Leaves(message) => left = message,
             progress => return progress,
         }

@@ -1,12 +1,12 @@
-//! What a real kernel's mount asks of the hall.
+//! What a real kernel's mount asks of the shared desk.
 ghost use Rattle.std.specs.Prelude.{◌≡◌, ◌&&◌, is_none, if◌then◌else◌};
 ghost use Rattle.mount_desk.specs.Hearing.{LeavesForDaemons};
 ghost use Rattle.mount_wire.specs.Message.{IsForDaemons};
 ghost use Rattle.broker_process.specs.Serving.{IsHeard};
-ghost use Rattle.broker_process.specs.declared.hall.mounted.Next.TheVariants.{Gone, Nothing, Over};
+ghost use Rattle.broker_process.specs.declared.shared_desk.mounted.Next.TheVariants.{Gone, Nothing, Over};
 ghost use Rattle.broker_process.specs.declared.service.MountEnd.TheVariants.{Dead, Unmounted};
 
-use super::{Agreed, Granted, Hall, LONGEST_SLEEP, PAUSE, State, Waiting};
+use super::{Agreed, Granted, LONGEST_SLEEP, PAUSE, SharedDesk, State, Waiting};
 use crate::service::MountEnd;
 use broker_desk::Response;
 use fuse_wire::{Answer, Reply};
@@ -95,7 +95,7 @@ impl State {
     }
 }
 
-impl Hall {
+impl SharedDesk {
     /// Waits until a daemon has the seat, notes that a kernel's mount begins, and returns the seat's generation.
     pub(crate) fn begin_mount<R: Wait>(&self, rt: &R) -> u64 {
         self.state.lock(rt).waiting = Waiting::Seat;

@@ -2,12 +2,12 @@
 use Rattle.std.specs.Prelude.{ℕ, ◌==◌, Bool, true, false, if◌then◌else◌}
 use Rattle.frames.specs.declared.frame.Frame.{Frame}
 use Rattle.frames.specs.declared.frame.Frame.TheVariants.{Ask, Posted, Claimed, Mounted}
-use Rattle.broker_process.specs.declared.hall.Agreed.{Agreed}
-use Rattle.broker_process.specs.declared.hall.Agreed.TheVariants.{Always, NotYet, To}
-use Rattle.broker_process.specs.declared.hall.Granted.{Granted}
-use Rattle.broker_process.specs.declared.hall.Granted.TheVariants.{Now, Later, Never}
-use Rattle.broker_process.specs.declared.hall.Waiting.{Waiting}
-use Rattle.broker_process.specs.declared.hall.Waiting.TheVariants.{Reply, Seat, Idle}
+use Rattle.broker_process.specs.declared.shared_desk.Agreed.{Agreed}
+use Rattle.broker_process.specs.declared.shared_desk.Agreed.TheVariants.{Always, NotYet, To}
+use Rattle.broker_process.specs.declared.shared_desk.Granted.{Granted}
+use Rattle.broker_process.specs.declared.shared_desk.Granted.TheVariants.{Now, Later, Never}
+use Rattle.broker_process.specs.declared.shared_desk.Waiting.{Waiting}
+use Rattle.broker_process.specs.declared.shared_desk.Waiting.TheVariants.{Reply, Seat, Idle}
 
 -- whether a script that waits for this is woken by what a daemon is told: a posted reply, a seat that was mounted or
 -- claimed, or an ask or a forget that was taken

@@ -1,6 +1,6 @@
 -- What was found came, since memory was not refused.
 use Rattle.broker_process.proofs.PlayingLemmas.{has_come}
-use Rattle.broker_process.proofs.hall.Hall.wait_for.Goals as goal
+use Rattle.broker_process.proofs.shared_desk.SharedDesk.wait_for.Goals as goal
 
 pub returns-then-not-is_lacking : goal.returns-then-not-is_lacking
 returns-then-not-is_lacking g c = record {

@@ -1,7 +1,7 @@
 //! The connections that are open.
 ghost use Rattle.std.specs.Prelude.{◌≡◌, ◌<◌, [], ◌∷◌, ◌++◌, None, true, count_by, is_some, length, nat_lt, position, vec_capacity, vec_len};
 ghost use Rattle.std.specs.Option.{IfSome};
-ghost use Rattle.broker_process.specs.Visitors.{entered, has_number, has_room, is_stranger, is_silent, has_begun, place_to_give, with_room, without_at, works_for};
+ghost use Rattle.broker_process.specs.Connections.{entered, has_number, has_room, is_unattached, is_silent, has_begun, place_to_give, with_room, without_at, works_for};
 
 use broker_desk::Peer;
 use eden_base::DaemonId;
@@ -9,13 +9,13 @@ use std::alloc::Global;
 use std::net::Shutdown;
 use std::os::unix::net::UnixStream;
 
-/// How many connections may be open before they attached.
-pub(crate) const MAX_STRANGERS: usize = 64;
+/// How many unattached connections may be open.
+pub(crate) const MAX_UNATTACHED: usize = 64;
 
 /// How many connections a daemon's workers may have.
 pub(crate) const MAX_WORKERS: usize = 16;
 
-/// What came by a connection that did not attach.
+/// What came by an unattached connection.
 #[derive(Clone, Copy, PartialEq, Eq)]
 pub(crate) enum Heard {
     /// Nobody looked yet.
@@ -28,33 +28,33 @@ pub(crate) enum Heard {
 
 /// A connection that is open, who is at its other end, what came by it, and a handle to end it by.
 #[derive(Drop)]
-pub(crate) struct Visitor {
+pub(crate) struct OpenConnection {
     number: u64,
     peer: Peer,
     heard: Heard,
     stream: UnixStream,
 }
 
-impl Visitor {
-    /// Returns whether the connection did not attach.
-    fn is_stranger(&self) -> bool
-        ensures stranger { result ≡ is_stranger self.now }
+impl OpenConnection {
+    /// Returns whether the connection is unattached: nobody attached by it yet.
+    fn is_unattached(&self) -> bool
+        ensures unattached { result ≡ is_unattached self.now }
     {
         matches!(self.peer, Peer::Stranger)
     }
 
-    /// Returns whether the connection did not attach, and nothing came by it for a moment.
+    /// Returns whether the connection is unattached, and nothing came by it for a moment.
     fn is_silent(&self) -> bool
         ensures silent { result ≡ is_silent self.now }
     {
-        self.is_stranger() && matches!(self.heard, Heard::Silence)
+        self.is_unattached() && matches!(self.heard, Heard::Silence)
     }
 
-    /// Returns whether the connection did not attach, though something came by it.
+    /// Returns whether the connection is unattached, though something came by it.
     fn has_begun(&self) -> bool
         ensures begun { result ≡ has_begun self.now }
     {
-        self.is_stranger() && matches!(self.heard, Heard::Something)
+        self.is_unattached() && matches!(self.heard, Heard::Something)
     }
 
     /// Returns whether this is the connection of a worker of `daemon`.
@@ -70,22 +70,22 @@ impl Visitor {
 
 /// The connections that are open, each with a number of its own, in the order in which they came.
 #[derive(Drop)]
-pub(crate) struct Visitors {
-    list: Vec<Visitor>,
+pub(crate) struct Connections {
+    list: Vec<OpenConnection>,
     next: u64,
 }
 
-impl Visitors {
+impl Connections {
     /// Makes an empty list of connections.
-    pub(crate) fn new(alloc: Global) -> Visitors {
-        Visitors {
+    pub(crate) fn new(alloc: Global) -> Connections {
+        Connections {
             list: Vec::new(alloc),
             next: 0,
         }
     }
 
-    /// Lets a stranger in by a handle of its connection, and returns its number. At the limit another stranger has to go for
-    /// it, whose connection is ended. Returns none where none may go, or memory is refused: then nothing changes.
+    /// Lets a connection in by a handle of it, and returns its number. At the limit another unattached connection has to go
+    /// for it, and is ended. Returns none where none may go, or memory is refused: then nothing changes.
     pub(crate) fn enter(&mut self, stream: UnixStream) -> Option<u64>
         ensures entered { IfSome result (λ number. (number ≡ self.old.next) × (has_room self.old.list.items ≡ true)
             × (self.new.list.items ≡ with_room self.old.list.items ++ entered self.old.next stream ∷ [])) }
@@ -97,7 +97,7 @@ impl Visitors {
         self.list.reserve(1).ok()?;
         self.make_room();
         let number = self.next;
-        self.list.push_reserved(Visitor {
+        self.list.push_reserved(OpenConnection {
             number,
             peer: Peer::Stranger,
             heard: Heard::Unknown,
@@ -107,31 +107,31 @@ impl Visitors {
         Some(number)
     }
 
-    /// Returns whether a stranger may come: fewer are there than may be, or one of them may go.
+    /// Returns whether a connection may come: fewer are unattached than may be, or one of those may go.
     pub(crate) fn has_room(&self) -> bool
         ensures room { result ≡ has_room self.now.list.items }
     {
-        self.strangers() < MAX_STRANGERS || self.place_to_give().is_some()
+        self.unattached() < MAX_UNATTACHED || self.place_to_give().is_some()
     }
 
-    /// Ends the connection of the stranger that goes first, where as many did not attach as may.
+    /// Ends the unattached connection that goes first, where as many are unattached as may be.
     fn make_room(&mut self)
         ensures room { self.new.list.items ≡ with_room self.old.list.items }
         ensures next { self.new.next ≡ self.old.next }
         ensures capacity { vec_len self.old.list < vec_capacity self.old.list
             → vec_len self.new.list < vec_capacity self.new.list }
     {
-        if self.strangers() < MAX_STRANGERS {
+        if self.unattached() < MAX_UNATTACHED {
             return;
         }
         if let Some(place) = self.place_to_give() {
-            let visitor = self.list.remove(place);
-            let _ended = visitor.stream.shutdown(Shutdown::Both);
+            let connection = self.list.remove(place);
+            let _ended = connection.stream.shutdown(Shutdown::Both);
         }
     }
 
-    /// Returns the place of the stranger that goes first: the oldest one by whose connection nothing came, or else the
-    /// oldest one by whose connection something came that was no whole frame yet. One that nobody looked at stays.
+    /// Returns the place of the unattached connection that goes first: the oldest one by which nothing came, or else the
+    /// oldest one by which something came that was no whole frame yet. One that nobody looked at stays.
     fn place_to_give(&self) -> Option<usize>
         ensures place { result ≡ place_to_give self.now.list.items }
         ensures below { IfSome result (λ place. place < length self.now.list.items) }
@@ -142,38 +142,42 @@ impl Visitors {
         }
     }
 
-    /// Returns the place of the oldest stranger by whose connection nothing came.
+    /// Returns the place of the oldest unattached connection by which nothing came.
     fn place_of_silent(&self) -> Option<usize>
         ensures place { result ≡ position is_silent self.now.list.items }
         ensures below { IfSome result (λ place. place < length self.now.list.items) }
     {
-        self.list.iter().position(|visitor| visitor.is_silent())
+        self.list
+            .iter()
+            .position(|connection| connection.is_silent())
     }
 
-    /// Returns the place of the oldest stranger by whose connection something came.
+    /// Returns the place of the oldest unattached connection by which something came.
     fn place_of_begun(&self) -> Option<usize>
         ensures place { result ≡ position has_begun self.now.list.items }
         ensures below { IfSome result (λ place. place < length self.now.list.items) }
     {
-        self.list.iter().position(|visitor| visitor.has_begun())
+        self.list
+            .iter()
+            .position(|connection| connection.has_begun())
     }
 
-    /// Notes what came by the connection of visitor `number`.
+    /// Notes what came by connection `number`.
     pub(crate) fn note(&mut self, number: u64, heard: Heard) {
-        for visitor in self.list.iter_mut() {
-            if visitor.number == number {
-                visitor.heard = heard;
+        for connection in self.list.iter_mut() {
+            if connection.number == number {
+                connection.heard = heard;
             }
         }
     }
 
-    /// Returns how many connections did not attach.
-    fn strangers(&self) -> usize
-        ensures count { result ≡ count_by is_stranger self.now.list.items }
+    /// Returns how many connections are unattached.
+    fn unattached(&self) -> usize
+        ensures count { result ≡ count_by is_unattached self.now.list.items }
     {
         self.list
             .iter()
-            .filter(|visitor| visitor.is_stranger())
+            .filter(|connection| connection.is_unattached())
             .count()
     }
 
@@ -184,38 +188,38 @@ impl Visitors {
         let there = self
             .list
             .iter()
-            .filter(|visitor| visitor.works_for(daemon))
+            .filter(|connection| connection.works_for(daemon))
             .count();
         there < MAX_WORKERS
     }
 
-    /// Returns whether visitor `number` is here: it came, and did not leave or have to go.
+    /// Returns whether connection `number` is here: it came, and did not leave or have to go.
     pub(crate) fn knows(&self, number: u64) -> bool
         ensures known { result ≡ is_some (position (has_number number) self.now.list.items) }
     {
         self.place_of(number).is_some()
     }
 
-    /// Returns where visitor `number` stands, if it is here.
+    /// Returns where connection `number` stands, if it is here.
     fn place_of(&self, number: u64) -> Option<usize>
         ensures place { result ≡ position (has_number number) self.now.list.items }
         ensures below { IfSome result (λ place. place < length self.now.list.items) }
     {
         self.list
             .iter()
-            .position(|visitor| visitor.number == number)
+            .position(|connection| connection.number == number)
     }
 
-    /// Notes that visitor `number` is `peer`.
+    /// Notes that connection `number` is that of `peer`.
     pub(crate) fn name(&mut self, number: u64, peer: Peer) {
-        for visitor in self.list.iter_mut() {
-            if visitor.number == number {
-                visitor.peer = peer;
+        for connection in self.list.iter_mut() {
+            if connection.number == number {
+                connection.peer = peer;
             }
         }
     }
 
-    /// Removes visitor `number`, whose connection ended. Those that are left stand in the order in which they came.
+    /// Removes connection `number`, which ended. Those that are left stand in the order in which they came.
     pub(crate) fn leave(&mut self, number: u64)
         ensures left { self.new.list.items ≡ without_at self.old.list.items (position (has_number number) self.old.list.items) }
     {
@@ -226,8 +230,8 @@ impl Visitors {
 
     /// Ends all connections.
     pub(crate) fn end_all(&self) {
-        for visitor in self.list.iter() {
-            let _ended = visitor.stream.shutdown(Shutdown::Both);
+        for connection in self.list.iter() {
+            let _ended = connection.stream.shutdown(Shutdown::Both);
         }
     }
 }

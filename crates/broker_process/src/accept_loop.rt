@@ -1,6 +1,6 @@
-//! The connections of a broker, each in a thread of its own.
-use crate::hall::{Hall, Visit};
-use crate::visitors::Heard;
+//! The accept loop of a broker. Each connection has a thread of its own.
+use crate::connections::Heard;
+use crate::shared_desk::{AcceptedConnection, SharedDesk};
 use broker_desk::Response;
 use sockets::{Connection, Deadline};
 use std::alloc::Global;
@@ -20,32 +20,32 @@ const MOMENT: u64 = 10;
 /// How long no connection is accepted after an accept failed, in milliseconds.
 const PAUSE: u64 = 10;
 
-/// Takes connections until the hall is over, and returns when each of them ended.
-pub(crate) fn receive_all<R: Threads + Wait + Clock + Sync>(
+/// Accepts connections until no more are let in, and returns when each of them ended.
+pub(crate) fn accept_all<R: Threads + Wait + Clock + Sync>(
     rt: &R,
     alloc: Global,
-    hall: &Hall,
+    shared: &SharedDesk,
     listener: &UnixListener,
 ) {
     thread::scope(thread::scope_env(), rt, |scope| {
-        receive(scope, rt, alloc, hall, listener)
+        accept(scope, rt, alloc, shared, listener)
     })
 }
 
-/// Takes connections until the hall is over.
-fn receive<'s, 'e: 's, R: Threads + Wait + Clock + Sync + 's>(
+/// Accepts connections until no more are let in.
+fn accept<'s, 'e: 's, R: Threads + Wait + Clock + Sync + 's>(
     scope: &Scope<'s, &'e ()>,
     rt: &'e R,
     alloc: Global,
-    hall: &'e Hall,
+    shared: &'e SharedDesk,
     listener: &UnixListener,
 ) {
     for stream in listener.incoming() {
-        if hall.is_over(rt) {
+        if shared.is_over(rt) {
             return;
         }
         match stream {
-            Ok(stream) => admit(scope, rt, alloc, hall, stream),
+            Ok(stream) => admit(scope, rt, alloc, shared, stream),
             Err(_failed) => thread::sleep(rt, Duration::from_millis(PAUSE)),
         }
     }
@@ -57,25 +57,31 @@ fn admit<'s, 'e: 's, R: Threads + Wait + Clock + Sync + 's>(
     scope: &Scope<'s, &'e ()>,
     rt: &'e R,
     alloc: Global,
-    hall: &'e Hall,
+    shared: &'e SharedDesk,
     stream: UnixStream,
 ) {
     let Ok(handle) = stream.try_clone() else {
         return;
     };
-    hall.wait_for_room(rt);
-    let Some(visit) = hall.enter(rt, handle) else {
+    shared.wait_for_room(rt);
+    let Some(accepted) = shared.enter(rt, handle) else {
         return;
     };
-    let attending = move || attend(rt, alloc, hall, visit, stream);
+    let attending = move || attend(rt, alloc, shared, accepted, stream);
     if scope.spawn(attending).is_err() {
-        hall.leave(rt, visit);
+        shared.leave(rt, accepted);
     }
 }
 
 /// Answers the frames of a connection until it ends.
-fn attend<R: Wait + Clock>(rt: &R, alloc: Global, hall: &Hall, visit: Visit, stream: UnixStream) {
-    let mut visit = visit;
+fn attend<R: Wait + Clock>(
+    rt: &R,
+    alloc: Global,
+    shared: &SharedDesk,
+    accepted: AcceptedConnection,
+    stream: UnixStream,
+) {
+    let mut accepted = accepted;
     if let Ok(mut connection) = Connection::over(
         alloc,
         rt,
@@ -83,14 +89,14 @@ fn attend<R: Wait + Clock>(rt: &R, alloc: Global, hall: &Hall, visit: Visit, str
         Some(Duration::from_millis(PATIENCE)),
     ) {
         let deadline = Deadline::after(rt, Duration::from_millis(PATIENCE));
-        hall.note_heard(rt, &visit, heard_by(rt, &mut connection));
+        shared.note_heard(rt, &accepted, heard_by(rt, &mut connection));
         for _ in rt.forever() {
-            if !answer_one(rt, hall, &mut visit, &mut connection, deadline) {
+            if !answer_one(rt, shared, &mut accepted, &mut connection, deadline) {
                 break;
             }
         }
     }
-    hall.leave(rt, visit);
+    shared.leave(rt, accepted);
 }
 
 /// Returns what comes by a connection within a moment. Whoever attaches says so at once.
@@ -102,16 +108,16 @@ fn heard_by<R: Clock>(rt: &R, connection: &mut Connection<'_, R>) -> Heard {
     }
 }
 
-/// Answers the next frame of a connection. A connection that did not attach yet has to send it by `deadline`. Returns
-/// whether the connection goes on.
+/// Answers the next frame of a connection. An unattached connection has to send it by `deadline`. Returns whether the
+/// connection goes on.
 fn answer_one<R: Wait + Clock>(
     rt: &R,
-    hall: &Hall,
-    visit: &mut Visit,
+    shared: &SharedDesk,
+    accepted: &mut AcceptedConnection,
     connection: &mut Connection<'_, R>,
     deadline: Deadline,
 ) -> bool {
-    let by = if visit.is_strange() {
+    let by = if accepted.is_unattached() {
         deadline
     } else {
         Deadline::Never
@@ -119,7 +125,7 @@ fn answer_one<R: Wait + Clock>(
     let Ok(Some(frame)) = connection.read(by) else {
         return false;
     };
-    let goes_on = match hall.answer(rt, visit, &frame) {
+    let goes_on = match shared.answer(rt, accepted, &frame) {
         Response::Tells(told) => connection.write(&told).is_ok(),
         Response::Closes => false,
     };

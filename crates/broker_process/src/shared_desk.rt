@@ -3,7 +3,7 @@ ghost use Rattle.std.specs.Prelude.{◌≡◌, ◌↔◌, ◌&&◌, false, is_no
 ghost use Rattle.std.specs.Option.{option_map_or};
 ghost use Rattle.broker_desk.specs.Desk.{told_by};
 ghost use Rattle.broker_core.specs.Broker.{BrokerState};
-ghost use Rattle.broker_process.specs.Hall.{granted_by, wakes};
+ghost use Rattle.broker_process.specs.SharedDesk.{granted_by, wakes};
 ghost use Rattle.broker_process.specs.Playing.{Began, HasCome};
 ghost use Rattle.broker_script.specs.Beginning.{Begins};
 ghost use Rattle.broker_script.specs.Printed.{PrintsBegun};
@@ -12,7 +12,7 @@ ghost use Rattle.script_lines.specs.BrokerLine.{IsSendableLine};
 
 mod mounted;
 
-use crate::visitors::{Heard, Visitors};
+use crate::connections::{Connections, Heard};
 use broker_desk::{Desk, Peer, Response};
 use broker_script::{Awaited, Begun, BrokerLine, Came, begin, look, print_begun, print_held};
 use eden_base::NoMemory;
@@ -61,7 +61,7 @@ pub(crate) enum Waiting {
 #[derive(Drop)]
 struct State {
     desk: Desk,
-    visitors: Visitors,
+    connections: Connections,
     /// When the kernel asked last.
     asked: Option<Instant>,
     waiting: Waiting,
@@ -97,23 +97,23 @@ pub(crate) enum Granted {
     Never,
 }
 
-/// One connection: its number, and who the desk knows at its other end.
+/// A connection that was accepted: its number, and who the desk knows at its other end.
 #[derive(Clone, Copy)]
-pub(crate) struct Visit {
+pub(crate) struct AcceptedConnection {
     number: u64,
     peer: Peer,
 }
 
-impl Visit {
+impl AcceptedConnection {
     /// Returns whether nobody attached by this connection.
-    pub(crate) fn is_strange(&self) -> bool {
+    pub(crate) fn is_unattached(&self) -> bool {
         self.peer == Peer::Stranger
     }
 }
 
 /// The desk and the connections, under a lock. `asks` wakes a held Take, and `events` wakes the script.
 #[derive(Drop)]
-pub(crate) struct Hall {
+pub(crate) struct SharedDesk {
     state: Mutex<State>,
     asks: Condvar,
     events: Condvar,
@@ -121,17 +121,17 @@ pub(crate) struct Hall {
 
 impl State {
     /// Answers a frame of a connection, and returns whether the answer wakes the script.
-    fn answer(&mut self, visit: &mut Visit, frame: &Frame) -> (Response, bool) {
-        if visit.is_strange() && !self.may_attach(visit.number, frame) {
+    fn answer(&mut self, accepted: &mut AcceptedConnection, frame: &Frame) -> (Response, bool) {
+        if accepted.is_unattached() && !self.may_attach(accepted.number, frame) {
             return (Response::Closes, false);
         }
-        if !visit.is_strange() && self.has_dead_mount() && matches!(frame, Frame::Mount) {
+        if !accepted.is_unattached() && self.has_dead_mount() && matches!(frame, Frame::Mount) {
             return (Response::Tells(Frame::Seated), false);
         }
-        let before = visit.peer;
-        let response = self.desk.answer(&mut visit.peer, frame);
-        if visit.peer != before {
-            self.visitors.name(visit.number, visit.peer);
+        let before = accepted.peer;
+        let response = self.desk.answer(&mut accepted.peer, frame);
+        if accepted.peer != before {
+            self.connections.name(accepted.number, accepted.peer);
         }
         if let Response::Tells(Frame::Claimed { generation }) = &response {
             self.log_held(*generation);
@@ -158,14 +158,13 @@ impl State {
         self.is_mounted && self.desk.broker().seat().is_none()
     }
 
-    /// Returns whether stranger `number` did not have to go, and the connection that its Attach asks for is within the
-    /// limit.
+    /// Returns whether unattached connection `number` did not have to go, and what its Attach asks for is within the limit.
     fn may_attach(&self, number: u64, frame: &Frame) -> bool {
         let has_place = match frame {
-            Frame::Attach(daemon) => daemon.0 == 0 || self.visitors.has_place(*daemon),
+            Frame::Attach(daemon) => daemon.0 == 0 || self.connections.has_place(*daemon),
             _ => true,
         };
-        has_place && self.visitors.knows(number)
+        has_place && self.connections.knows(number)
     }
 
     /// Returns what the daemon is told that mounted at `generation`.
@@ -252,29 +251,32 @@ fn finds_nothing(response: &Response) -> bool {
     matches!(response, Response::Tells(Frame::Empty))
 }
 
-impl Hall {
-    /// Makes a hall without connections, in which a script plays the kernel.
-    pub(crate) fn of_script(alloc: Global) -> Result<Hall, NoMemory> {
-        Hall::of(alloc, Desk::new(alloc)?, Agreed::Always, None)
+impl SharedDesk {
+    /// Makes a shared desk without connections, for which a script plays the kernel.
+    pub(crate) fn of_script(alloc: Global) -> Result<SharedDesk, NoMemory> {
+        SharedDesk::of(alloc, Desk::new(alloc)?, Agreed::Always, None)
     }
 
-    /// Makes a hall without connections for mounts of a kernel, which notes what that holds in `log` if there is one.
-    pub(crate) fn of_mount(alloc: Global, log: Option<BufWriter<File>>) -> Result<Hall, NoMemory> {
-        Hall::of(alloc, Desk::for_mount(alloc)?, Agreed::NotYet, log)
+    /// Makes a shared desk without connections for mounts of a kernel. It notes what that holds in `log`, if there is one.
+    pub(crate) fn of_mount(
+        alloc: Global,
+        log: Option<BufWriter<File>>,
+    ) -> Result<SharedDesk, NoMemory> {
+        SharedDesk::of(alloc, Desk::for_mount(alloc)?, Agreed::NotYet, log)
     }
 
-    /// Makes a hall without connections over a `desk`.
+    /// Makes a shared desk without connections over `desk`.
     fn of(
         alloc: Global,
         desk: Desk,
         agreed: Agreed,
         log: Option<BufWriter<File>>,
-    ) -> Result<Hall, NoMemory> {
+    ) -> Result<SharedDesk, NoMemory> {
         let kernel = Kernel::new(alloc)?;
-        Ok(Hall {
+        Ok(SharedDesk {
             state: Mutex::new(State {
                 desk,
-                visitors: Visitors::new(alloc),
+                connections: Connections::new(alloc),
                 asked: None,
                 waiting: Waiting::Nothing,
                 kernel,
@@ -289,13 +291,13 @@ impl Hall {
     }
 
     /// Lets a connection in, by a handle of it. Returns none if no more connections may come.
-    pub(crate) fn enter<R: Wait>(&self, rt: &R, stream: UnixStream) -> Option<Visit> {
+    pub(crate) fn enter<R: Wait>(&self, rt: &R, stream: UnixStream) -> Option<AcceptedConnection> {
         let mut state = self.state.lock(rt);
         if state.is_over {
             return None;
         }
-        let number = state.visitors.enter(stream)?;
-        Some(Visit {
+        let number = state.connections.enter(stream)?;
+        Some(AcceptedConnection {
             number,
             peer: Peer::Stranger,
         })
@@ -305,7 +307,7 @@ impl Hall {
     pub(crate) fn wait_for_room<R: Wait + Clock>(&self, rt: &R) {
         for _ in rt.forever() {
             let state = self.state.lock(rt);
-            if state.is_over || state.visitors.has_room() {
+            if state.is_over || state.connections.has_room() {
                 return;
             }
             drop(state);
@@ -313,16 +315,16 @@ impl Hall {
         }
     }
 
-    /// Notes what came by a connection that did not attach.
-    pub(crate) fn note_heard<R: Wait>(&self, rt: &R, visit: &Visit, heard: Heard) {
-        self.state.lock(rt).visitors.note(visit.number, heard);
+    /// Notes what came by an unattached connection.
+    pub(crate) fn note_heard<R: Wait>(&self, rt: &R, accepted: &AcceptedConnection, heard: Heard) {
+        self.state.lock(rt).connections.note(accepted.number, heard);
     }
 
     /// Notes that a connection ended.
-    pub(crate) fn leave<R: Wait>(&self, rt: &R, visit: Visit) {
+    pub(crate) fn leave<R: Wait>(&self, rt: &R, accepted: AcceptedConnection) {
         let mut state = self.state.lock(rt);
-        state.visitors.leave(visit.number);
-        state.desk.leave(visit.peer);
+        state.connections.leave(accepted.number);
+        state.desk.leave(accepted.peer);
         drop(state);
         self.asks.notify_all();
         self.events.notify_all();
@@ -333,10 +335,10 @@ impl Hall {
     pub(crate) fn answer<R: Wait + Clock>(
         &self,
         rt: &R,
-        visit: &mut Visit,
+        accepted: &mut AcceptedConnection,
         frame: &Frame,
     ) -> Response {
-        let response = self.hear(rt, visit, frame);
+        let response = self.hear(rt, accepted, frame);
         if let Response::Tells(Frame::Mounted { generation }) = response {
             return self.answer_mount(rt, generation);
         }
@@ -344,21 +346,21 @@ impl Hall {
             return response;
         }
         let hold = self.hold(rt);
-        self.answer_by(rt, visit, frame, hold)
+        self.answer_by(rt, accepted, frame, hold)
     }
 
     /// Answers a Take that found nothing as soon as it finds something, or at a deadline.
     fn answer_by<R: Wait + Clock>(
         &self,
         rt: &R,
-        visit: &mut Visit,
+        accepted: &mut AcceptedConnection,
         frame: &Frame,
         hold: Deadline,
     ) -> Response {
         let mut hold = hold;
         for _ in rt.forever() {
             let seen = self.asks.notifications();
-            let response = self.hear(rt, visit, frame);
+            let response = self.hear(rt, accepted, frame);
             if !finds_nothing(&response) {
                 return response;
             }
@@ -371,8 +373,8 @@ impl Hall {
     }
 
     /// Answers a frame at once, and wakes the script that waits for it.
-    fn hear<R: Wait>(&self, rt: &R, visit: &mut Visit, frame: &Frame) -> Response {
-        let (response, wakes) = self.state.lock(rt).answer(visit, frame);
+    fn hear<R: Wait>(&self, rt: &R, accepted: &mut AcceptedConnection, frame: &Frame) -> Response {
+        let (response, wakes) = self.state.lock(rt).answer(accepted, frame);
         if wakes {
             self.events.notify_one();
         }
@@ -478,7 +480,7 @@ impl Hall {
     pub(crate) fn end<R: Wait>(&self, rt: &R) {
         let mut state = self.state.lock(rt);
         state.is_over = true;
-        state.visitors.end_all();
+        state.connections.end_all();
         drop(state);
         self.asks.notify_all();
     }
