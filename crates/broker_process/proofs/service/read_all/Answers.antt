@@ -7,15 +7,20 @@ use Rattle.broker_process.specs.declared.service.MountEnd.TheVariants.{Unmounted
 use Rattle.broker_process.proofs.ServingSteps.{read_before, read_last}
 use Rattle.broker_process.proofs.service.read_all.Goals as goal
 
-pub returns-then-not-handle : goal.returns-then-not-handle
-returns-then-not-handle g c = record {
-  served = inl (c.loop.invariant (Ok Dead) _ _ (read_last (taken.Message c.in-Message.message) (Ok Dead) _ _ _ _ c.in-Message.ensures.takes c.if-not-handle.ensures.handles));
+pub returns-in-NotMounted : goal.returns-in-NotMounted
+returns-in-NotMounted g c = record {
+  served = inl (c.loop.invariant (Ok Dead) _ _ (read_last (taken.Message c.in-Message.message) (Ok Dead) _ _ _ _ c.in-Message.ensures.takes c.in-NotMounted.ensures.handles));
 }
 
-pub loop-preserved-else-not-handle : goal.loop-preserved-else-not-handle
-loop-preserved-else-not-handle g c =
+pub returns-in-Refused : goal.returns-in-Refused
+returns-in-Refused g c = record {
+  served = inl (c.loop.invariant (Err (Broken c.refused.result)) _ _ (read_last (taken.Message c.in-Message.message) (Err (Broken c.refused.result)) _ _ _ _ c.in-Message.ensures.takes c.in-Refused.ensures.handles));
+}
+
+pub loop-preserved-in-GoesOn : goal.loop-preserved-in-GoesOn
+loop-preserved-in-GoesOn g c =
     λ (ended : Result MountEnd MountFault). λ (left_then : Option (List ℕ)). λ (told_then : Option (List ℕ)). λ rest.
-    c.loop.invariant ended left_then told_then (read_before (taken.Message c.in-Message.message) ended _ _ _ _ left_then told_then c.in-Message.ensures.takes c.if-not-handle.ensures.handles rest)
+    c.loop.invariant ended left_then told_then (read_before (taken.Message c.in-Message.message) ended _ _ _ _ left_then told_then c.in-Message.ensures.takes c.in-GoesOn.ensures.handles rest)
 
 pub loop-preserved : goal.loop-preserved
 loop-preserved g c =
