@@ -136,11 +136,14 @@ class Crate:
             return UNKNOWN
         if word.startswith(("proved", "no holes", "depends on a hole")):
             return LET_THROUGH
-        folder, module = body.function.replace("::", "/"), body.function.replace("::", ".")
-        if f"./proofs/{folder}/" in word or f"Rattle.{self.name}.proofs.{module}." in word:
+        above, _, last = body.function.replace("::", "/").rpartition("/")
+        module = body.function.replace("::", ".")
+        # The folder of a function that calls itself has a plus before its name.
+        folders = [f"./proofs/{above}/{name}/" for name in (last, f"+{last}")]
+        if any(folder in word for folder in folders) or f"Rattle.{self.name}.proofs.{module}." in word:
             return REFUSED
         # An answer to a goal that the wrong body has not. A wrong body that keeps the names of goals shows more.
-        if re.search(rf"^\./proofs/{folder}/\w+\.antt:\d+:\d+: error", said, re.M):
+        if any(re.search(rf"^{re.escape(folder)}\w+\.antt:\d+:\d+: error", said, re.M) for folder in folders):
             return REFUSED
         is_refused = body.is_definition() and re.search("did not prove|which antt refuses", word)
         return REFUSED if is_refused else HIDDEN
