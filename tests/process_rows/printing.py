@@ -4,10 +4,14 @@ import os
 import struct
 
 from process_rows.checks import PATIENCE, WAIT, row, same
-from process_rows.daemons import handed_over, offered
+from process_rows.daemons import CLOSED as PEER_CLOSED, because, handed_over, offered
 from process_rows.frames import u64
 from process_rows.printing_to import ALL_SINKS, CLOSED, SINKS, full_disk, printing_to
 from process_rows.rooms import ATTR_1, STARTING, run_to_end
+
+
+# What a daemon says whose peers close before the data, and behind it.
+BEFORE_DATA, BEHIND_DATA = (because(f"{PEER_CLOSED} {awaited}") for awaited in ("Pong", "its claim of the seat"))
 
 
 def daemon_to(out, room, how):
@@ -56,7 +60,7 @@ def a_first_line_may_not_be_printed(room):
 @row
 def lines_that_cannot_be_printed_are_dropped(room):
     """A daemon whose lines can't be printed serves on, over takeovers that come to nothing, until one succeeds. It ends as
-    any other, and says that its lines were lost."""
+    any other, and says that its lines were lost, behind what it said of those takeovers."""
     for sink, said in ALL_SINKS:
         inner = room.inner()
         broker = inner.broker("seat 1", "seat 2", "ask getattr 1", "seat 3", "ask getattr 1")
@@ -68,7 +72,7 @@ def lines_that_cannot_be_printed_are_dropped(room):
             broker.printed(f"answer 1 {ATTR_1}")
             new = daemon_to(other, inner, "--takeover")
             broker.ends(["seat 1", "seat 2", f"answer 1 {ATTR_1}", "seat 3", f"answer 2 {ATTR_1}", "ended"])
-            ends_unprinted(daemon, said, 0)
+            ends_unprinted(daemon, BEFORE_DATA + BEHIND_DATA + said, 0)
             ends_unprinted(new, said, 0)
         inner.clear()
 
@@ -82,7 +86,7 @@ def a_reader_may_leave(room):
     same(pipe.lines(1), ["serving 1"])
     handed_over(room)
     broker.ends(["seat 1", "seat 2", f"answer 1 {ATTR_1}", "ended"])
-    ends_unprinted(daemon, CLOSED, 0)
+    ends_unprinted(daemon, BEHIND_DATA + CLOSED, 0)
 
 
 @row
