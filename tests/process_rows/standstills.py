@@ -35,13 +35,14 @@ def an_old_daemon_that_stands_still_counts_no_silence(room):
 
 @row
 def a_new_daemon_that_stands_still_counts_no_silence(room):
-    """A new daemon of a patience of half a second stands still for three in each of its waits: its takeover goes on."""
+    """A new daemon of a patience of one second stands still for three in each of its waits: its takeover goes on. What it
+    counts of a wait that it stood still in is 300 milliseconds at most, and two of its waits have one deadline."""
     broker, daemon = serving(room, script=("seat 1", "seat 3"))
     image = handed_image(room)
     daemon.printed("serving 2")
     os.rename(room.takeover_at, f"{room.path}/first.sock")
     listener = room.listen(room.takeover_at)
-    new = room.take_over(patience="500")
+    new = room.take_over(patience="1000")
     other = room.accept(listener)
     same(other.read(), ("Offer", ALL_VERSIONS))
     stands_still(new, 3)
