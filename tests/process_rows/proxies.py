@@ -21,13 +21,20 @@ class Proxy:
     def run(self):
         try:
             new = Peer(self.listener.accept()[0])
-            self.may_begin.wait()
-            old = Peer.at(self.daemon_at)
-            self.pass_all(new, old)
-            old.close()
-            new.close()
+            try:
+                self.speak_on(new)
+            finally:
+                # The old daemon may be gone by now, and the new one waits for it no longer than this connection stands.
+                new.close()
         except Exception as wrong:
             self.wrong = wrong
+
+    def speak_on(self, new):
+        """Passes frames between a new daemon and the old one, once that may begin."""
+        self.may_begin.wait()
+        old = Peer.at(self.daemon_at)
+        self.pass_all(new, old)
+        old.close()
 
     def pass_all(self, new, old):
         """Passes frames in both directions, until there were enough of them, or an end closes."""
