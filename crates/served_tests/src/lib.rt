@@ -1,5 +1,5 @@
-//! Tests by the public calls of several crates: of an arena's drops, of `journal`, `workers` and `links`, of daemons and
-//! their desks, and of handovers.
+//! Tests by the public calls of several crates: of an arena's drops, of `journal`, `workers` and `links`, and of daemons
+//! and their desks.
 #![tactic(auto)]
 
 #[cfg(test)]
@@ -8,8 +8,6 @@ mod again;
 mod daemon_desk_tests;
 #[cfg(test)]
 mod daemon_tests;
-#[cfg(test)]
-mod handover_tests;
 #[cfg(test)]
 mod links_tests;
 #[cfg(test)]
