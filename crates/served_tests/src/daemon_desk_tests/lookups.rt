@@ -48,22 +48,25 @@ fn found_number(alloc: Global, manifest: &Manifest, served: &mut Served, name: &
     number_of(alloc, manifest, served, name)
 }
 
-/// Looks `name` up in the state of `lease`, and returns its number, or none.
-pub(super) fn lent_number(alloc: Global, lease: &mut Lease, name: &[u8]) -> Option<u64> {
-    found_number(alloc, &lease.manifest, &mut lease.served, name)
+/// Looks `name` up in the state of `lease`. Returns whether it has this number.
+fn is_found(alloc: Global, lease: &mut Lease, name: &[u8], number: u64) -> bool {
+    found_number(alloc, &lease.manifest, &mut lease.served, name) == Some(number)
 }
 
-/// Looks each long name up. Returns whether their numbers follow one another, from `first` on.
-pub(super) fn are_numbered(alloc: Global, lease: &mut Lease, first: u64) -> bool {
+/// Returns whether `src` has the number `first` in the state of `lease`. With `is_each`, looks each long name up, and
+/// returns whether their numbers follow one another, from `first` on.
+pub(super) fn are_found(alloc: Global, lease: &mut Lease, first: u64, is_each: bool) -> bool {
+    if !is_each {
+        return is_found(alloc, lease, b"src", first);
+    }
     let mut number = first;
+    let mut so = true;
     for letter in LETTERS {
         let name = [*letter; NAME_LEN];
-        if lent_number(alloc, lease, name.as_slice()) != Some(number) {
-            return false;
-        }
+        so = so && is_found(alloc, lease, name.as_slice(), number);
         number = number.saturating_add(1);
     }
-    true
+    so
 }
 
 /// Appends `bytes` to `text`, and tries once more if memory was refused.
@@ -71,20 +74,15 @@ fn is_put(text: &mut Vec<u8>, bytes: &[u8]) -> bool {
     text.extend_from_slice(bytes).is_ok() || text.extend_from_slice(bytes).is_ok()
 }
 
-/// Makes the text of a manifest of one directory, and of a file with each long name.
-pub(super) fn long_checkout(alloc: Global) -> Option<Vec<u8>> {
-    let mut text = Vec::new(alloc);
-    if !is_put(&mut text, CHECKOUT) {
-        return None;
-    }
+/// Appends the text of a manifest of one directory, and of a file with each long name. Returns whether memory sufficed.
+pub(super) fn is_long_put(text: &mut Vec<u8>) -> bool {
+    let mut so = is_put(text, CHECKOUT);
     for letter in LETTERS {
         let name = [*letter; NAME_LEN];
-        let is_whole = is_put(&mut text, b"file 0644 0 ")
-            && is_put(&mut text, name.as_slice())
-            && is_put(&mut text, b"\n");
-        if !is_whole {
-            return None;
-        }
+        so = so
+            && is_put(text, b"file 0644 0 ")
+            && is_put(text, name.as_slice())
+            && is_put(text, b"\n");
     }
-    Some(text)
+    so
 }

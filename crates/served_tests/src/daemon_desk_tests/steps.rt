@@ -1,5 +1,6 @@
 //! Steps at three desks, with their expected outcomes. A step that was refused memory is made once more.
-use super::lookups::{CHECKOUT, are_numbered, lent_number, long_checkout};
+use super::lookups::{CHECKOUT, are_found, is_long_put};
+use crate::again::manifest_of;
 use daemon::Lease;
 use daemon_desk::{Claiming, DaemonDesk, FrameList, Hearing, Mounting};
 use frames::Frame;
@@ -85,11 +86,10 @@ pub enum Step {
     Claims(usize, Says, Claiming),
 }
 
-/// The desks, the last frame, the later frames of the same answer, and the lease.
+/// What stands between the desks: the last frame, the later frames of the same answer, and the lease.
 #[derive(Drop)]
-struct Room {
+struct Between {
     alloc: Global,
-    desks: Vec<DaemonDesk>,
     last: Option<Frame>,
     behind: Option<FrameList>,
     lease: Option<Lease>,
@@ -159,29 +159,41 @@ fn heard(desk: &mut DaemonDesk, frame: &Frame) -> Hearing {
     }
 }
 
-impl Room {
-    /// Keeps `told` as the last frame, if it is a frame. Returns what that frame says, or `Nothing`.
-    fn keep(&mut self, told: Option<Frame>) -> Told {
-        let said = match &told {
-            Some(frame) => told_of(frame),
-            None => Told::Nothing,
-        };
-        if let Some(frame) = told {
-            drop(self.last.replace(frame));
-        }
-        said
+/// Returns the index of the desk that does `step`. No desk does `Next`.
+fn place_of(step: Step) -> usize {
+    match step {
+        Step::Prepares(at) | Step::Offers(at) | Step::Returns(at) => at,
+        Step::Mounts(at, ..) | Step::Hears(at, _) | Step::Sent(at, ..) | Step::Serves(at, _) => at,
+        Step::Lends(at, _) | Step::LooksUp(at, _) | Step::LooksUpEach(at, _) => at,
+        Step::Readies(at, _) | Step::GivesUp(at, _) | Step::Wants(at, _) => at,
+        Step::Claims(at, ..) => at,
+        Step::Next(_) => 0,
+    }
+}
+
+/// Keeps `told` as the `last` frame, if it is a frame. Returns what that frame says, or `Nothing`.
+fn keep(last: &mut Option<Frame>, told: Option<Frame>) -> Told {
+    let Some(frame) = told else {
+        return Told::Nothing;
+    };
+    let said = told_of(&frame);
+    drop(last.replace(frame));
+    said
+}
+
+impl Between {
+    /// Keeps the first of `frames` as the last frame, and the others for `next`. Returns what the first one says.
+    fn keep_frames(&mut self, frames: FrameList) -> Told {
+        let mut frames = frames;
+        let first = frames.next();
+        drop(self.behind.replace(frames));
+        keep(&mut self.last, first)
     }
 
-    /// Keeps the first frame of `hearing` as the last frame, and the frames after it for `next`. Returns what the desk
-    /// says.
+    /// Returns what a desk says by `hearing`. Frames are kept by `keep_frames`.
     fn keep_heard(&mut self, hearing: Hearing) -> Told {
         match hearing {
-            Hearing::Tells(frames) => {
-                let mut frames = frames;
-                let first = frames.next();
-                drop(self.behind.replace(frames));
-                self.keep(first)
-            }
+            Hearing::Tells(frames) => self.keep_frames(frames),
             Hearing::Heeds => Told::Heeds,
             Hearing::Ignores => Told::Ignores,
             Hearing::Closes => Told::Closes,
@@ -189,9 +201,9 @@ impl Room {
         }
     }
 
-    /// Lets the desk of the index `at` hear the last frame, and returns what the desk says.
-    fn hears(&mut self, at: usize) -> Told {
-        let (Some(desk), Some(frame)) = (self.desks.get_mut(at), &self.last) else {
+    /// Lets `desk` hear the last frame, and returns what the desk says.
+    fn hears(&mut self, desk: &mut DaemonDesk) -> Told {
+        let Some(frame) = &self.last else {
             return Told::Other;
         };
         let hearing = heard(desk, frame);
@@ -204,129 +216,72 @@ impl Room {
             return Told::Other;
         };
         let frame = frames.next();
-        self.keep(frame)
+        keep(&mut self.last, frame)
     }
 
-    /// Lets the desk of the index `at` hear the frame of `says`, and returns what the desk says.
-    fn is_sent(&mut self, at: usize, says: Says) -> Told {
-        let Some(desk) = self.desks.get_mut(at) else {
-            return Told::Other;
-        };
+    /// Lets `desk` hear the frame of `says`, and returns what the desk says.
+    fn is_sent(&mut self, desk: &mut DaemonDesk, says: Says) -> Told {
         let frame = frame_of(says);
         let hearing = heard(desk, &frame);
         drop(frame);
         self.keep_heard(hearing)
     }
 
-    /// Lets the desk of the index `at` lend its state for a LOOKUP of `src`, and returns the number.
-    fn looked_up(&mut self, at: usize) -> Option<u64> {
-        let desk = self.desks.get_mut(at)?;
-        let mut lease = desk.lend()?;
-        let number = lent_number(self.alloc, &mut lease, b"src");
-        desk.take_back(lease);
-        number
-    }
-
-    /// Lets the desk of the index `at` lend its state for lookups of the long names. Returns whether their numbers
-    /// follow one another, from `first` on.
-    fn looked_up_each(&mut self, at: usize, first: u64) -> bool {
-        let Some(desk) = self.desks.get_mut(at) else {
-            return false;
-        };
-        let Some(mut lease) = desk.lend() else {
-            return false;
-        };
-        let so = are_numbered(self.alloc, &mut lease, first);
-        desk.take_back(lease);
-        so
-    }
-
-    /// Lets the desk of the index `at` lend its state, and keeps the lease. Returns whether the desk had a state to
-    /// lend.
-    fn lends(&mut self, at: usize) -> bool {
-        let Some(desk) = self.desks.get_mut(at) else {
-            return false;
-        };
-        let Some(lease) = desk.lend() else {
-            return false;
-        };
-        drop(self.lease.replace(lease));
-        true
-    }
-
-    /// Gives the lease to the desk of the index `at`, and returns whether there was a lease.
-    fn returns(&mut self, at: usize) -> bool {
-        let (Some(desk), Some(lease)) = (self.desks.get_mut(at), self.lease.take()) else {
-            return false;
-        };
-        desk.take_back(lease);
-        true
-    }
-
-    /// Asks the desk of the index `at` whether it is ready to hand over. Keeps the frame that it says, if there is one,
-    /// as the last frame, and returns what that says.
-    fn readies(&mut self, at: usize) -> Told {
-        let Some(desk) = self.desks.get_mut(at) else {
-            return Told::Other;
-        };
-        let ready = desk.drained();
-        self.keep(ready)
-    }
-
-    /// Lets the desk of the index `at` give up, and returns what the desk says.
-    fn gives_up(&mut self, at: usize) -> Told {
-        let Some(desk) = self.desks.get_mut(at) else {
-            return Told::Other;
-        };
-        let said = desk.give_up();
-        self.keep(said)
-    }
-
-    /// Keeps the offer of the desk of the index `at` as the last frame, and returns whether there is such a desk.
-    fn offers(&mut self, at: usize) -> bool {
-        let Some(desk) = self.desks.get(at) else {
-            return false;
-        };
-        let offer = desk.offer();
-        drop(self.last.replace(offer));
-        true
-    }
-
-    /// Makes `step`, and returns whether its outcome is the expected one.
-    fn goes_so(&mut self, step: Step) -> bool {
+    /// Lets `desk` do `step`, and returns whether the outcome is the expected one.
+    fn goes_so(&mut self, desk: &mut DaemonDesk, step: Step) -> bool {
         match step {
-            Step::Prepares(at) => match self.desks.get_mut(at) {
-                Some(desk) => is_prepared(desk),
-                None => false,
-            },
-            Step::Mounts(at, says, mounting) => match self.desks.get_mut(at) {
-                Some(desk) => mounting_of(desk, says) == mounting,
-                None => false,
-            },
-            Step::Offers(at) => self.offers(at),
-            Step::Hears(at, told) => self.hears(at) == told,
+            Step::Prepares(_) => is_prepared(desk),
+            Step::Mounts(_, says, mounting) => mounting_of(desk, says) == mounting,
+            Step::Offers(_) => offers(desk, &mut self.last),
+            Step::Hears(_, told) => self.hears(desk) == told,
             Step::Next(told) => self.next() == told,
-            Step::Sent(at, says, told) => self.is_sent(at, says) == told,
-            Step::Serves(at, generation) => match self.desks.get(at) {
-                Some(desk) => desk.serving() == generation,
-                None => false,
-            },
-            Step::Lends(at, lends) => self.lends(at) == lends,
-            Step::Returns(at) => self.returns(at),
-            Step::LooksUp(at, number) => self.looked_up(at) == Some(number),
-            Step::LooksUpEach(at, first) => self.looked_up_each(at, first),
-            Step::Readies(at, told) => self.readies(at) == told,
-            Step::GivesUp(at, told) => self.gives_up(at) == told,
-            Step::Wants(at, generation) => match self.desks.get(at) {
-                Some(desk) => wanted_by(desk) == generation,
-                None => false,
-            },
-            Step::Claims(at, says, claiming) => match self.desks.get_mut(at) {
-                Some(desk) => claiming_of(desk, says) == claiming,
-                None => false,
-            },
+            Step::Sent(_, says, told) => self.is_sent(desk, says) == told,
+            Step::Serves(_, generation) => desk.serving() == generation,
+            Step::Lends(_, has_state) => lends(desk, &mut self.lease) == has_state,
+            Step::Returns(_) => returns(desk, &mut self.lease),
+            Step::LooksUp(_, number) => looks_up(self.alloc, desk, number, false),
+            Step::LooksUpEach(_, first) => looks_up(self.alloc, desk, first, true),
+            Step::Readies(_, told) => keep(&mut self.last, desk.drained()) == told,
+            Step::GivesUp(_, told) => keep(&mut self.last, desk.give_up()) == told,
+            Step::Wants(_, generation) => wanted_by(desk) == generation,
+            Step::Claims(_, says, claiming) => claiming_of(desk, says) == claiming,
         }
     }
+}
+
+/// Keeps the offer of `desk` as the `last` frame.
+fn offers(desk: &DaemonDesk, last: &mut Option<Frame>) -> bool {
+    drop(last.replace(desk.offer()));
+    true
+}
+
+/// Lets `desk` lend its state, and keeps the `lease`. Returns whether the desk had a state to lend.
+fn lends(desk: &mut DaemonDesk, lease: &mut Option<Lease>) -> bool {
+    let Some(lent) = desk.lend() else {
+        return false;
+    };
+    drop(lease.replace(lent));
+    true
+}
+
+/// Gives the `lease` to `desk`, and returns whether there was a lease.
+fn returns(desk: &mut DaemonDesk, lease: &mut Option<Lease>) -> bool {
+    let Some(lent) = lease.take() else {
+        return false;
+    };
+    desk.take_back(lent);
+    true
+}
+
+/// Lets `desk` lend its state for lookups. Returns whether `src` has the number `first`, or, with `is_each`, the numbers
+/// of the long names follow one another from `first` on.
+fn looks_up(alloc: Global, desk: &mut DaemonDesk, first: u64, is_each: bool) -> bool {
+    let Some(mut lease) = desk.lend() else {
+        return false;
+    };
+    let so = are_found(alloc, &mut lease, first, is_each);
+    desk.take_back(lease);
+    so
 }
 
 /// Prepares `desk`, and once more if memory was refused. Returns whether that succeeded.
@@ -361,27 +316,64 @@ fn wanted_by(desk: &DaemonDesk) -> Option<u64> {
     wanted
 }
 
-/// Opens three desks over the manifest in `checkout`, with these `versions`.
-fn make_room(alloc: Global, checkout: &[u8], versions: &Versions) -> Option<Room> {
-    let manifest = Manifest::read(alloc, checkout).ok()?;
-    let mut desks = Vec::new(alloc);
-    for _desk in 0..3 {
-        let shared = manifest.share().ok()?;
-        let desk = DaemonDesk::new(alloc, shared, 8, versions.copy());
-        desks.push(desk).ok()?;
+/// Opens a desk over `manifest`, with these `versions`. Returns whether memory sufficed.
+fn is_opened(
+    alloc: Global,
+    desks: &mut Vec<DaemonDesk>,
+    manifest: &Manifest,
+    versions: &Versions,
+) -> bool {
+    let Ok(shared) = manifest.share() else {
+        return false;
+    };
+    let desk = DaemonDesk::new(alloc, shared, 8, versions.copy());
+    desks.push(desk).is_ok()
+}
+
+/// Makes `steps` at the `desks`, up to the first whose outcome is not the expected one. Returns whether there is none.
+fn each_goes_so(desks: &mut Vec<DaemonDesk>, between: &mut Between, steps: &[Step]) -> bool {
+    let mut so = true;
+    for step in steps {
+        so = so
+            && match desks.get_mut(place_of(*step)) {
+                Some(desk) => between.goes_so(desk, *step),
+                None => false,
+            };
     }
-    drop(manifest);
-    Some(Room {
+    so
+}
+
+/// Opens three desks over `manifest`, each once more if memory was refused. Makes `steps` there and then `endings`, and
+/// returns whether each outcome is the expected one.
+fn all_go_over(
+    alloc: Global,
+    manifest: &Manifest,
+    versions: &Versions,
+    steps: &[Step],
+    endings: &[Step],
+) -> bool {
+    let mut desks = Vec::new(alloc);
+    let mut so = true;
+    for _desk in 0..3u8 {
+        so = so
+            && (is_opened(alloc, &mut desks, manifest, versions)
+                || is_opened(alloc, &mut desks, manifest, versions));
+    }
+    let mut between = Between {
         alloc,
-        desks,
         last: None,
         behind: None,
         lease: None,
-    })
+    };
+    so = so
+        && each_goes_so(&mut desks, &mut between, steps)
+        && each_goes_so(&mut desks, &mut between, endings);
+    drop(between);
+    drop(desks);
+    so
 }
 
-/// Opens three desks, and once more if memory was refused. Makes `steps` there and then `endings`, and returns whether
-/// each outcome is the expected one.
+/// Calls `all_go_over` with the manifest in `checkout`.
 fn all_go(
     alloc: Global,
     checkout: &[u8],
@@ -389,22 +381,14 @@ fn all_go(
     steps: &[Step],
     endings: &[Step],
 ) -> bool {
-    let room = match make_room(alloc, checkout, versions) {
-        None => make_room(alloc, checkout, versions),
-        room => room,
-    };
-    let Some(mut room) = room else {
-        return false;
-    };
-    let mut so = true;
-    for step in steps {
-        so = so && room.goes_so(*step);
+    match manifest_of(alloc, checkout) {
+        Ok(manifest) => {
+            let so = all_go_over(alloc, &manifest, versions, steps, endings);
+            drop(manifest);
+            so
+        }
+        Err(_) => false,
     }
-    for step in endings {
-        so = so && room.goes_so(*step);
-    }
-    drop(room);
-    so
 }
 
 /// Calls `all_go` with version 1, and a manifest of one directory.
@@ -414,14 +398,15 @@ pub fn all_go_so(alloc: Global, steps: &[Step], endings: &[Step]) -> bool {
 
 /// Calls `all_go` with versions 1 and 2. The image of its manifest has two parts once the long names are looked up.
 pub fn all_go_so_in_parts(alloc: Global, steps: &[Step], endings: &[Step]) -> bool {
-    match long_checkout(alloc) {
-        Some(checkout) => all_go(
+    let mut checkout = Vec::new(alloc);
+    let so = is_long_put(&mut checkout)
+        && all_go(
             alloc,
             checkout.as_slice(),
             &Versions::of(&[1, 2]),
             steps,
             endings,
-        ),
-        None => false,
-    }
+        );
+    drop(checkout);
+    so
 }
