@@ -1,15 +1,16 @@
 //! A new daemon hears data that no daemon of a world says. In a world all daemons have one manifest, and each part but
 //! the last has 4,096 bytes.
-ghost use Rattle.std.specs.Prelude.{IsTrue};
+ghost use Rattle.std.specs.Prelude.{◌≡◌, false, IsTrue};
 ghost use Rattle.takeover_core.specs.Phases.{heard, Hear};
 ghost use Rattle.daemon.specs.Talking.{brings_part};
 
 mod count_tests;
 
+use crate::again::manifest_of;
 use byte_codec::Bytes;
-use daemon::{Daemon, Reaction};
+use daemon::{Daemon, Reaction, Turn};
 use eden_base::NoMemory;
-use manifest::{Manifest, ManifestFault};
+use manifest::Manifest;
 use std::alloc::{AllocError, Global};
 use takeover_core::{Message, Versions};
 
@@ -18,7 +19,7 @@ const CHECKOUT: &[u8] = b"commit 0123456789abcdef0123456789abcdef01234567\n";
 
 /// The image of `CHECKOUT` at generation 1, with no number given: magic, version, commit, generation, next number, next
 /// file, and three empty lists.
-const IMAGE: [u8; 62] = [
+static IMAGE: [u8; 62] = [
     0x45, 0x44, 0x54, 0x4b, 0x00, 0x01, 0x01, 0x23, 0x45, 0x67, 0x89, 0xab, 0xcd, 0xef, 0x01, 0x23,
     0x45, 0x67, 0x89, 0xab, 0xcd, 0xef, 0x01, 0x23, 0x45, 0x67, 0x00, 0x00, 0x00, 0x00, 0x00, 0x00,
     0x00, 0x01, 0x00, 0x00, 0x00, 0x00, 0x00, 0x00, 0x00, 0x02, 0x00, 0x00, 0x00, 0x00, 0x00, 0x00,
@@ -45,6 +46,21 @@ fn fed(alloc: Global, daemon: &mut Daemon, message: &Message) -> Result<Reaction
     }
 }
 
+/// Returns the turn of `daemon` by `message`, and tries once more if memory was refused.
+fn turn_by(
+    alloc: Global,
+    daemon: &Daemon,
+    manifest: &Manifest,
+    message: &Message,
+) -> Result<Turn, NoMemory>
+    requires no_part { brings_part (heard daemon.now.node (Hear message.now)) ≡ false }
+{
+    match daemon.hear(alloc, manifest, 8, message) {
+        Err(NoMemory) => daemon.hear(alloc, manifest, 8, message),
+        turn => turn,
+    }
+}
+
 /// Lets `daemon` hear `message`, and once more if memory was refused. Makes the turn that follows, and returns the
 /// reaction.
 fn heard(
@@ -56,227 +72,219 @@ fn heard(
     if daemon.is_fed_by(message) {
         return fed(alloc, daemon, message);
     }
-    let turn = match daemon.hear(alloc, manifest, 8, message) {
-        Err(NoMemory) => daemon.hear(alloc, manifest, 8, message)?,
-        Ok(turn) => turn,
-    };
-    Ok(daemon.turn(turn))
+    match turn_by(alloc, daemon, manifest, message) {
+        Ok(turn) => Ok(daemon.turn(turn)),
+        Err(NoMemory) => Err(NoMemory),
+    }
 }
 
 /// Returns `reaction` as a `Makes`.
-fn made(reaction: Result<Reaction, NoMemory>) -> Makes {
-    match &reaction {
-        Ok(Reaction::Heeds) => Makes::Holds,
-        Ok(Reaction::Ignores) => Makes::Ignores,
-        Ok(Reaction::Says(Message::Failed { session: 1 }, _)) => Makes::Fails,
-        _ => Makes::Other,
-    }
-}
-
-/// Makes the data of session 1 at generation 1: `IMAGE` with `byte` at the index `at`.
-fn data_with(alloc: Global, at: usize, byte: u8) -> Result<Message, AllocError> {
-    let mut bytes = Vec::new(alloc);
-    bytes.extend_from_slice(IMAGE.as_slice())?;
-    if let Some(place) = bytes.get_mut(at) {
-        *place = byte;
-    }
-    Ok(Message::Data {
-        session: 1,
-        generation: 1,
-        bytes: Bytes::of(bytes),
-    })
-}
-
-/// Returns the reaction of a new daemon in session 1 to `data`.
-fn makes_of(alloc: Global, manifest: &Manifest, data: &Message) -> Makes {
-    let mut daemon = Daemon::new(Versions::of(&[1]));
-    let choice = Message::Choice {
-        session: 1,
-        version: 1,
+fn made(reaction: &Result<Reaction, NoMemory>) -> Makes {
+    let Ok(reaction) = reaction else {
+        return Makes::Other;
     };
-    drop(heard(alloc, &mut daemon, manifest, &choice));
-    let makes = made(heard(alloc, &mut daemon, manifest, data));
-    drop(daemon);
+    match reaction {
+        Reaction::Heeds => Makes::Holds,
+        Reaction::Ignores => Makes::Ignores,
+        Reaction::Says(message, _others) => match message {
+            Message::Failed { session: 1 } => Makes::Fails,
+            _ => Makes::Other,
+        },
+    }
+}
+
+/// Returns the reaction of `daemon` to `message`.
+fn reacts(alloc: Global, daemon: &mut Daemon, manifest: &Manifest, message: &Message) -> Makes {
+    let reaction = heard(alloc, daemon, manifest, message);
+    let makes = made(&reaction);
+    drop(reaction);
     makes
 }
 
-/// Returns whether a new daemon reacts to `IMAGE`, with `byte` at the index `at`, as `expected`.
-fn is_made_of(alloc: Global, manifest: &Manifest, at: usize, byte: u8, expected: Makes) -> bool {
-    let data = match data_with(alloc, at, byte) {
-        Err(AllocError) => data_with(alloc, at, byte),
-        data => data,
-    };
-    match data {
-        Ok(data) => {
-            let makes = makes_of(alloc, manifest, &data);
-            drop(data);
-            makes == expected
-        }
-        Err(AllocError) => false,
+/// Returns the list of the versions up to the `greatest`.
+fn list_of(greatest: u16) -> Versions {
+    match greatest {
+        1 => Versions::of(&[1]),
+        2 => Versions::of(&[1, 2]),
+        _ => Versions::of(&[1, 2, 3]),
     }
 }
 
-/// `IMAGE` as it is, and with one byte changed: in the magic, commit, generation, next number and next file. Each row
-/// ends with the reaction.
-static DATA: [(usize, u8, Makes); 6] = [
-    (0, 0x45, Makes::Holds),
-    (0, 0x46, Makes::Fails),
-    (6, 0x02, Makes::Fails),
-    (33, 0x02, Makes::Fails),
-    (41, 0x01, Makes::Fails),
-    (49, 0x01, Makes::Fails),
-];
-
-/// Returns whether a new daemon reacts to the data of each row as the row says.
-fn makes_each(alloc: Global, manifest: &Manifest, rows: &[(usize, u8, Makes)]) -> bool {
-    for (at, byte, expected) in rows {
-        if !is_made_of(alloc, manifest, *at, *byte, *expected) {
-            return false;
-        }
-    }
-    true
-}
-
-/// Reads the manifest in `text`, and tries once more if memory was refused.
-fn manifest_from(alloc: Global, text: &[u8]) -> Result<Manifest, ManifestFault> {
-    match Manifest::read(alloc, text) {
-        Ok(manifest) => Ok(manifest),
-        Err(_refused) => Manifest::read(alloc, text),
-    }
-}
-
-/// Reads the manifest `CHECKOUT`.
-fn manifest_of(alloc: Global) -> Result<Manifest, ManifestFault> {
-    manifest_from(alloc, CHECKOUT)
-}
-
-/// Calls `makes_each` with the manifest `CHECKOUT`.
-fn makes_all(alloc: Global, rows: &[(usize, u8, Makes)]) -> bool {
-    match manifest_of(alloc) {
-        Ok(manifest) => {
-            let so = makes_each(alloc, &manifest, rows);
-            drop(manifest);
-            so
-        }
-        Err(_) => false,
-    }
-}
-
-#[test]
-fn says_failed_where_nothing_is_restored(rt: HostRuntime) {
-    assert!(rt; makes_all(rt.alloc(), &DATA));
-}
-
-/// A part of `IMAGE` in version 2: its position, the count of parts, the indexes where its bytes begin and end, and the
-/// reaction.
-type Row = (u32, u32, usize, usize, Makes);
-
-/// Makes the part of `row`, of session 1 at generation 1.
-fn part_of(alloc: Global, row: &Row) -> Result<Message, AllocError> {
-    let (position, count, from, to, _makes) = *row;
-    let mut bytes = Vec::new(alloc);
-    for (index, byte) in IMAGE.iter().enumerate() {
-        if from <= index && index < to {
-            bytes.push(if index == 5 { 2 } else { *byte })?;
-        }
-    }
-    Ok(Message::Part {
-        session: 1,
-        generation: 1,
-        position,
-        count,
-        bytes: Bytes::of(bytes),
-    })
-}
-
-/// Returns whether `daemon` reacts to the part of `row` as `row` says.
-fn takes_part(alloc: Global, manifest: &Manifest, daemon: &mut Daemon, row: &Row) -> bool {
-    let part = match part_of(alloc, row) {
-        Err(AllocError) => part_of(alloc, row),
-        part => part,
-    };
-    match part {
-        Ok(part) => {
-            let makes = made(heard(alloc, daemon, manifest, &part));
-            drop(part);
-            makes == row.4
-        }
-        Err(AllocError) => false,
-    }
-}
-
-/// Returns whether a new daemon reacts to the part of each row as the row says, and then wants to claim from
-/// `claims_from`.
-fn takes_parts(alloc: Global, manifest: &Manifest, rows: &[Row], claims_from: Option<u64>) -> bool {
-    let mut daemon = Daemon::new(Versions::of(&[1, 2]));
+/// Lets `daemon` hear that `version` is chosen in session 1.
+fn chooses(alloc: Global, daemon: &mut Daemon, manifest: &Manifest, version: u16) {
     let choice = Message::Choice {
         session: 1,
-        version: 2,
+        version,
     };
-    drop(heard(alloc, &mut daemon, manifest, &choice));
-    let mut so = true;
-    for row in rows {
-        so = so && takes_part(alloc, manifest, &mut daemon, row);
+    reacts(alloc, daemon, manifest, &choice);
+    drop(choice)
+}
+
+/// What a daemon hears in session 1 at generation 1.
+#[derive(Clone, Copy)]
+enum Hears {
+    /// `IMAGE` as data, with this byte at this index.
+    Data(usize, u8),
+    /// A part of `IMAGE` in version 2: its position, the count of parts, and the indexes where its bytes begin and end.
+    Part(u32, u32, usize, usize),
+}
+
+/// What a daemon hears, and its reaction.
+type Row = (Hears, Makes);
+
+/// What a new daemon hears one after another, and the generation from which it wants to claim then.
+type Case = (&'static [Row], Option<u64>);
+
+/// Returns the bytes of `IMAGE` from an index on and up to another one, with `byte` at the index `at`.
+fn image_with(
+    alloc: Global,
+    at: usize,
+    byte: u8,
+    from: usize,
+    to: usize,
+) -> Result<Vec<u8>, AllocError> {
+    let mut bytes = Vec::new(alloc);
+    for (index, own) in IMAGE.iter().enumerate() {
+        if from <= index && index < to {
+            bytes.push(if index == at { byte } else { *own })?;
+        }
     }
-    so = so && daemon.claim_wanted() == claims_from;
+    Ok(bytes)
+}
+
+/// Makes the message of `hears`.
+fn message_of(alloc: Global, hears: Hears) -> Result<Message, AllocError> {
+    match hears {
+        Hears::Data(at, byte) => Ok(Message::Data {
+            session: 1,
+            generation: 1,
+            bytes: Bytes::of(image_with(alloc, at, byte, 0, 62)?),
+        }),
+        Hears::Part(position, count, from, to) => Ok(Message::Part {
+            session: 1,
+            generation: 1,
+            position,
+            count,
+            bytes: Bytes::of(image_with(alloc, 5, 2, from, to)?),
+        }),
+    }
+}
+
+/// Makes the message of `hears`, and tries once more if memory was refused.
+fn message_again(alloc: Global, hears: Hears) -> Result<Message, AllocError> {
+    match message_of(alloc, hears) {
+        Err(AllocError) => message_of(alloc, hears),
+        message => message,
+    }
+}
+
+/// Returns whether `daemon` reacts to the message of `row` as `row` says.
+fn takes(alloc: Global, daemon: &mut Daemon, manifest: &Manifest, row: &Row) -> bool {
+    match message_again(alloc, row.0) {
+        Ok(message) => {
+            let makes = reacts(alloc, daemon, manifest, &message);
+            drop(message);
+            makes == row.1
+        }
+        Err(AllocError) => false,
+    }
+}
+
+/// Lets a new daemon with the versions up to `version` hear what `case` says in that version. Returns whether it reacts
+/// so.
+fn goes_so(alloc: Global, manifest: &Manifest, version: u16, case: &Case) -> bool {
+    let mut daemon = Daemon::new(list_of(version));
+    chooses(alloc, &mut daemon, manifest, version);
+    let mut so = true;
+    for row in case.0 {
+        so = so && takes(alloc, &mut daemon, manifest, row);
+    }
+    so = so && daemon.claim_wanted() == case.1;
     drop(daemon);
     so
 }
 
-/// Three parts, each of which is ignored out of turn.
-static IN_THREE: [Row; 8] = [
-    (2, 3, 20, 40, Makes::Ignores),
-    (1, 3, 0, 20, Makes::Holds),
-    (1, 3, 0, 20, Makes::Ignores),
-    (3, 3, 40, 62, Makes::Ignores),
-    (2, 4, 20, 40, Makes::Ignores),
-    (2, 3, 20, 40, Makes::Holds),
-    (3, 3, 40, 62, Makes::Holds),
-    (3, 3, 40, 62, Makes::Ignores),
-];
-
-static IN_ONE: [Row; 1] = [(1, 1, 0, 62, Makes::Holds)];
-
-/// A part with a bad count of parts: 0, or more than 65,536.
-static IN_NONE: [Row; 2] = [
-    (1, 0, 0, 62, Makes::Ignores),
-    (1, 65_537, 0, 62, Makes::Ignores),
-];
-
-/// A first part that begins no image. The daemon fails before the other parts come.
-static NO_IMAGE: [Row; 2] = [(1, 3, 4, 20, Makes::Fails), (2, 3, 20, 40, Makes::Ignores)];
-
-/// A last part without the last byte, at which the daemon fails.
-static LEFT_OUT: [Row; 3] = [
-    (1, 3, 0, 20, Makes::Holds),
-    (2, 3, 20, 40, Makes::Holds),
-    (3, 3, 40, 61, Makes::Fails),
-];
-
-/// A last part with a byte too many.
-static TOO_LONG: [Row; 2] = [(1, 2, 0, 61, Makes::Holds), (2, 2, 60, 62, Makes::Fails)];
-
-/// Calls `takes_parts` for each list of parts. A claim is wanted after the two lists that are a whole image, and after
-/// no other.
-fn takes_all(alloc: Global) -> bool {
-    let Ok(manifest) = manifest_of(alloc) else {
+/// Calls `goes_so` with each of `cases` and the manifest `CHECKOUT`.
+fn all_go_so(alloc: Global, version: u16, cases: &[Case]) -> bool {
+    let Ok(manifest) = manifest_of(alloc, CHECKOUT) else {
         return false;
     };
-    let mut so = takes_parts(alloc, &manifest, &IN_THREE, Some(1));
-    so = so && takes_parts(alloc, &manifest, &IN_ONE, Some(1));
-    for rows in [
-        IN_NONE.as_slice(),
-        NO_IMAGE.as_slice(),
-        LEFT_OUT.as_slice(),
-        TOO_LONG.as_slice(),
-    ] {
-        so = so && takes_parts(alloc, &manifest, rows, None);
+    let mut so = true;
+    for case in cases {
+        so = so && goes_so(alloc, &manifest, version, case);
     }
     drop(manifest);
     so
 }
 
+/// `IMAGE` as it is, and with one byte changed: in the magic, commit, generation, next number and next file.
+static DATA: [Case; 6] = [
+    (&[(Hears::Data(0, 0x45), Makes::Holds)], Some(1)),
+    (&[(Hears::Data(0, 0x46), Makes::Fails)], None),
+    (&[(Hears::Data(6, 0x02), Makes::Fails)], None),
+    (&[(Hears::Data(33, 0x02), Makes::Fails)], None),
+    (&[(Hears::Data(41, 0x01), Makes::Fails)], None),
+    (&[(Hears::Data(49, 0x01), Makes::Fails)], None),
+];
+
+#[test]
+fn says_failed_where_nothing_is_restored(rt: HostRuntime) {
+    assert!(rt; all_go_so(rt.alloc(), 1, &DATA));
+}
+
+/// A claim is wanted after the two lists of parts that are a whole image, and after no other.
+static PARTS: [Case; 6] = [
+    // Three parts, each of which is ignored out of turn.
+    (
+        &[
+            (Hears::Part(2, 3, 20, 40), Makes::Ignores),
+            (Hears::Part(1, 3, 0, 20), Makes::Holds),
+            (Hears::Part(1, 3, 0, 20), Makes::Ignores),
+            (Hears::Part(3, 3, 40, 62), Makes::Ignores),
+            (Hears::Part(2, 4, 20, 40), Makes::Ignores),
+            (Hears::Part(2, 3, 20, 40), Makes::Holds),
+            (Hears::Part(3, 3, 40, 62), Makes::Holds),
+            (Hears::Part(3, 3, 40, 62), Makes::Ignores),
+        ],
+        Some(1),
+    ),
+    (&[(Hears::Part(1, 1, 0, 62), Makes::Holds)], Some(1)),
+    // A part with a bad count of parts: 0, or more than 65,536.
+    (
+        &[
+            (Hears::Part(1, 0, 0, 62), Makes::Ignores),
+            (Hears::Part(1, 65_537, 0, 62), Makes::Ignores),
+        ],
+        None,
+    ),
+    // A first part that begins no image. The daemon fails before the other parts come.
+    (
+        &[
+            (Hears::Part(1, 3, 4, 20), Makes::Fails),
+            (Hears::Part(2, 3, 20, 40), Makes::Ignores),
+        ],
+        None,
+    ),
+    // A last part without the last byte, at which the daemon fails.
+    (
+        &[
+            (Hears::Part(1, 3, 0, 20), Makes::Holds),
+            (Hears::Part(2, 3, 20, 40), Makes::Holds),
+            (Hears::Part(3, 3, 40, 61), Makes::Fails),
+        ],
+        None,
+    ),
+    // A last part with a byte too many.
+    (
+        &[
+            (Hears::Part(1, 2, 0, 61), Makes::Holds),
+            (Hears::Part(2, 2, 60, 62), Makes::Fails),
+        ],
+        None,
+    ),
+];
+
 #[test]
 fn reads_parts_in_their_order_alone(rt: HostRuntime) {
-    assert!(rt; takes_all(rt.alloc()));
+    assert!(rt; all_go_so(rt.alloc(), 2, &PARTS));
 }

@@ -1,25 +1,22 @@
 //! A takeover by each pair of lists of versions, with a count below and above 2^32. What the old daemon serves comes from
 //! an image that the test makes.
-use super::{Makes, heard, made, manifest_from};
+use super::{Makes, chooses, heard, list_of, reacts};
+use crate::again::manifest_of;
 use byte_codec::Bytes;
 use daemon::{Daemon, Reaction};
-use eden_base::NoMemory;
 use manifest::Manifest;
 use std::alloc::{AllocError, Global};
-use takeover_core::{Message, Phase, Versions};
+use takeover_core::{Message, Phase};
 
 /// A manifest of one file, whose name is `a`.
 const CHECKOUT: &[u8] = b"commit 0123456789abcdef0123456789abcdef01234567
 file 0644 7 a
 ";
 
-const COMMIT: [u8; 20] = [
+static COMMIT: [u8; 20] = [
     0x01, 0x23, 0x45, 0x67, 0x89, 0xab, 0xcd, 0xef, 0x01, 0x23, 0x45, 0x67, 0x89, 0xab, 0xcd, 0xef,
     0x01, 0x23, 0x45, 0x67,
 ];
-
-/// The versions that a daemon may have. List 0 has the first of them, list 1 the first two, and list 2 all.
-const VERSIONS: [u16; 3] = [1, 2, 3];
 
 /// The greatest count of versions 1 and 2, and counts about it; the greatest count of all.
 static COUNTS: [u64; 5] = [
@@ -29,15 +26,6 @@ static COUNTS: [u64; 5] = [
     4_294_967_297,
     9_223_372_036_854_775_807,
 ];
-
-/// Returns the list of versions with this index.
-fn list_of(index: usize) -> Versions {
-    match index {
-        0 => Versions::of(&[1]),
-        1 => Versions::of(&[1, 2]),
-        _ => Versions::of(&[1, 2, 3]),
-    }
-}
 
 /// Appends `parts` to `bytes`, one after another.
 fn put(bytes: &mut Vec<u8>, parts: &[&[u8]]) -> Result<(), AllocError> {
@@ -90,10 +78,15 @@ fn image_of(
 }
 
 /// Makes the image once more if memory was refused.
-fn text_of(alloc: Global, version: u16, generation: u64, count: u64) -> Result<Vec<u8>, NoMemory> {
+fn text_of(
+    alloc: Global,
+    version: u16,
+    generation: u64,
+    count: u64,
+) -> Result<Vec<u8>, AllocError> {
     match image_of(alloc, version, generation, count) {
-        Ok(bytes) => Ok(bytes),
-        Err(AllocError) => Ok(image_of(alloc, version, generation, count)?),
+        Err(AllocError) => image_of(alloc, version, generation, count),
+        bytes => bytes,
     }
 }
 
@@ -116,15 +109,39 @@ fn message_of(version: u16, generation: u64, bytes: Vec<u8>) -> Message {
     }
 }
 
+/// Makes the message with which the image of `version` at `generation` with `count` is handed over in session 1, in the
+/// version `sent`.
+fn data_of(alloc: Global, sent: u16, version: u16, generation: u64, count: u64) -> Option<Message> {
+    match text_of(alloc, version, generation, count) {
+        Ok(bytes) => Some(message_of(sent, generation, bytes)),
+        Err(AllocError) => None,
+    }
+}
+
 /// Returns the message that is said in `reaction`, if there is one.
-fn said(reaction: Result<Reaction, NoMemory>) -> Option<Message> {
+fn said(reaction: Option<Reaction>) -> Option<Message> {
     match reaction {
-        Ok(Reaction::Says(message, others)) => {
+        Some(Reaction::Says(message, others)) => {
             drop(others);
             Some(message)
         }
         _ => None,
     }
+}
+
+/// Lets `daemon` hear `message`, if there is one. Returns the message that the daemon says, if there is one.
+fn answer_of(
+    alloc: Global,
+    daemon: &mut Daemon,
+    manifest: &Manifest,
+    message: Option<Message>,
+) -> Option<Message> {
+    let Some(message) = message else {
+        return None;
+    };
+    let answer = said(heard(alloc, daemon, manifest, &message).ok());
+    drop(message);
+    answer
 }
 
 /// Answers the claim of `daemon` with `next` if it holds data, and returns whether it serves at `next` then.
@@ -136,22 +153,23 @@ fn claims(daemon: &mut Daemon, next: u64) -> bool {
     false
 }
 
-/// Lets a new daemon with these `versions` take over the image of version 3 with `count`, and serve at generation 2.
-fn serving(alloc: Global, manifest: &Manifest, versions: Versions, count: u64) -> Option<Daemon> {
-    let text = text_of(alloc, 3, 1, count).ok()?;
-    let data = message_of(1, 1, text);
-    let choice = Message::Choice {
-        session: 1,
-        version: 1,
+/// Lets `daemon` take over the image of version 3 with `count`. Returns whether it serves at generation 2 then.
+fn serves(alloc: Global, daemon: &mut Daemon, manifest: &Manifest, count: u64) -> bool {
+    chooses(alloc, daemon, manifest, 1);
+    let data = data_of(alloc, 1, 3, 1, count);
+    drop(answer_of(alloc, daemon, manifest, data));
+    claims(daemon, 2)
+}
+
+/// Returns the version of `choice`, if it is a Choice.
+fn version_of(choice: &Option<Message>) -> Option<u16> {
+    let Some(message) = choice else {
+        return None;
     };
-    let mut daemon = Daemon::new(versions);
-    drop(heard(alloc, &mut daemon, manifest, &choice));
-    drop(heard(alloc, &mut daemon, manifest, &data));
-    drop(data);
-    if claims(&mut daemon, 2) {
-        return Some(daemon);
+    match message {
+        Message::Choice { version, .. } => Some(*version),
+        _ => None,
     }
-    None
 }
 
 /// Carries the messages of a takeover between `old` and `new`, up to that in which `old` hands its data over or says
@@ -161,43 +179,43 @@ fn handed(
     manifest: &Manifest,
     old: &mut Daemon,
     new: &mut Daemon,
-) -> Option<(u16, Message)> {
-    let offer = new.offer();
-    let choice = said(heard(alloc, old, manifest, &offer))?;
-    let Message::Choice { version, .. } = choice else {
-        return None;
-    };
-    drop(heard(alloc, new, manifest, &choice));
-    let ready = said(old.drain().map_err(|_| NoMemory))?;
-    let pong = said(heard(alloc, new, manifest, &ready))?;
-    let data = said(heard(alloc, old, manifest, &pong))?;
-    Some((version, data))
+) -> (Option<u16>, Option<Message>) {
+    let choice = answer_of(alloc, old, manifest, Some(new.offer()));
+    let version = version_of(&choice);
+    drop(answer_of(alloc, new, manifest, choice));
+    let ready = said(old.drain().ok());
+    let pong = answer_of(alloc, new, manifest, ready);
+    (version, answer_of(alloc, old, manifest, pong))
 }
 
 /// Returns whether `data` is the image of `version` at generation 2 with `count`.
 fn is_image(alloc: Global, data: &Message, version: u16, count: u64) -> bool {
-    match text_of(alloc, version, 2, count) {
-        Ok(bytes) => {
-            let expected = message_of(version, 2, bytes);
+    match data_of(alloc, version, version, 2, count) {
+        Some(expected) => {
             let so = *data == expected;
             drop(expected);
             so
         }
-        Err(NoMemory) => false,
+        None => false,
     }
 }
 
-/// Returns whether `data` is the image of `version` with `count`, and `new` holds it once it heard it.
+/// Returns whether `data` is the image of `version` with `count`, `old` handed it over, and `new` holds it once it heard
+/// it.
 fn is_held(
     alloc: Global,
     manifest: &Manifest,
+    old: &Daemon,
     new: &mut Daemon,
     version: u16,
     data: &Message,
     count: u64,
 ) -> bool {
-    let makes = made(heard(alloc, new, manifest, data));
-    is_image(alloc, data, version, count) && makes == Makes::Holds && new.claim_wanted() == Some(2)
+    let makes = reacts(alloc, new, manifest, data);
+    is_image(alloc, data, version, count)
+        && makes == Makes::Holds
+        && new.claim_wanted() == Some(2)
+        && matches!(old.phase(), Phase::Handed { .. })
 }
 
 /// Returns whether `data` is Failed, `old` serves on, and `new` is gone once it heard it.
@@ -208,7 +226,7 @@ fn is_served_on(
     new: &mut Daemon,
     data: &Message,
 ) -> bool {
-    drop(heard(alloc, new, manifest, data));
+    reacts(alloc, new, manifest, data);
     *data == Message::Failed { session: 1 }
         && old.phase() == Phase::Serving { generation: 2 }
         && new.phase() == Phase::Gone
@@ -224,48 +242,48 @@ fn goes_so(
     version: u16,
     count: u64,
 ) -> bool {
-    let Some((chosen, data)) = handed(alloc, manifest, old, new) else {
-        return false;
-    };
-    let so = if version < 3 && count > 4_294_967_295 {
-        is_served_on(alloc, manifest, old, new, &data)
-    } else {
-        is_held(alloc, manifest, new, version, &data, count)
-            && matches!(old.phase(), Phase::Handed { .. })
+    let (chosen, data) = handed(alloc, manifest, old, new);
+    let so = match &data {
+        Some(data) if version < 3 && count > 4_294_967_295 => {
+            is_served_on(alloc, manifest, old, new, data)
+        }
+        Some(data) => is_held(alloc, manifest, old, new, version, data, count),
+        None => false,
     };
     drop(data);
-    so && chosen == version
+    so && chosen == Some(version)
 }
 
-/// Calls `goes_so` with a daemon of the list `old` that serves `count`, and a new one of the list `new`. The greatest
-/// version that both have is chosen.
-fn is_taken_over(alloc: Global, manifest: &Manifest, old: usize, new: usize, count: u64) -> bool {
-    let Some(mut first) = serving(alloc, manifest, list_of(old), count) else {
-        return false;
-    };
+/// Calls `goes_so` with a daemon of the list `old` that serves `count`, and a new one of the list `new`. A list is named
+/// by its greatest version. The greatest version that both have is chosen.
+fn is_taken_over(alloc: Global, manifest: &Manifest, old: u16, new: u16, count: u64) -> bool {
+    let mut first = Daemon::new(list_of(old));
     let mut second = Daemon::new(list_of(new));
-    let version = VERSIONS[old.min(new).min(2)];
-    let so = goes_so(alloc, manifest, &mut first, &mut second, version, count);
+    let version = old.min(new);
+    let so = serves(alloc, &mut first, manifest, count)
+        && goes_so(alloc, manifest, &mut first, &mut second, version, count);
     drop(second);
     drop(first);
     so
 }
 
 /// Calls `is_taken_over` with each count of `COUNTS`.
-fn is_each_taken_over(alloc: Global, manifest: &Manifest, old: usize, new: usize) -> bool {
-    COUNTS
-        .iter()
-        .all(|count| is_taken_over(alloc, manifest, old, new, *count))
+fn is_each_taken_over(alloc: Global, manifest: &Manifest, old: u16, new: u16) -> bool {
+    let mut so = true;
+    for count in COUNTS.iter() {
+        so = so && is_taken_over(alloc, manifest, old, new, *count);
+    }
+    so
 }
 
 /// Calls `is_each_taken_over` with each pair of lists.
 fn are_all_taken_over(alloc: Global) -> bool {
-    let Ok(manifest) = manifest_from(alloc, CHECKOUT) else {
+    let Ok(manifest) = manifest_of(alloc, CHECKOUT) else {
         return false;
     };
     let mut so = true;
-    for pair in 0..9usize {
-        so = so && is_each_taken_over(alloc, &manifest, pair / 3, pair % 3);
+    for pair in 0..9u16 {
+        so = so && is_each_taken_over(alloc, &manifest, pair / 3 + 1, pair % 3 + 1);
     }
     drop(manifest);
     so
@@ -276,21 +294,15 @@ fn hands_over_in_each_version_or_serves_on(rt: HostRuntime) {
     assert!(rt; are_all_taken_over(rt.alloc()));
 }
 
-/// Returns the reaction of a new daemon of the list `own` to the image of `version` with `count`, sent as the greatest
-/// version that the daemon has is sent.
-fn makes_of(alloc: Global, manifest: &Manifest, own: usize, version: u16, count: u64) -> Makes {
-    let chosen = VERSIONS[own.min(2)];
-    let Ok(text) = text_of(alloc, version, 1, count) else {
+/// Returns the reaction of a new daemon with the versions up to `own` to the image of `version` with `count`, sent as
+/// version `own` is sent.
+fn makes_of(alloc: Global, manifest: &Manifest, own: u16, version: u16, count: u64) -> Makes {
+    let Some(data) = data_of(alloc, own, version, 1, count) else {
         return Makes::Other;
     };
-    let data = message_of(chosen, 1, text);
-    let choice = Message::Choice {
-        session: 1,
-        version: chosen,
-    };
     let mut daemon = Daemon::new(list_of(own));
-    drop(heard(alloc, &mut daemon, manifest, &choice));
-    let makes = made(heard(alloc, &mut daemon, manifest, &data));
+    chooses(alloc, &mut daemon, manifest, own);
+    let makes = reacts(alloc, &mut daemon, manifest, &data);
     drop(data);
     drop(daemon);
     makes
@@ -309,24 +321,22 @@ static IMAGES: [(u16, u64, Makes); 8] = [
 ];
 
 /// Returns whether a daemon of each list has the reaction to `image` that the image's row says.
-fn is_read_by_each(alloc: Global, manifest: &Manifest, image: (u16, u64, Makes)) -> bool {
-    let (version, count, expected) = image;
-    for own in 0..3usize {
-        if makes_of(alloc, manifest, own, version, count) != expected {
-            return false;
-        }
+fn is_read_by_each(alloc: Global, manifest: &Manifest, image: &(u16, u64, Makes)) -> bool {
+    let mut so = true;
+    for own in 1..4u16 {
+        so = so && makes_of(alloc, manifest, own, image.0, image.1) == image.2;
     }
-    true
+    so
 }
 
 /// Calls `is_read_by_each` with each row of `images`.
 fn are_all_read(alloc: Global, images: &[(u16, u64, Makes)]) -> bool {
-    let Ok(manifest) = manifest_from(alloc, CHECKOUT) else {
+    let Ok(manifest) = manifest_of(alloc, CHECKOUT) else {
         return false;
     };
     let mut so = true;
     for image in images {
-        so = so && is_read_by_each(alloc, &manifest, *image);
+        so = so && is_read_by_each(alloc, &manifest, image);
     }
     drop(manifest);
     so
