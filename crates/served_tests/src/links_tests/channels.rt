@@ -4,7 +4,6 @@ use eden_base::Errno;
 use fuse_wire::{Answer, Reply};
 use links::SocketChannel;
 use std::alloc::Global;
-use std::test::Fail;
 use workers::{Posted, Taken};
 
 /// The expected result of a `take`.

@@ -11,6 +11,8 @@ pub(crate) struct Pieces<'a> {
     pub later: usize,
     /// The position of the read that fails, or 0 if none fails.
     pub fails: usize,
+    /// How many more reads are interrupted.
+    pub interrupted: usize,
     pub reads: usize,
 }
 
@@ -19,6 +21,10 @@ impl Read for Pieces<'_> {
         self.reads = self.reads.saturating_add(1);
         if self.reads == self.fails {
             return Err(io::Error::from(ErrorKind::WouldBlock));
+        }
+        if self.interrupted > 0 {
+            self.interrupted -= 1;
+            return Err(io::Error::from(ErrorKind::Interrupted));
         }
         let most = if self.reads == 1 {
             self.first
@@ -32,57 +38,6 @@ impl Read for Pieces<'_> {
     }
 }
 
-/// A reader whose every read is interrupted.
-#[derive(Drop)]
-pub(crate) struct Interrupted {
-    pub reads: usize,
-}
-
-impl Read for Interrupted {
-    fn read(&mut self, _room: &mut [u8]) -> io::Result<usize> {
-        self.reads = self.reads.saturating_add(1);
-        Err(io::Error::from(ErrorKind::Interrupted))
-    }
-}
-
-/// Bytes that are read one at a time, after some reads that are interrupted.
-#[derive(Drop)]
-pub(crate) struct Late<'a> {
-    pub rest: &'a [u8],
-    /// How many more reads are interrupted.
-    pub interrupted: usize,
-}
-
-impl Read for Late<'_> {
-    fn read(&mut self, room: &mut [u8]) -> io::Result<usize> {
-        if self.interrupted > 0 {
-            self.interrupted -= 1;
-            return Err(io::Error::from(ErrorKind::Interrupted));
-        }
-        let count = room.len().min(self.rest.len()).min(1);
-        room[..count].copy_from_slice(&self.rest[..count]);
-        self.rest = &self.rest[count..];
-        Ok(count)
-    }
-}
-
-/// A writer whose every write is interrupted.
-#[derive(Drop)]
-pub(crate) struct NeverWritten {
-    pub writes: usize,
-}
-
-impl Write for NeverWritten {
-    fn write(&mut self, _bytes: &[u8]) -> io::Result<usize> {
-        self.writes = self.writes.saturating_add(1);
-        Err(io::Error::from(ErrorKind::Interrupted))
-    }
-
-    fn flush(&mut self) -> io::Result<()> {
-        Ok(())
-    }
-}
-
 /// A writer that appends a few bytes at a time to `held`.
 #[derive(Drop)]
 pub(crate) struct Sink {
@@ -91,8 +46,8 @@ pub(crate) struct Sink {
     pub most: usize,
     /// The position of the write that fails, or 0 if none fails.
     pub fails: usize,
-    /// Whether the first write is interrupted, and then every other one.
-    pub stutters: bool,
+    /// How many more writes are interrupted.
+    pub interrupted: usize,
     pub writes: usize,
 }
 
@@ -102,7 +57,8 @@ impl Write for Sink {
         if self.writes == self.fails {
             return Err(io::Error::from(ErrorKind::BrokenPipe));
         }
-        if self.stutters && self.writes % 2 == 1 {
+        if self.interrupted > 0 {
+            self.interrupted -= 1;
             return Err(io::Error::from(ErrorKind::Interrupted));
         }
         let count = self.most.min(bytes.len());
