@@ -1,15 +1,13 @@
 //! How rounds end whose channels run out of asks, stop, or break, and how a round ends that is asked to stop.
-ghost use Rattle.std.specs.Prelude.{◌≡◌, vec_len, IfOk};
-
-use super::rounds::{begun, serve};
+use super::rounds::serve;
 use super::scripted::{Rest, Scripted, Then};
+use crate::again::manifest_of;
 use crate::listed::LISTED;
 use eden_base::NoMemory;
 use manifest::Manifest;
 use std::alloc::Global;
 use std::sync::Wait;
 use std::sync::atomic::{AtomicU64, Ordering};
-use std::test::*;
 use std::thread::Threads;
 use workers::{Hook, NoHook, RoundFault, Stop};
 
@@ -62,9 +60,7 @@ fn two<'a>(
     first: Script,
     second: Script,
     posted: &'a AtomicU64,
-) -> Result<Vec<Scripted<'a>>, NoMemory>
-    ensures two { IfOk result (λ channels. vec_len channels ≡ 2) }
-{
+) -> Result<Vec<Scripted<'a>>, NoMemory> {
     let mut channels = Vec::with_capacity(alloc, 2)?;
     channels.push_reserved(Scripted::new(first.0, first.1, first.2, posted));
     channels.push_reserved(Scripted::new(second.0, second.1, second.2, posted));
@@ -87,14 +83,8 @@ fn ending_of<R: Threads + Wait + Sync, G: Hook + Sync>(
     channels: Vec<Scripted<'_>>,
     hook: &G,
     stop: &Stop,
-) -> Ended
-    requires channels { vec_len channels ≡ 2 }
-{
-    let Ok(served) = begun(alloc, manifest) else {
-        drop(channels);
-        return Ended::Otherwise;
-    };
-    let left = serve(rt, alloc, served, manifest, channels, 64, hook, stop);
+) -> Ended {
+    let left = serve(rt, alloc, manifest, channels, 64, hook, stop);
     let ended = match &left {
         Ok(round) => Ended::Well(round.journal.records().len()),
         Err(RoundFault::Broken(channels)) => broken_with(channels.as_slice()),
@@ -118,16 +108,27 @@ fn ends_so<R: Threads + Wait + Sync>(
     ending_of(rt, alloc, manifest, channels, &NoHook, &Stop::new()) == row.2
 }
 
-#[test]
-fn a_round_ends_as_its_channels_do(rt: HostRuntime) -> Result<(), Fail> {
-    let alloc = rt.alloc();
-    let manifest = Manifest::read(alloc, LISTED)?;
-    let all = ENDINGS
-        .iter()
-        .all(|row| ends_so(&rt, alloc, &manifest, row));
+/// Calls `ends_so` with each of `rows`, and returns whether all calls return true.
+fn all_end_so<R: Threads + Wait + Sync>(
+    rt: &R,
+    alloc: Global,
+    rows: &[(Script, Script, Ended)],
+) -> bool {
+    let Ok(manifest) = manifest_of(alloc, LISTED) else {
+        return false;
+    };
+    let mut so = true;
+    for row in rows {
+        so = so && ends_so(rt, alloc, &manifest, row);
+    }
     drop(manifest);
+    so
+}
+
+#[test]
+fn a_round_ends_as_its_channels_do(rt: HostRuntime) {
+    let all = all_end_so(&rt, rt.alloc(), &ENDINGS);
     assert!(rt; all);
-    Ok(())
 }
 
 /// A hook that asks for a stop after each reply, and sets `early` to 1 if no reply was posted before its call.
@@ -151,7 +152,10 @@ impl<'a> Hook for Stopping<'a> {
 
 /// Serves a round with a hook that asks for a stop after the first reply. Returns whether the round ends with one
 /// record, and the hook was called after the post.
-fn stops_at_one<R: Threads + Wait + Sync>(rt: &R, alloc: Global, manifest: &Manifest) -> bool {
+fn stops_at_one<R: Threads + Wait + Sync>(rt: &R, alloc: Global) -> bool {
+    let Ok(manifest) = manifest_of(alloc, LISTED) else {
+        return false;
+    };
     let posted = AtomicU64::new(0);
     let stop = Stop::new();
     let hook = Stopping {
@@ -159,21 +163,16 @@ fn stops_at_one<R: Threads + Wait + Sync>(rt: &R, alloc: Global, manifest: &Mani
         posted: &posted,
         early: AtomicU64::new(0),
     };
-    let three = (3, 9, Then::Empty);
-    let none = (0, 9, Then::Empty);
-    let Ok(channels) = two(alloc, three, none, &posted) else {
-        return false;
+    let ended = match two(alloc, (3, 9, Then::Empty), (0, 9, Then::Empty), &posted) {
+        Ok(channels) => ending_of(rt, alloc, &manifest, channels, &hook, &stop),
+        Err(NoMemory) => Ended::Otherwise,
     };
-    let ended = ending_of(rt, alloc, manifest, channels, &hook, &stop);
+    drop(manifest);
     ended == Ended::Well(1) && hook.early.load(Ordering::SeqCst) == 0
 }
 
 #[test]
-fn a_stop_from_within_a_round_is_seen_at_the_next_turn(rt: HostRuntime) -> Result<(), Fail> {
-    let alloc = rt.alloc();
-    let manifest = Manifest::read(alloc, LISTED)?;
-    let stops = stops_at_one(&rt, alloc, &manifest);
-    drop(manifest);
+fn a_stop_from_within_a_round_is_seen_at_the_next_turn(rt: HostRuntime) {
+    let stops = stops_at_one(&rt, rt.alloc());
     assert!(rt; stops);
-    Ok(())
 }

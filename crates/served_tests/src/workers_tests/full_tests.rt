@@ -1,14 +1,14 @@
 //! Rounds in which each worker takes all that it may.
-use super::rounds::{begun, channel, serve};
+use super::rounds::{channel, is_settled, serve};
+use crate::again::manifest_of;
 use crate::listed::LISTED;
 use checkout::ManifestBacking;
 use eden_base::NoMemory;
 use manifest::Manifest;
 use std::alloc::Global;
 use std::sync::Wait;
-use std::test::*;
 use std::thread::Threads;
-use workers::{MAX_CHANNELS, MemoryChannel, NoHook, Round, Stop, drain};
+use workers::{MemoryChannel, NoHook, Receipts, Round, Stop};
 
 /// The uniques of a channel's asks, which are one more than a worker takes.
 static UNIQUES: [u64; 65] = [7; 65];
@@ -25,16 +25,26 @@ fn channels_of(alloc: Global, count: usize) -> Result<Vec<MemoryChannel>, NoMemo
     Ok(channels)
 }
 
+/// Returns whether each channel was asked 64 times, and answered as often, and each worker kept as many receipts.
+fn are_full(channels: &[MemoryChannel], workers: &[Receipts]) -> bool {
+    let mut so = true;
+    for channel in channels {
+        so = so && channel.taken() == 64 && channel.replies().len() == 64;
+    }
+    for kept in workers {
+        so = so && kept.as_slice().len() == 64;
+    }
+    so
+}
+
 /// Returns whether each worker of `round` took and answered 64 asks, and the journal has as many records as `row` says.
 fn is_full(round: &Round<ManifestBacking<'_>, MemoryChannel>, row: &(usize, usize)) -> bool {
     let channels = round.channels.as_slice();
-    let receipts = round.receipts.as_slice();
+    let workers = round.receipts.as_slice();
     round.journal.records().len() == row.1
         && channels.len() == row.0
-        && channels.iter().all(|one| one.taken() == 64)
-        && channels.iter().all(|one| one.replies().len() == 64)
-        && receipts.len() == row.0
-        && receipts.iter().all(|kept| kept.as_slice().len() == 64)
+        && workers.len() == row.0
+        && are_full(channels, workers)
 }
 
 /// Returns whether a round over as many channels as `row` says is full, and settled.
@@ -44,35 +54,37 @@ fn fills<R: Threads + Wait + Sync>(
     manifest: &Manifest,
     row: &(usize, usize),
 ) -> bool {
-    let Ok(served) = begun(alloc, manifest) else {
-        return false;
-    };
     let Ok(channels) = channels_of(alloc, row.0) else {
-        drop(served);
         return false;
     };
-    if channels.is_empty() || channels.len() > MAX_CHANNELS {
-        drop(served);
-        drop(channels);
-        return false;
-    }
     let stop = Stop::new();
-    let Ok(round) = serve(rt, alloc, served, manifest, channels, 64, &NoHook, &stop) else {
+    match serve(rt, alloc, manifest, channels, 64, &NoHook, &stop) {
+        Ok(round) => {
+            let full = is_full(&round, row);
+            is_settled(alloc, round) == Some(true) && full
+        }
+        Err(fault) => {
+            drop(fault);
+            false
+        }
+    }
+}
+
+/// Calls `fills` with each of `rows`, and returns whether all calls return true.
+fn all_fill<R: Threads + Wait + Sync>(rt: &R, alloc: Global, rows: &[(usize, usize)]) -> bool {
+    let Ok(manifest) = manifest_of(alloc, LISTED) else {
         return false;
     };
-    let full = is_full(&round, row);
-    let drained = drain(alloc, round);
-    let settled = drained.is_ok();
-    drop(drained);
-    full && settled
+    let mut so = true;
+    for row in rows {
+        so = so && fills(rt, alloc, &manifest, row);
+    }
+    drop(manifest);
+    so
 }
 
 #[test]
-fn workers_take_all_that_they_may(rt: HostRuntime) -> Result<(), Fail> {
-    let alloc = rt.alloc();
-    let manifest = Manifest::read(alloc, LISTED)?;
-    let full = ROUNDS.iter().all(|row| fills(&rt, alloc, &manifest, row));
-    drop(manifest);
+fn workers_take_all_that_they_may(rt: HostRuntime) {
+    let full = all_fill(&rt, rt.alloc(), &ROUNDS);
     assert!(rt; full);
-    Ok(())
 }

@@ -1,7 +1,7 @@
 //! Rounds one after another in the same rooms. Their asks have the longest names and batches.
-ghost use Rattle.std.specs.Prelude.{◌≡◌, vec_len, IfOk, IfSome};
+ghost use Rattle.std.specs.Prelude.{◌≡◌, IfOk, IfSome};
 
-use super::rounds::begun;
+use super::rounds::{begun, serve_back};
 use crate::again::manifest_of;
 use crate::listed::LISTED;
 use checkout::ManifestBacking;
@@ -10,11 +10,9 @@ use fuse_wire::{Ask, Batch, Item, Reply, Request};
 use manifest::Manifest;
 use std::alloc::Global;
 use std::sync::Wait;
-use std::test::*;
 use std::thread::Threads;
 use workers::{
     Channel, NoHook, Posted, Returned, Rooms, Round, RoundFault, Settled, Stop, Taken, drain,
-    serve_round,
 };
 
 /// How many asks each channel gives.
@@ -87,9 +85,7 @@ fn longest_channel(alloc: Global) -> Result<Given, NoMemory> {
 }
 
 /// Makes two channels by `longest_channel`.
-fn two(alloc: Global) -> Result<Vec<Given>, NoMemory>
-    ensures two { IfOk result (λ channels. vec_len channels ≡ 2) }
-{
+fn two(alloc: Global) -> Result<Vec<Given>, NoMemory> {
     let mut channels = Vec::with_capacity(alloc, 2)?;
     channels.push_reserved(longest_channel(alloc)?);
     channels.push_reserved(longest_channel(alloc)?);
@@ -97,33 +93,38 @@ fn two(alloc: Global) -> Result<Vec<Given>, NoMemory>
 }
 
 /// The state between two rounds.
-type Between<'a> = Settled<ManifestBacking<'a>, Given>;
+type Between<'a> = Returned<ManifestBacking<'a>, Given>;
 
-/// Begins to serve `manifest` over the two channels of `two`, in `rooms`.
-fn begin<'a>(alloc: Global, manifest: &'a Manifest, rooms: Rooms) -> Result<Between<'a>, NoMemory>
+/// Begins to serve `manifest` over the two channels of `two`, in new rooms.
+fn begin<'a>(alloc: Global, manifest: &'a Manifest) -> Result<Between<'a>, NoMemory>
     ensures over { IfOk result (λ between. between.served.tree.manifest ≡ manifest.now) }
 {
-    let channels = two(alloc)?;
     let served = begun(alloc, manifest)?;
-    Ok(Settled {
-        rooms,
-        served,
-        backing: ManifestBacking::of(manifest),
-        channels,
-    })
+    match two(alloc) {
+        Ok(channels) => Ok(Returned {
+            rooms: Rooms::new(alloc),
+            served,
+            backing: ManifestBacking::of(manifest),
+            channels,
+        }),
+        Err(NoMemory) => {
+            drop(served);
+            Err(NoMemory)
+        }
+    }
 }
 
-/// Returns the parts of `back`, which a round gave back as memory was refused, as the state between two rounds.
-fn between_of(back: Returned<ManifestBacking<'_>, Given>) -> Between<'_>
-    ensures served { result.served ≡ back.entry.served }
+/// Returns the parts of `settled` as the state between two rounds.
+fn between_of(settled: Settled<ManifestBacking<'_>, Given>) -> Between<'_>
+    ensures served { result.served ≡ settled.entry.served }
 {
-    let Returned {
+    let Settled {
         rooms,
         served,
         backing,
         channels,
-    } = back;
-    Settled {
+    } = settled;
+    Returned {
         rooms,
         served,
         backing,
@@ -136,8 +137,8 @@ fn drained(alloc: Global, round: Round<ManifestBacking<'_>, Given>) -> Option<Be
     ensures served { IfSome result (λ between. between.served ≡ round.entry.served) }
 {
     match drain(alloc, round) {
-        Ok(settled) => Some(settled),
-        Err(RoundFault::NoMemory(back)) => Some(between_of(back)),
+        Ok(settled) => Some(between_of(settled)),
+        Err(RoundFault::NoMemory(back)) => Some(back),
         Err(_other) => None,
     }
 }
@@ -152,78 +153,38 @@ fn next<'a, R: Threads + Wait + Sync>(
     requires over { between.served.tree.manifest ≡ manifest.now }
     ensures over { IfSome result (λ after. after.served.tree.manifest ≡ manifest.now) }
 {
-    let Settled {
-        rooms,
-        served,
-        backing,
-        channels,
-    } = between;
-    drop(backing);
-    let backing = ManifestBacking::of(manifest);
-    if channels.len() != 2 {
-        drop(rooms);
-        drop(served);
-        drop(channels);
-        return None;
-    }
     let stop = Stop::new();
-    match serve_round(
-        rt, alloc, rooms, served, backing, channels, 64, &NoHook, &stop,
-    ) {
+    match serve_back(rt, alloc, manifest, between, 64, &NoHook, &stop) {
         Ok(round) => drained(alloc, round),
-        Err(RoundFault::NoMemory(back)) => Some(between_of(back)),
+        Err(RoundFault::NoMemory(back)) => Some(back),
         Err(_other) => None,
     }
 }
 
-/// Returns whether each channel gave all its asks, and took replies to half of them.
-fn are_done(channels: &[Given]) -> bool {
-    channels
-        .iter()
-        .all(|one| one.asks.is_empty() && one.replies == ASKS / 2)
-}
-
-/// Serves `rounds` rounds one after another. Returns whether they take all asks, and leave rooms for two channels of 64
-/// turns.
-fn take_all<R: Threads + Wait + Sync>(
+/// Serves `rounds` rounds one after another. Returns what they leave, or none if memory was refused at first.
+fn after<'a, R: Threads + Wait + Sync>(
     rt: &R,
     alloc: Global,
-    manifest: &Manifest,
+    manifest: &'a Manifest,
     rounds: usize,
-) -> Option<bool> {
-    let mut between = begin(alloc, manifest, Rooms::new(alloc)).ok()?;
+) -> Option<Between<'a>> {
+    let mut between = begin(alloc, manifest).ok();
     for _round in 0..rounds {
-        between = next(rt, alloc, manifest, between)?;
+        between = match between {
+            Some(between) => next(rt, alloc, manifest, between),
+            None => None,
+        };
     }
-    let done = are_done(&between.channels) && between.rooms.fit(2, 64);
-    drop(between);
-    Some(done)
+    between
 }
 
-/// If memory suffices, one round takes all asks: no worker stops because memory for a copy was refused.
-#[test]
-fn a_round_takes_the_longest_asks(rt: HostRuntime) -> Result<(), Fail> {
-    let alloc = rt.alloc();
-    let manifest = manifest_of(alloc, LISTED)?;
-    let done = take_all(&rt, alloc, &manifest, 1) == Some(true)
-        || take_all(&rt, alloc, &manifest, 1) == Some(true);
-    drop(manifest);
-    assert!(rt; done);
-    Ok(())
-}
-
-/// Passes also if one allocation is refused: a worker that stops loses no ask, and the next round takes the rest.
-#[test]
-fn a_second_round_takes_what_is_left(rt: HostRuntime) -> Result<(), Fail> {
-    let alloc = rt.alloc();
-    let manifest = manifest_of(alloc, LISTED)?;
-    let done = match take_all(&rt, alloc, &manifest, 2) {
-        None => take_all(&rt, alloc, &manifest, 2),
-        told => told,
-    };
-    drop(manifest);
-    assert!(rt; done == Some(true));
-    Ok(())
+/// Returns whether each channel gave all its asks, and took replies to half of them.
+fn are_done(channels: &[Given]) -> bool {
+    let mut so = true;
+    for one in channels {
+        so = so && one.asks.is_empty() && one.replies == ASKS / 2;
+    }
+    so
 }
 
 /// Rows: channels, turns, and whether they fit in the rooms that a round of two channels and 64 turns left.
@@ -236,37 +197,69 @@ static FITS: [(usize, usize, bool); 6] = [
     (3, 64, false),
 ];
 
-/// Runs a round, and returns whether `fit` of its rooms answers as each row of `FITS` says.
-fn fit_as_told<R: Threads + Wait + Sync>(
+/// Returns whether `fit` of `rooms` answers as each of `rows` says.
+fn are_fit(rooms: &Rooms, rows: &[(usize, usize, bool)]) -> bool {
+    let mut so = true;
+    for (channels, turns, fits) in rows {
+        so = so
+            && *channels >= 1
+            && *channels <= 16
+            && *turns <= 4096
+            && rooms.fit(*channels, *turns) == *fits;
+    }
+    so
+}
+
+/// Serves `rounds` rounds one after another. Returns whether they take all asks, and leave rooms as `FITS` says.
+fn take_all<R: Threads + Wait + Sync>(
     rt: &R,
     alloc: Global,
     manifest: &Manifest,
+    rounds: usize,
 ) -> Option<bool> {
-    let between = begin(alloc, manifest, Rooms::new(alloc)).ok()?;
-    let Settled {
-        rooms,
-        served,
-        backing,
-        channels,
-    } = next(rt, alloc, manifest, between)?;
-    drop(served);
-    drop(backing);
-    drop(channels);
-    let told = FITS.iter().all(|row| row.0 >= 1
-        && row.0 <= 16
-        && row.1 <= 4096
-        && rooms.fit(row.0, row.1) == row.2);
-    drop(rooms);
-    Some(told)
+    let between = after(rt, alloc, manifest, rounds);
+    let told = match &between {
+        Some(between) => Some(are_done(&between.channels) && are_fit(&between.rooms, &FITS)),
+        None => None,
+    };
+    drop(between);
+    told
+}
+
+/// Returns whether one round takes all asks if memory suffices: then no worker stops because memory for a copy was
+/// refused.
+fn is_taken_at_once<R: Threads + Wait + Sync>(rt: &R, alloc: Global) -> bool {
+    let Ok(manifest) = manifest_of(alloc, LISTED) else {
+        return false;
+    };
+    let so = take_all(rt, alloc, &manifest, 1) == Some(true)
+        || take_all(rt, alloc, &manifest, 1) == Some(true);
+    drop(manifest);
+    so
 }
 
 #[test]
-fn rooms_fit_what_they_were_made_for(rt: HostRuntime) -> Result<(), Fail> {
-    let alloc = rt.alloc();
-    let manifest = manifest_of(alloc, LISTED)?;
-    let told = fit_as_told(&rt, alloc, &manifest) == Some(true)
-        || fit_as_told(&rt, alloc, &manifest) == Some(true);
+fn a_round_takes_the_longest_asks(rt: HostRuntime) {
+    let done = is_taken_at_once(&rt, rt.alloc());
+    assert!(rt; done);
+}
+
+/// Returns whether two rounds take all asks, also if one allocation is refused: a worker that stops loses no ask, and
+/// the next round takes the rest.
+fn is_taken_in_two<R: Threads + Wait + Sync>(rt: &R, alloc: Global) -> bool {
+    let Ok(manifest) = manifest_of(alloc, LISTED) else {
+        return false;
+    };
+    let done = match take_all(rt, alloc, &manifest, 2) {
+        None => take_all(rt, alloc, &manifest, 2),
+        told => told,
+    };
     drop(manifest);
-    assert!(rt; told);
-    Ok(())
+    done == Some(true)
+}
+
+#[test]
+fn a_second_round_takes_what_is_left(rt: HostRuntime) {
+    let done = is_taken_in_two(&rt, rt.alloc());
+    assert!(rt; done);
 }

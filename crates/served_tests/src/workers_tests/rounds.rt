@@ -1,5 +1,6 @@
 //! Rounds of two channels, and what these rounds leave, as counts.
-ghost use Rattle.std.specs.Prelude.{◌≡◌, ◌≤◌, vec_len, IfOk};
+ghost use Rattle.std.specs.Prelude.{◌≡◌, ◌≤◌, IfErr, IfOk};
+ghost use Rattle.workers.specs.Faults.{GivesBack};
 
 use crate::listed::LISTED;
 use checkout::ManifestBacking;
@@ -8,11 +9,12 @@ use fuse_ops::Served;
 use fuse_wire::{Ask, Request};
 use manifest::Manifest;
 use std::alloc::Global;
+use std::mem::replace;
 use std::sync::Wait;
 use std::thread::Threads;
 use workers::{
-    Channel, Hook, MAX_CHANNELS, MemoryChannel, NoHook, Receipts, Rooms, Round, RoundFault, Stop,
-    drain, serve_round,
+    Channel, Hook, MAX_CHANNELS, MemoryChannel, NoHook, Receipt, Receipts, Returned, Rooms, Round,
+    RoundFault, Stop, drain, serve_round,
 };
 
 /// Makes a channel with a GETATTR of the root for each of `uniques`.
@@ -63,28 +65,30 @@ fn first_place(receipts: &[Receipts], worker: usize) -> Option<usize> {
     Some(receipt.position)
 }
 
-/// Returns `receipts` with `change` made, or none if there are too few of them.
-fn changed(alloc: Global, receipts: Receipts, change: Change) -> Option<Receipts> {
-    let mut list = receipts.into_list();
+/// Makes `change` in `list`, and returns whether it has enough receipts for that.
+fn is_changed(list: &mut Vec<Receipt>, change: Change) -> bool {
     match change {
-        Change::None => {}
-        Change::TakeOut => drop(list.pop()?),
+        Change::None => true,
+        Change::TakeOut => list.pop().is_some(),
         Change::Exchange => {
-            if list.len() < 2 {
-                return None;
+            let is_enough = list.len() >= 2;
+            if is_enough {
+                list.swap(0, 1);
             }
-            list.swap(0, 1)
+            is_enough
         }
     }
-    Some(Receipts::of(alloc, list))
 }
 
-/// Makes `change` in the receipts of the first of two workers, or returns none if there are too few of them.
-fn change_first(alloc: Global, workers: &mut Vec<Receipts>, change: Change) -> Option<()> {
-    let others = workers.pop()?;
-    let kept = workers.pop()?;
-    workers.push(changed(alloc, kept, change)?).ok()?;
-    workers.push(others).ok()
+/// Makes `change` in the receipts of the first worker, and returns whether there are enough of them.
+fn is_first_changed(alloc: Global, workers: &mut Vec<Receipts>, change: Change) -> bool {
+    let Some(kept) = workers.get_mut(0) else {
+        return false;
+    };
+    let mut list = replace(kept, Receipts::of(alloc, Vec::new(alloc))).into_list();
+    let so = is_changed(&mut list, change);
+    drop(replace(kept, Receipts::of(alloc, list)));
+    so
 }
 
 /// Returns what `round` left, but with `is_settled` false.
@@ -101,7 +105,10 @@ fn numbers_of(round: &Round<ManifestBacking<'_>, MemoryChannel>) -> Option<Left>
 }
 
 /// Drains `round`, and returns whether it was settled, or none if memory was refused.
-fn is_settled(alloc: Global, round: Round<ManifestBacking<'_>, MemoryChannel>) -> Option<bool> {
+pub(crate) fn is_settled(
+    alloc: Global,
+    round: Round<ManifestBacking<'_>, MemoryChannel>,
+) -> Option<bool> {
     let drained = drain(alloc, round);
     let is_settled = match &drained {
         Ok(_settled) => Some(true),
@@ -121,52 +128,76 @@ fn told_of(
 ) -> Option<Left> {
     let mut round = round;
     let told = numbers_of(&round);
-    let changed = change_first(alloc, &mut round.receipts, change);
+    let is_changed = is_first_changed(alloc, &mut round.receipts, change);
     let is_settled = is_settled(alloc, round);
-    changed?;
-    let mut told = told?;
-    told.is_settled = is_settled?;
-    Some(told)
+    match (told, is_settled) {
+        (Some(told), Some(is_settled)) if is_changed => Some(Left { is_settled, ..told }),
+        _ => None,
+    }
 }
 
-/// Serves a round over `manifest` in new rooms. If memory was refused, serves the round once more with all that was
-/// given back.
+/// Serves a round over what `back` has, with `manifest` as the backing. Drops all and returns Unsettled if there is no
+/// channel, or more than 16.
+pub(crate) fn serve_back<'a, C: Channel + Drop + Send, G: Hook + Sync, R: Threads + Wait + Sync>(
+    rt: &R,
+    alloc: Global,
+    manifest: &'a Manifest,
+    back: Returned<ManifestBacking<'a>, C>,
+    turns: usize,
+    hook: &G,
+    stop: &Stop,
+) -> Result<Round<ManifestBacking<'a>, C>, RoundFault<ManifestBacking<'a>, C>>
+    requires over { back.served.tree.manifest ≡ manifest.now }
+    requires turns { (1 ≤ turns) × (turns ≤ 4096) }
+    ensures over { IfOk result (λ round. round.served.tree.manifest ≡ manifest.now) }
+    ensures given_back { IfErr result (GivesBack back.entry.served manifest.now back.entry.channels.items) }
+{
+    if back.channels.is_empty() || back.channels.len() > MAX_CHANNELS {
+        drop(back);
+        return Err(RoundFault::Unsettled);
+    }
+    let Returned {
+        rooms,
+        served,
+        backing,
+        channels,
+    } = back;
+    drop(backing);
+    let backing = ManifestBacking::of(manifest);
+    serve_round(
+        rt, alloc, rooms, served, backing, channels, turns, hook, stop,
+    )
+}
+
+/// Begins to serve `manifest`, and serves a round over `channels` in new rooms. If memory was refused, serves the round
+/// once more with all that was given back. Returns Unsettled if memory was refused before the round.
 pub(crate) fn serve<'a, C: Channel + Drop + Send, G: Hook + Sync, R: Threads + Wait + Sync>(
     rt: &R,
     alloc: Global,
-    served: Served,
     manifest: &'a Manifest,
     channels: Vec<C>,
     turns: usize,
     hook: &G,
     stop: &Stop,
 ) -> Result<Round<ManifestBacking<'a>, C>, RoundFault<ManifestBacking<'a>, C>>
-    requires over { served.tree.manifest ≡ manifest.now }
-    requires channels { (1 ≤ vec_len channels) × (vec_len channels ≤ 16) }
     requires turns { (1 ≤ turns) × (turns ≤ 4096) }
 {
-    let backing = ManifestBacking::of(manifest);
-    let rooms = Rooms::new(alloc);
-    let back = match serve_round(
-        rt, alloc, rooms, served, backing, channels, turns, hook, stop,
-    ) {
-        Err(RoundFault::NoMemory(back)) => back,
-        told => return told,
+    let Ok(served) = begun(alloc, manifest) else {
+        drop(channels);
+        return Err(RoundFault::Unsettled);
     };
-    if back.channels.is_empty() || back.channels.len() > MAX_CHANNELS {
-        return Err(RoundFault::NoMemory(back));
+    let new = Returned {
+        rooms: Rooms::new(alloc),
+        served,
+        backing: ManifestBacking::of(manifest),
+        channels,
+    };
+    match serve_back(rt, alloc, manifest, new, turns, hook, stop) {
+        Err(RoundFault::NoMemory(back)) => {
+            serve_back(rt, alloc, manifest, back, turns, hook, stop)
+        }
+        told => told,
     }
-    serve_round(
-        rt,
-        alloc,
-        back.rooms,
-        back.served,
-        back.backing,
-        back.channels,
-        turns,
-        hook,
-        stop,
-    )
 }
 
 /// Makes two channels, with asks of the uniques `first` and `second`.
@@ -174,34 +205,23 @@ fn two_channels(
     alloc: Global,
     first: &[u64],
     second: &[u64],
-) -> Result<Vec<MemoryChannel>, NoMemory>
-    ensures two { IfOk result (λ channels. vec_len channels ≡ 2) }
-{
+) -> Result<Vec<MemoryChannel>, NoMemory> {
     let mut channels = Vec::with_capacity(alloc, 2)?;
     channels.push_reserved(channel(alloc, first)?);
     channels.push_reserved(channel(alloc, second)?);
     Ok(channels)
 }
 
-/// Begins to serve `manifest`, serves a round over `channels`, and returns what the round left.
-fn left_over<G: Hook + Sync, R: Threads + Wait + Sync>(
-    rt: &R,
+/// Returns what the round of `left` left, by `told_of`.
+fn told_by(
     alloc: Global,
-    manifest: &Manifest,
-    channels: Vec<MemoryChannel>,
-    turns: usize,
-    hook: &G,
-    stop: &Stop,
+    left: Result<
+        Round<ManifestBacking<'_>, MemoryChannel>,
+        RoundFault<ManifestBacking<'_>, MemoryChannel>,
+    >,
     change: Change,
-) -> Option<Left>
-    requires channels { (1 ≤ vec_len channels) × (vec_len channels ≤ 16) }
-    requires turns { (1 ≤ turns) × (turns ≤ 4096) }
-{
-    let Ok(served) = begun(alloc, manifest) else {
-        drop(channels);
-        return None;
-    };
-    match serve(rt, alloc, served, manifest, channels, turns, hook, stop) {
+) -> Option<Left> {
+    match left {
         Ok(round) => told_of(alloc, round, change),
         Err(fault) => {
             drop(fault);
@@ -227,7 +247,10 @@ pub(crate) fn round<G: Hook + Sync, R: Threads + Wait + Sync>(
         return None;
     };
     let told = match two_channels(alloc, first, second) {
-        Ok(channels) => left_over(rt, alloc, &manifest, channels, turns, hook, stop, change),
+        Ok(channels) => {
+            let left = serve(rt, alloc, &manifest, channels, turns, hook, stop);
+            told_by(alloc, left, change)
+        }
         Err(NoMemory) => None,
     };
     drop(manifest);
