@@ -1,6 +1,7 @@
 //! Lookups in the state that a desk lends, and the manifests of these tests.
 ghost use Rattle.std.specs.Prelude.{◌≡◌};
 
+use crate::again::are_put;
 use checkout::ManifestBacking;
 use daemon::Lease;
 use eden_base::{Name, Number};
@@ -18,23 +19,38 @@ const NAME_LEN: usize = 255;
 /// The letters of the long names. Each name is one letter again and again.
 const LETTERS: &[u8; 16] = b"abcdefghijklmnop";
 
+/// Returns the number of `answer`, if it is an entry.
+fn number_in(answer: Option<Answer>) -> Option<u64> {
+    match answer {
+        Some(Answer::Entry { number, .. }) => Some(number.0),
+        _ => None,
+    }
+}
+
+/// Makes the request to look `name` up in the root, if memory suffices.
+fn lookup_of(alloc: Global, name: &[u8]) -> Option<Request> {
+    match Name::parse(alloc, name) {
+        Ok(name) => Some(Request::Lookup {
+            dir: Number::ROOT,
+            name,
+        }),
+        Err(_refused) => None,
+    }
+}
+
 /// Looks `name` up in the root, and returns its number, or none.
 fn number_of(alloc: Global, manifest: &Manifest, served: &mut Served, name: &[u8]) -> Option<u64>
     requires over { served.old.tree.manifest ≡ manifest.now }
     ensures same_manifest { served.new.tree.manifest ≡ served.old.tree.manifest }
 {
-    let request = Request::Lookup {
-        dir: Number::ROOT,
-        name: Name::parse(alloc, name).ok()?,
+    let Some(request) = lookup_of(alloc, name) else {
+        return None;
     };
     let mut backing = ManifestBacking::of(manifest);
     let answer = served.apply(alloc, &mut backing, &request);
     drop(backing);
     drop(request);
-    match answer {
-        Some(Answer::Entry { number, .. }) => Some(number.0),
-        _ => None,
-    }
+    number_in(answer)
 }
 
 /// Calls `number_of`, and once more if the first call returned none.
@@ -42,10 +58,10 @@ fn found_number(alloc: Global, manifest: &Manifest, served: &mut Served, name: &
     requires over { served.old.tree.manifest ≡ manifest.now }
     ensures same_manifest { served.new.tree.manifest ≡ served.old.tree.manifest }
 {
-    if let Some(number) = number_of(alloc, manifest, served, name) {
-        return Some(number);
+    match number_of(alloc, manifest, served, name) {
+        None => number_of(alloc, manifest, served, name),
+        number => number,
     }
-    number_of(alloc, manifest, served, name)
 }
 
 /// Looks `name` up in the state of `lease`. Returns whether it has this number.
@@ -69,20 +85,20 @@ pub(super) fn are_found(alloc: Global, lease: &mut Lease, first: u64, is_each: b
     so
 }
 
-/// Appends `bytes` to `text`, and tries once more if memory was refused.
-fn is_put(text: &mut Vec<u8>, bytes: &[u8]) -> bool {
-    text.extend_from_slice(bytes).is_ok() || text.extend_from_slice(bytes).is_ok()
-}
-
 /// Appends the text of a manifest of one directory, and of a file with each long name. Returns whether memory sufficed.
 pub(super) fn is_long_put(text: &mut Vec<u8>) -> bool {
-    let mut so = is_put(text, CHECKOUT);
+    let mut so = are_put(text, &[CHECKOUT]);
     for letter in LETTERS {
         let name = [*letter; NAME_LEN];
         so = so
-            && is_put(text, b"file 0644 0 ")
-            && is_put(text, name.as_slice())
-            && is_put(text, b"\n");
+            && are_put(
+                text,
+                &[
+                    b"file 0644 0 ".as_slice(),
+                    name.as_slice(),
+                    b"\n".as_slice(),
+                ],
+            );
     }
     so
 }

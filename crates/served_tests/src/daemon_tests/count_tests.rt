@@ -1,11 +1,11 @@
 //! A takeover by each pair of lists of versions, with a count below and above 2^32. What the old daemon serves comes from
 //! an image that the test makes.
 use super::{Makes, chooses, heard, list_of, reacts};
-use crate::again::manifest_of;
+use crate::again::{are_put, manifest_of};
 use byte_codec::Bytes;
 use daemon::{Daemon, Reaction};
 use manifest::Manifest;
-use std::alloc::{AllocError, Global};
+use std::alloc::Global;
 use takeover_core::{Message, Phase};
 
 /// A manifest of one file, whose name is `a`.
@@ -27,14 +27,6 @@ static COUNTS: [u64; 5] = [
     9_223_372_036_854_775_807,
 ];
 
-/// Appends `parts` to `bytes`, one after another.
-fn put(bytes: &mut Vec<u8>, parts: &[&[u8]]) -> Result<(), AllocError> {
-    for part in parts {
-        bytes.extend_from_slice(part)?;
-    }
-    Ok(())
-}
-
 /// Returns the bytes of a count in `version`: all eight, or the four last ones.
 fn width_in(version: u16, count: &[u8; 8]) -> &[u8] {
     if version == 3 {
@@ -44,17 +36,11 @@ fn width_in(version: u16, count: &[u8; 8]) -> &[u8] {
     low
 }
 
-/// Makes the image of `version` at `generation` in which `a` has number 2 and `count`.
-fn image_of(
-    alloc: Global,
-    version: u16,
-    generation: u64,
-    count: u64,
-) -> Result<Vec<u8>, AllocError> {
+/// Appends the image of `version` at `generation` in which `a` has number 2 and `count`. Returns whether memory sufficed.
+fn is_image_put(bytes: &mut Vec<u8>, version: u16, generation: u64, count: u64) -> bool {
     let wide = count.to_be_bytes();
-    let mut bytes = Vec::new(alloc);
-    put(
-        &mut bytes,
+    are_put(
+        bytes,
         &[
             b"EDTK".as_slice(),
             version.to_be_bytes().as_slice(),
@@ -73,21 +59,7 @@ fn image_of(
             // no file was made, and no link changed
             [0; 8].as_slice(),
         ],
-    )?;
-    Ok(bytes)
-}
-
-/// Makes the image once more if memory was refused.
-fn text_of(
-    alloc: Global,
-    version: u16,
-    generation: u64,
-    count: u64,
-) -> Result<Vec<u8>, AllocError> {
-    match image_of(alloc, version, generation, count) {
-        Err(AllocError) => image_of(alloc, version, generation, count),
-        bytes => bytes,
-    }
+    )
 }
 
 /// Makes the message with which `bytes` are handed over in session 1, in `version`: whole, or as the only part.
@@ -112,10 +84,12 @@ fn message_of(version: u16, generation: u64, bytes: Vec<u8>) -> Message {
 /// Makes the message with which the image of `version` at `generation` with `count` is handed over in session 1, in the
 /// version `sent`.
 fn data_of(alloc: Global, sent: u16, version: u16, generation: u64, count: u64) -> Option<Message> {
-    match text_of(alloc, version, generation, count) {
-        Ok(bytes) => Some(message_of(sent, generation, bytes)),
-        Err(AllocError) => None,
+    let mut bytes = Vec::new(alloc);
+    if is_image_put(&mut bytes, version, generation, count) {
+        return Some(message_of(sent, generation, bytes));
     }
+    drop(bytes);
+    None
 }
 
 /// Returns the message that is said in `reaction`, if there is one.

@@ -1,4 +1,5 @@
 //! A channel over memory: what it hears, what its calls return, and what it says.
+use crate::again::are_put;
 use broker_core::TakeFault;
 use eden_base::Errno;
 use fuse_wire::{Answer, Reply};
@@ -6,42 +7,47 @@ use links::SocketChannel;
 use std::alloc::Global;
 use workers::{Posted, Taken};
 
-/// The expected result of a `take`.
-enum Expected {
+/// What a `take` or a `post` gives.
+#[derive(Clone, Copy, PartialEq, Eq)]
+enum Comes {
     /// An ask of this unique.
     Ask(u64),
     Empty,
-    Stopped(TakeFault),
-    /// Broken, and why the broker has no more, if it said so.
-    Broken(Option<TakeFault>),
+    Stopped,
+    Broken,
+    Posted,
 }
 
-/// What the broker says, in parts of its bytes, and the result of a `take`.
+/// What the broker says, in parts of its bytes; what a call gives; why the broker has no more, if it said so; and what
+/// the channel says behind the text of the call.
 struct Row {
     hears: &'static [&'static [u8]],
-    taken: Expected,
-    /// What the channel says after its Take.
+    gives: Comes,
+    ended: Option<TakeFault>,
     says: &'static [u8],
 }
 
 /// The text of a Take at generation 1.
 static TAKE: [u8; 13] = [0, 0, 0, 8, 1, 0, 0, 0, 0, 0, 0, 0, 1];
 
-static ROWS: [Row; 17] = [
+static TAKES: [Row; 17] = [
     // Three rows: Empty; Ended; Stale, with the seat at generation 2.
     Row {
         hears: &[&[0, 0, 0, 0, 3]],
-        taken: Expected::Empty,
+        gives: Comes::Empty,
+        ended: None,
         says: &[],
     },
     Row {
         hears: &[&[0, 0, 0, 0, 6]],
-        taken: Expected::Stopped(TakeFault::Ended),
+        gives: Comes::Stopped,
+        ended: Some(TakeFault::Ended),
         says: &[],
     },
     Row {
         hears: &[&[0, 0, 0, 8, 7, 0, 0, 0, 0, 0, 0, 0, 2]],
-        taken: Expected::Stopped(TakeFault::Stale(2)),
+        gives: Comes::Stopped,
+        ended: Some(TakeFault::Stale(2)),
         says: &[],
     },
     // An Ask: GETATTR of the root, with unique 7.
@@ -53,7 +59,8 @@ static ROWS: [Row; 17] = [
             ],
             &[0; 32],
         ],
-        taken: Expected::Ask(7),
+        gives: Comes::Ask(7),
+        ended: None,
         says: &[],
     },
     // An Ask: a batch of one item, which takes one lookup of number 2 back, with unique 8.
@@ -68,7 +75,8 @@ static ROWS: [Row; 17] = [
                 1, 0, 0, 0, 0, 0, 0, 0, 2, 0, 0, 0, 0, 0, 0, 0, 1, 0, 0, 0, 0, 0, 0, 0,
             ],
         ],
-        taken: Expected::Ask(8),
+        gives: Comes::Ask(8),
+        ended: None,
         says: &[],
     },
     // A request of 40 bytes whose header says 41: EINVAL is posted.
@@ -81,7 +89,8 @@ static ROWS: [Row; 17] = [
             &[0; 16],
             &[0, 0, 0, 0, 5],
         ],
-        taken: Expected::Empty,
+        gives: Comes::Empty,
+        ended: None,
         says: &[
             0, 0, 0, 24, 4, 0, 0, 0, 0, 0, 0, 0, 1, 16, 0, 0, 0, 234, 255, 255, 255, 7, 0, 0, 0, 0,
             0, 0, 0,
@@ -99,7 +108,8 @@ static ROWS: [Row; 17] = [
             &[0],
             &[0, 0, 0, 0, 5],
         ],
-        taken: Expected::Empty,
+        gives: Comes::Empty,
+        ended: None,
         says: &[
             0, 0, 0, 24, 4, 0, 0, 0, 0, 0, 0, 0, 1, 16, 0, 0, 0, 220, 255, 255, 255, 7, 0, 0, 0, 0,
             0, 0, 0,
@@ -115,7 +125,8 @@ static ROWS: [Row; 17] = [
             &[0; 16],
             &[0, 0, 0, 0, 6],
         ],
-        taken: Expected::Broken(Some(TakeFault::Ended)),
+        gives: Comes::Broken,
+        ended: Some(TakeFault::Ended),
         says: &[
             0, 0, 0, 24, 4, 0, 0, 0, 0, 0, 0, 0, 1, 16, 0, 0, 0, 234, 255, 255, 255, 7, 0, 0, 0, 0,
             0, 0, 0,
@@ -130,7 +141,8 @@ static ROWS: [Row; 17] = [
             &[0; 16],
             &[0, 0, 0, 8, 7, 0, 0, 0, 0, 0, 0, 0, 2],
         ],
-        taken: Expected::Broken(Some(TakeFault::Stale(2))),
+        gives: Comes::Broken,
+        ended: Some(TakeFault::Stale(2)),
         says: &[
             0, 0, 0, 24, 4, 0, 0, 0, 0, 0, 0, 0, 1, 16, 0, 0, 0, 234, 255, 255, 255, 7, 0, 0, 0, 0,
             0, 0, 0,
@@ -145,7 +157,8 @@ static ROWS: [Row; 17] = [
             &[0; 16],
             &[0, 0, 0, 0, 8],
         ],
-        taken: Expected::Broken(None),
+        gives: Comes::Broken,
+        ended: None,
         says: &[
             0, 0, 0, 24, 4, 0, 0, 0, 0, 0, 0, 0, 1, 16, 0, 0, 0, 234, 255, 255, 255, 7, 0, 0, 0, 0,
             0, 0, 0,
@@ -159,7 +172,8 @@ static ROWS: [Row; 17] = [
             ],
             &[0; 16],
         ],
-        taken: Expected::Broken(None),
+        gives: Comes::Broken,
+        ended: None,
         says: &[
             0, 0, 0, 24, 4, 0, 0, 0, 0, 0, 0, 0, 1, 16, 0, 0, 0, 234, 255, 255, 255, 7, 0, 0, 0, 0,
             0, 0, 0,
@@ -174,7 +188,8 @@ static ROWS: [Row; 17] = [
             ],
             &[0; 15],
         ],
-        taken: Expected::Broken(None),
+        gives: Comes::Broken,
+        ended: None,
         says: &[],
     },
     Row {
@@ -185,156 +200,152 @@ static ROWS: [Row; 17] = [
             ],
             &[0; 16],
         ],
-        taken: Expected::Broken(None),
+        gives: Comes::Broken,
+        ended: None,
         says: &[],
     },
     // Four rows: NotAsked, which answers no Take; a kind that does not exist; an end within a frame; an end at once.
     Row {
         hears: &[&[0, 0, 0, 0, 8]],
-        taken: Expected::Broken(None),
+        gives: Comes::Broken,
+        ended: None,
         says: &[],
     },
     Row {
         hears: &[&[0, 0, 0, 0, 200]],
-        taken: Expected::Broken(None),
+        gives: Comes::Broken,
+        ended: None,
         says: &[],
     },
     Row {
         hears: &[&[0, 0, 0, 8, 7, 0]],
-        taken: Expected::Broken(None),
+        gives: Comes::Broken,
+        ended: None,
         says: &[],
     },
     Row {
         hears: &[],
-        taken: Expected::Broken(None),
+        gives: Comes::Broken,
+        ended: None,
         says: &[],
     },
 ];
-
-/// Joins `parts`, or returns none if memory was refused.
-fn joined(alloc: Global, parts: &[&[u8]]) -> Option<Vec<u8>> {
-    let mut all = Vec::new(alloc);
-    for part in parts {
-        if all.extend_from_slice(part).is_err() {
-            return None;
-        }
-    }
-    Some(all)
-}
-
-/// Returns whether `taken` is the `expected` result, and `ended` the expected cause.
-fn is_left(expected: &Expected, taken: &Taken, ended: Option<TakeFault>) -> bool {
-    match expected {
-        Expected::Ask(unique) => {
-            matches!(taken, Taken::Ask(ask) if ask.unique == *unique) && ended == None
-        }
-        Expected::Empty => matches!(taken, Taken::Empty) && ended == None,
-        Expected::Stopped(why) => matches!(taken, Taken::Stopped) && ended == Some(*why),
-        Expected::Broken(why) => matches!(taken, Taken::Broken) && ended == *why,
-    }
-}
-
-/// Returns whether a `take` of a channel that hears the bytes of `row` has the result of `row`.
-fn takes(alloc: Global, row: &Row) -> bool {
-    let Some(hears) = joined(alloc, row.hears) else {
-        return false;
-    };
-    let mut said = Vec::new(alloc);
-    let Ok(mut channel) = SocketChannel::new(alloc, hears.as_slice(), &mut said, 1) else {
-        return false;
-    };
-    let taken = channel.take();
-    let ended = channel.ended();
-    drop(channel);
-    is_left(&row.taken, &taken, ended)
-        && said.len() >= 13
-        && &said[..13] == TAKE.as_slice()
-        && &said[13..] == row.says
-}
-
-/// Calls `takes` with each row, and once more if the first call returned false.
-fn all_take(alloc: Global, rows: &[Row]) -> bool {
-    for row in rows {
-        if !takes(alloc, row) && !takes(alloc, row) {
-            return false;
-        }
-    }
-    true
-}
-
-#[test]
-fn a_channel_takes_what_it_hears(rt: HostRuntime) {
-    assert!(rt; all_take(rt.alloc(), &ROWS));
-}
 
 /// The text of a Post at generation 1, which answers ENOENT to unique 9.
 static POST: [u8; 29] = [
     0, 0, 0, 24, 4, 0, 0, 0, 0, 0, 0, 0, 1, 16, 0, 0, 0, 254, 255, 255, 255, 9, 0, 0, 0, 0, 0, 0, 0,
 ];
 
-/// What the broker says, the result of a `post`, and why the broker has no more, if it said so.
-struct PostRow {
-    hears: &'static [u8],
-    posted: Posted,
-    ended: Option<TakeFault>,
-}
-
 /// Posted; NotAsked; Ended; Stale, with the seat at generation 2; nothing.
-static POST_ROWS: [PostRow; 5] = [
-    PostRow {
-        hears: &[0, 0, 0, 0, 5],
-        posted: Posted::Done,
+static POSTS: [Row; 5] = [
+    Row {
+        hears: &[&[0, 0, 0, 0, 5]],
+        gives: Comes::Posted,
         ended: None,
+        says: &[],
     },
-    PostRow {
-        hears: &[0, 0, 0, 0, 8],
-        posted: Posted::Broken,
+    Row {
+        hears: &[&[0, 0, 0, 0, 8]],
+        gives: Comes::Broken,
         ended: None,
+        says: &[],
     },
-    PostRow {
-        hears: &[0, 0, 0, 0, 6],
-        posted: Posted::Broken,
+    Row {
+        hears: &[&[0, 0, 0, 0, 6]],
+        gives: Comes::Broken,
         ended: Some(TakeFault::Ended),
+        says: &[],
     },
-    PostRow {
-        hears: &[0, 0, 0, 8, 7, 0, 0, 0, 0, 0, 0, 0, 2],
-        posted: Posted::Broken,
+    Row {
+        hears: &[&[0, 0, 0, 8, 7, 0, 0, 0, 0, 0, 0, 0, 2]],
+        gives: Comes::Broken,
         ended: Some(TakeFault::Stale(2)),
+        says: &[],
     },
-    PostRow {
+    Row {
         hears: &[],
-        posted: Posted::Broken,
+        gives: Comes::Broken,
         ended: None,
+        says: &[],
     },
 ];
 
-/// Posts ENOENT to unique 9 over a channel that hears the bytes of `row`. Returns whether the result and the cause are
-/// those of `row`, and the channel said `POST`.
-fn posts(alloc: Global, row: &PostRow) -> bool {
-    let mut said = Vec::new(alloc);
-    let Ok(mut channel) = SocketChannel::new(alloc, row.hears, &mut said, 1) else {
-        return false;
-    };
-    let posted = channel.post(Reply {
-        unique: 9,
-        answer: Answer::Error(Errno::ENOENT),
-    });
-    let ended = channel.ended();
-    drop(channel);
-    posted == row.posted && ended == row.ended && said.as_slice() == POST.as_slice()
+/// Makes a `take`, and returns what it gives.
+fn taken(channel: &mut SocketChannel<&[u8], &mut Vec<u8>>) -> Comes {
+    match channel.take() {
+        Taken::Ask(ask) => {
+            let unique = ask.unique;
+            drop(ask);
+            Comes::Ask(unique)
+        }
+        Taken::Empty => Comes::Empty,
+        Taken::Stopped => Comes::Stopped,
+        Taken::Broken => Comes::Broken,
+    }
 }
 
-/// Calls `posts` with each row, and once more if the first call returned false.
-fn all_post(alloc: Global, rows: &[PostRow]) -> bool {
-    for row in rows {
-        if !posts(alloc, row) && !posts(alloc, row) {
-            return false;
-        }
+/// Posts ENOENT to unique 9, and returns what that gives.
+fn posted(channel: &mut SocketChannel<&[u8], &mut Vec<u8>>) -> Comes {
+    let reply = Reply {
+        unique: 9,
+        answer: Answer::Error(Errno::ENOENT),
+    };
+    match channel.post(reply) {
+        Posted::Done => Comes::Posted,
+        Posted::Broken => Comes::Broken,
     }
-    true
+}
+
+/// Makes a call of a channel that hears the bytes of `hears`, and says what `said` has then: a `post`, or else a `take`.
+/// Returns what it gives, and why the broker has no more. Returns none if memory was refused.
+fn called(
+    alloc: Global,
+    hears: &[u8],
+    said: &mut Vec<u8>,
+    is_post: bool,
+) -> Option<(Comes, Option<TakeFault>)> {
+    let Ok(mut channel) = SocketChannel::new(alloc, hears, said, 1) else {
+        return None;
+    };
+    let gives = if is_post {
+        posted(&mut channel)
+    } else {
+        taken(&mut channel)
+    };
+    let ended = channel.ended();
+    drop(channel);
+    Some((gives, ended))
+}
+
+/// Returns whether a call of a channel that hears the bytes of `row` gives what `row` says. The channel has to say
+/// `text` first.
+fn gives_so(alloc: Global, row: &Row, is_post: bool, text: &[u8]) -> bool {
+    let mut hears = Vec::new(alloc);
+    let mut said = Vec::new(alloc);
+    let so = are_put(&mut hears, row.hears)
+        && called(alloc, hears.as_slice(), &mut said, is_post) == Some((row.gives, row.ended))
+        && said.as_slice().get(..text.len()) == Some(text)
+        && said.as_slice().get(text.len()..) == Some(row.says);
+    drop(hears);
+    drop(said);
+    so
+}
+
+/// Calls `gives_so` with each of `rows`, and once more if the first call returned false.
+fn all_give_so(alloc: Global, rows: &[Row], is_post: bool, text: &[u8]) -> bool {
+    let mut so = true;
+    for row in rows {
+        so = so && (gives_so(alloc, row, is_post, text) || gives_so(alloc, row, is_post, text));
+    }
+    so
+}
+
+#[test]
+fn a_channel_takes_what_it_hears(rt: HostRuntime) {
+    assert!(rt; all_give_so(rt.alloc(), &TAKES, false, &TAKE));
 }
 
 #[test]
 fn a_reply_is_done_where_it_was_posted(rt: HostRuntime) {
-    assert!(rt; all_post(rt.alloc(), &POST_ROWS));
+    assert!(rt; all_give_so(rt.alloc(), &POSTS, true, &POST));
 }
