@@ -1,6 +1,8 @@
 //! Drops of the values of an arena.
+ghost use Rattle.std.specs.Prelude.{◌≤◌};
+
 use node_arena::{Nodes, Slot};
-use std::alloc::{AllocError, Global};
+use std::alloc::Global;
 use std::cell::Cell;
 
 /// Adds `value`, and returns its slot, or none if the arena is full.
@@ -37,61 +39,44 @@ impl Drop for Counted<'_> {
 /// dropped.
 type Drops = (u32, u32, u32);
 
-/// Adds three values, and a fourth that is given back and dropped. Then removes the first, and drops it. Returns the
-/// counts of drops in between.
-fn drops_of_three<'a>(nodes: &mut Nodes<Counted<'a>>, drops: &'a Cell<u32>) -> Option<Drops> {
+/// Adds a value and so many `more`, and drops what the arena gives back. Then removes the first value, and drops it.
+/// Returns the counts of drops in between.
+fn drops_in<'a>(nodes: &mut Nodes<Counted<'a>>, drops: &'a Cell<u32>, more: u32) -> Option<Drops> {
     let first = added(nodes, Counted(drops))?;
-    added(nodes, Counted(drops))?;
-    added(nodes, Counted(drops))?;
-    drop(nodes.add(Counted(drops)));
+    for _more in 0..more {
+        drop(nodes.add(Counted(drops)));
+    }
     let came_back = drops.get();
-    let value = removed(nodes, first)?;
+    let value = removed(nodes, first);
     let was_removed = drops.get();
     drop(value);
     Some((came_back, was_removed, drops.get()))
 }
 
-/// Calls `drops_of_three` on a new arena. Returns its counts of drops, and the count after the arena was dropped.
-fn drops_of_all(alloc: Global) -> Option<(Drops, u32)> {
+/// Calls `drops_in` on a new arena of `capacity`. Returns its counts of drops, and the count after the arena was dropped.
+fn drops_of_all(alloc: Global, capacity: usize, more: u32) -> Option<(Drops, u32)>
+    requires capacity { (1 ≤ capacity) × (capacity ≤ 65536) }
+{
     let drops = Cell::new(0);
-    let mut nodes = Nodes::new(alloc, 3).ok()?;
-    let counts = drops_of_three(&mut nodes, &drops);
+    let Ok(mut nodes) = Nodes::new(alloc, capacity) else {
+        return None;
+    };
+    let counts = drops_in(&mut nodes, &drops, more);
     drop(nodes);
-    Some((counts?, drops.get()))
+    match counts {
+        Some(counts) => Some((counts, drops.get())),
+        None => None,
+    }
 }
 
 /// The caller drops the value that was given back, and the value that was removed. The arena drops the two that it
 /// holds at its end.
 #[test]
 fn drops_each_value_once(rt: HostRuntime) {
-    assert!(rt; drops_of_all(rt.alloc()) == Some(((1, 1, 2), 4)));
-}
-
-/// Adds a value, removes it and drops it. Returns whether one drop was counted.
-fn drops_one<'a>(nodes: &mut Nodes<Counted<'a>>, drops: &'a Cell<u32>) -> bool {
-    let Some(slot) = added(nodes, Counted(drops)) else {
-        return false;
-    };
-    drop(removed(nodes, slot));
-    drops.get() == 1
-}
-
-/// Calls `drops_one` on a new arena, and then drops the arena. Returns whether `drops_one` succeeds, and no other value
-/// is dropped.
-fn drops_one_alone(alloc: Global) -> bool {
-    let drops = Cell::new(0);
-    match Nodes::new(alloc, 2) {
-        Ok(nodes) => {
-            let mut nodes = nodes;
-            let is_dropped = drops_one(&mut nodes, &drops);
-            drop(nodes);
-            is_dropped && drops.get() == 1
-        }
-        Err(AllocError) => false,
-    }
+    assert!(rt; drops_of_all(rt.alloc(), 3, 3) == Some(((1, 1, 2), 4)));
 }
 
 #[test]
 fn drops_nothing_where_no_value_is_held(rt: HostRuntime) {
-    assert!(rt; drops_one_alone(rt.alloc()));
+    assert!(rt; drops_of_all(rt.alloc(), 2, 0) == Some(((0, 0, 1), 1)));
 }
