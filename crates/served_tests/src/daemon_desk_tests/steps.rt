@@ -230,22 +230,30 @@ impl Between {
     /// Lets `desk` do `step`, and returns whether the outcome is the expected one.
     fn goes_so(&mut self, desk: &mut DaemonDesk, step: Step) -> bool {
         match step {
-            Step::Prepares(_) => is_prepared(desk),
-            Step::Mounts(_, says, mounting) => mounting_of(desk, says) == mounting,
             Step::Offers(_) => offers(desk, &mut self.last),
             Step::Hears(_, told) => self.hears(desk) == told,
             Step::Next(told) => self.next() == told,
             Step::Sent(_, says, told) => self.is_sent(desk, says) == told,
-            Step::Serves(_, generation) => desk.serving() == generation,
             Step::Lends(_, has_state) => lends(desk, &mut self.lease) == has_state,
             Step::Returns(_) => returns(desk, &mut self.lease),
-            Step::LooksUp(_, number) => looks_up(self.alloc, desk, number, false),
-            Step::LooksUpEach(_, first) => looks_up(self.alloc, desk, first, true),
             Step::Readies(_, told) => keep(&mut self.last, desk.drained()) == told,
             Step::GivesUp(_, told) => keep(&mut self.last, desk.give_up()) == told,
-            Step::Wants(_, generation) => wanted_by(desk) == generation,
-            Step::Claims(_, says, claiming) => claiming_of(desk, says) == claiming,
+            _ => desk_goes_so(self.alloc, desk, step),
         }
+    }
+}
+
+/// Lets `desk` do `step`, of which nothing stays between the desks. Returns whether the outcome is the expected one.
+fn desk_goes_so(alloc: Global, desk: &mut DaemonDesk, step: Step) -> bool {
+    match step {
+        Step::Prepares(_) => is_prepared(desk),
+        Step::Mounts(_, says, mounting) => mounting_of(desk, says) == mounting,
+        Step::Serves(_, generation) => desk.serving() == generation,
+        Step::LooksUp(_, number) => looks_up(alloc, desk, number, false),
+        Step::LooksUpEach(_, first) => looks_up(alloc, desk, first, true),
+        Step::Wants(_, generation) => wanted_by(desk) == generation,
+        Step::Claims(_, says, claiming) => claiming_of(desk, says) == claiming,
+        _ => false,
     }
 }
 
@@ -330,21 +338,56 @@ fn is_opened(
     desks.push(desk).is_ok()
 }
 
-/// Makes `steps` at the `desks`, up to the first whose outcome is not the expected one. Returns whether there is none.
-fn each_goes_so(desks: &mut Vec<DaemonDesk>, between: &mut Between, steps: &[Step]) -> bool {
+/// Opens three desks over `manifest`, each once more if memory was refused. Returns whether memory sufficed.
+fn are_opened(
+    alloc: Global,
+    desks: &mut Vec<DaemonDesk>,
+    manifest: &Manifest,
+    versions: &Versions,
+) -> bool {
     let mut so = true;
-    for step in steps {
+    for _desk in 0..3u8 {
         so = so
-            && match desks.get_mut(place_of(*step)) {
-                Some(desk) => between.goes_so(desk, *step),
-                None => false,
-            };
+            && (is_opened(alloc, desks, manifest, versions)
+                || is_opened(alloc, desks, manifest, versions));
     }
     so
 }
 
-/// Opens three desks over `manifest`, each once more if memory was refused. Makes `steps` there and then `endings`, and
-/// returns whether each outcome is the expected one.
+/// Makes `step` at its desk, and returns whether the outcome is the expected one.
+fn goes_there(desks: &mut Vec<DaemonDesk>, between: &mut Between, step: Step) -> bool {
+    match desks.get_mut(place_of(step)) {
+        Some(desk) => between.goes_so(desk, step),
+        None => false,
+    }
+}
+
+/// Makes `steps` at the `desks` and then `endings`, up to the first whose outcome is not the expected one. Returns
+/// whether there is none.
+fn each_goes_so(
+    alloc: Global,
+    desks: &mut Vec<DaemonDesk>,
+    steps: &[Step],
+    endings: &[Step],
+) -> bool {
+    let mut between = Between {
+        alloc,
+        last: None,
+        behind: None,
+        lease: None,
+    };
+    let mut so = true;
+    for step in steps {
+        so = so && goes_there(desks, &mut between, *step);
+    }
+    for step in endings {
+        so = so && goes_there(desks, &mut between, *step);
+    }
+    drop(between);
+    so
+}
+
+/// Opens three desks over `manifest`, and calls `each_goes_so` with them.
 fn all_go_over(
     alloc: Global,
     manifest: &Manifest,
@@ -353,22 +396,8 @@ fn all_go_over(
     endings: &[Step],
 ) -> bool {
     let mut desks = Vec::new(alloc);
-    let mut so = true;
-    for _desk in 0..3u8 {
-        so = so
-            && (is_opened(alloc, &mut desks, manifest, versions)
-                || is_opened(alloc, &mut desks, manifest, versions));
-    }
-    let mut between = Between {
-        alloc,
-        last: None,
-        behind: None,
-        lease: None,
-    };
-    so = so
-        && each_goes_so(&mut desks, &mut between, steps)
-        && each_goes_so(&mut desks, &mut between, endings);
-    drop(between);
+    let so = are_opened(alloc, &mut desks, manifest, versions)
+        && each_goes_so(alloc, &mut desks, steps, endings);
     drop(desks);
     so
 }
