@@ -1,7 +1,7 @@
 //! Rounds one after another in the same rooms. Their asks have the longest names and batches.
 ghost use Rattle.std.specs.Prelude.{◌≡◌, IfOk, IfSome};
 
-use super::rounds::{begun, serve_back};
+use super::rounds::{back_of, begun, serve_back};
 use crate::again::manifest_of;
 use crate::listed::LISTED;
 use checkout::ManifestBacking;
@@ -11,9 +11,7 @@ use manifest::Manifest;
 use std::alloc::Global;
 use std::sync::Wait;
 use std::thread::Threads;
-use workers::{
-    Channel, NoHook, Posted, Returned, Rooms, Round, RoundFault, Settled, Stop, Taken, drain,
-};
+use workers::{Channel, NoHook, Posted, Returned, Rooms, Round, RoundFault, Stop, Taken, drain};
 
 /// How many asks each channel gives.
 const ASKS: u64 = 40;
@@ -114,30 +112,12 @@ fn begin<'a>(alloc: Global, manifest: &'a Manifest) -> Result<Between<'a>, NoMem
     }
 }
 
-/// Returns the parts of `settled` as the state between two rounds.
-fn between_of(settled: Settled<ManifestBacking<'_>, Given>) -> Between<'_>
-    ensures served { result.served ≡ settled.entry.served }
-{
-    let Settled {
-        rooms,
-        served,
-        backing,
-        channels,
-    } = settled;
-    Returned {
-        rooms,
-        served,
-        backing,
-        channels,
-    }
-}
-
 /// Drains `round`, and returns what is settled. If memory was refused, returns what was given back instead.
 fn drained(alloc: Global, round: Round<ManifestBacking<'_>, Given>) -> Option<Between<'_>>
     ensures served { IfSome result (λ between. between.served ≡ round.entry.served) }
 {
     match drain(alloc, round) {
-        Ok(settled) => Some(between_of(settled)),
+        Ok(settled) => Some(back_of(settled)),
         Err(RoundFault::NoMemory(back)) => Some(back),
         Err(_other) => None,
     }
@@ -227,39 +207,24 @@ fn take_all<R: Threads + Wait + Sync>(
 }
 
 /// Returns whether one round takes all asks if memory suffices: then no worker stops because memory for a copy was
-/// refused.
-fn is_taken_at_once<R: Threads + Wait + Sync>(rt: &R, alloc: Global) -> bool {
+/// refused. Two rounds have to take all also if one allocation is refused: a worker that stops loses no ask, and the
+/// next round takes the rest.
+fn all_are_taken<R: Threads + Wait + Sync>(rt: &R, alloc: Global) -> bool {
     let Ok(manifest) = manifest_of(alloc, LISTED) else {
         return false;
     };
-    let so = take_all(rt, alloc, &manifest, 1) == Some(true)
+    let at_once = take_all(rt, alloc, &manifest, 1) == Some(true)
         || take_all(rt, alloc, &manifest, 1) == Some(true);
-    drop(manifest);
-    so
-}
-
-#[test]
-fn a_round_takes_the_longest_asks(rt: HostRuntime) {
-    let done = is_taken_at_once(&rt, rt.alloc());
-    assert!(rt; done);
-}
-
-/// Returns whether two rounds take all asks, also if one allocation is refused: a worker that stops loses no ask, and
-/// the next round takes the rest.
-fn is_taken_in_two<R: Threads + Wait + Sync>(rt: &R, alloc: Global) -> bool {
-    let Ok(manifest) = manifest_of(alloc, LISTED) else {
-        return false;
-    };
-    let done = match take_all(rt, alloc, &manifest, 2) {
+    let in_two = match take_all(rt, alloc, &manifest, 2) {
         None => take_all(rt, alloc, &manifest, 2),
         told => told,
     };
     drop(manifest);
-    done == Some(true)
+    at_once && in_two == Some(true)
 }
 
 #[test]
-fn a_second_round_takes_what_is_left(rt: HostRuntime) {
-    let done = is_taken_in_two(&rt, rt.alloc());
-    assert!(rt; done);
+fn rounds_in_the_same_rooms_take_the_longest_asks(rt: HostRuntime) {
+    let taken = all_are_taken(&rt, rt.alloc());
+    assert!(rt; taken);
 }

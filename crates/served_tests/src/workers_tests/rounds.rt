@@ -3,7 +3,7 @@ ghost use Rattle.std.specs.Prelude.{◌≡◌, ◌≤◌, IfErr, IfOk};
 ghost use Rattle.workers.specs.Faults.{GivesBack};
 
 use crate::listed::LISTED;
-use checkout::ManifestBacking;
+use checkout::{Backing, ManifestBacking};
 use eden_base::{NoMemory, Number};
 use fuse_ops::Served;
 use fuse_wire::{Ask, Request};
@@ -14,7 +14,7 @@ use std::sync::Wait;
 use std::thread::Threads;
 use workers::{
     Channel, Hook, MAX_CHANNELS, MemoryChannel, NoHook, Receipt, Receipts, Returned, Rooms, Round,
-    RoundFault, Stop, drain, serve_round,
+    RoundFault, Settled, Stop, drain, serve_round,
 };
 
 /// Makes a channel with a GETATTR of the root for each of `uniques`.
@@ -104,19 +104,42 @@ fn numbers_of(round: &Round<ManifestBacking<'_>, MemoryChannel>) -> Option<Left>
     })
 }
 
+/// Returns the parts of `settled` as what is given back.
+pub(crate) fn back_of<B: Backing + Drop, C: Channel + Drop>(
+    settled: Settled<B, C>,
+) -> Returned<B, C>
+    ensures served { result.served ≡ settled.served }
+{
+    let Settled {
+        rooms,
+        served,
+        backing,
+        channels,
+    } = settled;
+    Returned {
+        rooms,
+        served,
+        backing,
+        channels,
+    }
+}
+
 /// Drains `round`, and returns whether it was settled, or none if memory was refused.
 pub(crate) fn is_settled(
     alloc: Global,
     round: Round<ManifestBacking<'_>, MemoryChannel>,
 ) -> Option<bool> {
-    let drained = drain(alloc, round);
-    let is_settled = match &drained {
-        Ok(_settled) => Some(true),
+    match drain(alloc, round) {
+        Ok(settled) => {
+            drop(back_of(settled));
+            Some(true)
+        }
         Err(RoundFault::Unsettled) => Some(false),
-        Err(_refused) => None,
-    };
-    drop(drained);
-    is_settled
+        Err(refused) => {
+            drop(refused);
+            None
+        }
+    }
 }
 
 /// Returns what `round` left. Whether the round is settled is looked at after `change` is made in the first worker's
