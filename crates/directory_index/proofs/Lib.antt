@@ -1,0 +1,6 @@
+pub mod Indexing
+pub mod Looking
+pub mod Naming
+pub mod Rooms
+pub mod Standings
+pub mod Written

@@ -1,0 +1,14 @@
+-- The link that was inserted last, the maps, or neither.
+use Rattle.std.proofs.Common.{sym, ◌∙◌}
+use Rattle.directory_index.proofs.Looking.{names-latest, names-none, names-some}
+use Rattle.directory_index.proofs.directory_index.DirectoryIndex.has_names.Goals as goal
+
+pub returns-then-is_latest_in-clause-some : goal.returns-then-is_latest_in-clause-some
+returns-then-is_latest_in-clause-some c at is t = names-latest at c.args.self.now is c.args.dir (sym c.is_latest_in.ensures ∙ t)
+
+pub returns-else-is_latest_in-clause-some : goal.returns-else-is_latest_in-clause-some
+returns-else-is_latest_in-clause-some c at is t = names-some at c.args.self.now is c.args.dir (sym c.has_any.ensures.any ∙ t)
+
+pub returns-else-is_latest_in-clause-none : goal.returns-else-is_latest_in-clause-none
+returns-else-is_latest_in-clause-none c at is f =
+    names-none at c.args.self.now is c.args.dir (sym c.is_latest_in.ensures ∙ c.if-is_latest_in.false) (sym c.has_any.ensures.any ∙ f)

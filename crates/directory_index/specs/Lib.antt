@@ -1,0 +1,4 @@
+pub mod Children
+pub mod Index
+pub mod Names
+pub mod Standing
