@@ -1,18 +1,17 @@
 -- An index, and what it is an index of.
-use Rattle.std.proofs.Common.{◌≡◌, ◌≤◌, ℕ, Bool, true, false, List, Option, Some, None, if◌then◌else◌, refl, sym, ap, subst, ◌∙◌, inl, inr, ◌⊎◌}
+use Rattle.std.proofs.Common.{◌≡◌, ℕ, Bool, true, false, List, Option, Some, None, if◌then◌else◌, refl, sym, ap, subst, ◌∙◌, inl, inr, ◌⊎◌}
 use Rattle.std.proofs.lemmas.Bool.{and_parts}
-use Rattle.std.specs.Prelude.{◌==◌, ◌&&◌, ◌||◌, not, is_some}
-use Rattle.eden_base.proofs.NumberTests.{eq-true, eq-false, eq-or, true-eq}
-use Rattle.directory_index.proofs.Standings.{inserted-apart, inserted-here, inserted-still, inserted-was, known-at, moved, place-or, removed-apart, removed-here, removed-still, removed-was, same-number}
+use Rattle.std.specs.Prelude.{◌==◌, ◌&&◌, ◌||◌, not}
+use Rattle.eden_base.proofs.NumberTests.{eq-true, true-eq}
+use Rattle.directory_index.proofs.Standings.{inserted-apart, inserted-here, inserted-still, inserted-was, moved, place-or, removed-apart, removed-still, removed-was, same-number}
 use Rattle.directory_index.specs.Children.{is_child}
-use Rattle.directory_index.specs.Index.{is_latest, latest_at, AddsLatest, AreChildrenOf, IsIndexOf}
+use Rattle.directory_index.specs.Index.{is_latest, AddsLatest, AreChildrenOf, IsIndexOf}
 use Rattle.key_map.specs.Keys.{key_of}
 use Rattle.directory_index.specs.Names.{AreNamesOf}
 use Rattle.directory_index.specs.Standing.{inserted, is_place, nothing, removed, AreApart, Standing, StandsIn, StandsNowhere}
 use Rattle.directory_index.specs.declared.children.Children.{Children}
 use Rattle.directory_index.specs.declared.directory_index.DirectoryIndex.{DirectoryIndex}
 use Rattle.directory_index.specs.declared.link.Link.{Link}
-use Rattle.directory_index.specs.declared.names.Names.{Names}
 
 -- directories without numbers are those of nothing
 pub children-of_nothing : (children : Children) → ((dir number : ℕ) → is_child children dir number ≡ false) → AreChildrenOf nothing children

@@ -10,12 +10,12 @@ use Rattle.std.specs.List.{list_any}
 use Rattle.std.specs.Ordering.{nat_cmp}
 use Rattle.std.specs.BTreeMap.{is_at}
 use Rattle.eden_base.proofs.NumberTests.{eq-true, true-eq}
-use Rattle.key_map.specs.Keys.{at_key, key_of}
+use Rattle.key_map.specs.Keys.{key_of}
 use Rattle.directory_index.proofs.Indexing.{below-stands, latest-stands, stands-either}
 use Rattle.directory_index.proofs.Standings.{known-at, known-here, same-number}
 use Rattle.directory_index.specs.Children.{has_children, is_among, is_child, is_some_in, IsFirstChild}
-use Rattle.directory_index.specs.Index.{is_latest_in, latest_at, latest_from, AddsLatest, AreChildrenOf, IsIndexOf}
-use Rattle.directory_index.specs.Names.{written, AreNamesOf, IsNamed}
+use Rattle.directory_index.specs.Index.{is_latest_in, latest_at, latest_from, AddsLatest, IsIndexOf}
+use Rattle.directory_index.specs.Names.{at_key, written, IsNamed}
 use Rattle.directory_index.specs.Standing.{if_at, is_at as stands_at, AreKnown, IsFirstFrom, Standing, StandsIn}
 use Rattle.directory_index.specs.declared.children.Children.{Children}
 use Rattle.directory_index.specs.declared.children.Numbers.{Numbers}

@@ -3,13 +3,13 @@ use Rattle.std.proofs.Common.{◌≡◌, ℕ, Bool, true, false, List, Option, S
 use Rattle.std.proofs.lemmas.Bool.{and_parts}
 use Rattle.std.specs.Prelude.{◌==◌, ◌&&◌, not, is_some}
 use Rattle.eden_base.proofs.NumberTests.{eq-true, true-eq}
-use Rattle.key_map.specs.Keys.{at_key, key_of}
+use Rattle.key_map.specs.Keys.{key_of}
 use Rattle.directory_index.specs.Index.{IsAdded}
-use Rattle.directory_index.specs.Names.{is_at_key, is_taken, option_is, written, AreNamesOf, IsNamed}
+use Rattle.directory_index.specs.Names.{at_key, is_at_key, is_taken, option_is, written, AreNamesOf, IsNamed}
 use Rattle.directory_index.specs.Standing.{inserted, is_place, nothing, removed, AreApart, Standing, StandsNowhere}
 use Rattle.directory_index.specs.declared.link.Link.{Link}
 use Rattle.directory_index.specs.declared.names.Names.{Names}
-use Rattle.directory_index.proofs.Standings.{here, inserted-here, inserted-still, inserted-was, moved, place-or, removed-still, removed-was, same-number, same-place}
+use Rattle.directory_index.proofs.Standings.{here, inserted-here, inserted-still, inserted-was, moved, removed-still, removed-was, same-number, same-place}
 
 -- two places of one key
 same-key : (d dir : ℕ) (q name : List ℕ) → d ≡ dir → q ≡ name → key_of d q ≡ key_of dir name

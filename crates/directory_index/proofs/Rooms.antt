@@ -1,18 +1,17 @@
 -- The link that was inserted last goes into the maps.
-use Rattle.std.proofs.Common.{◌≡◌, ℕ, Bool, true, false, List, Option, Some, None, if◌then◌else◌, refl, sym, ap, subst, ◌∙◌, inl, inr, ◌⊎◌}
+use Rattle.std.proofs.Common.{◌≡◌, ℕ, Bool, true, false, List, Option, Some, None, refl, sym, ap, subst, ◌∙◌}
 use Rattle.std.specs.Prelude.{◌==◌, ◌&&◌, ◌||◌, not}
-use Rattle.eden_base.proofs.NumberTests.{eq-true, true-eq}
+use Rattle.eden_base.proofs.NumberTests.{true-eq}
 use Rattle.std.proofs.lemmas.Bool.{and_parts}
 use Rattle.directory_index.proofs.Indexing.{children-alike, children-inserted, latest-stands}
 use Rattle.directory_index.proofs.Naming.{names-alike_of, names-inserted}
 use Rattle.directory_index.specs.Children.{is_child}
 use Rattle.directory_index.specs.Index.{AddsLatest, AreChildrenOf, IsAdded, IsIndexOf}
 use Rattle.directory_index.specs.Names.{AreNamesOf}
-use Rattle.directory_index.specs.Standing.{inserted, AreApart, AreKnown, Standing, StandsNowhere}
+use Rattle.directory_index.specs.Standing.{inserted, Standing}
 use Rattle.directory_index.specs.declared.children.Children.{Children}
 use Rattle.directory_index.specs.declared.directory_index.DirectoryIndex.{DirectoryIndex}
 use Rattle.directory_index.specs.declared.link.Link.{Link}
-use Rattle.directory_index.specs.declared.names.Names.{Names}
 
 module _ (at : Standing) (old new : DirectoryIndex) (is : IsIndexOf at old) (link : Link) (latest : old.latest ≡ Some link) where
   adds : AddsLatest is.below (Some link) at

@@ -4,26 +4,34 @@ use Rattle.std.specs.Option.{option_and_then, option_map_or}
 use Rattle.std.specs.Ordering.{nat_cmp}
 use Rattle.std.specs.Cmp.Lexicographic.{slice_cmp}
 use Rattle.std.specs.BTreeMap.{get_by}
+use Rattle.std.specs.FinMap.{get, FinMap}
 use Rattle.std.specs.HashMap.{HashMap}
 use Rattle.std.specs.HashMap as hash
 use Rattle.std.specs.declared.alloc.Global.{Global}
 use Rattle.std.specs.declared.vec.Vec.{Vec}
-use Rattle.key_map.specs.Keys.{at_key, key_of}
-use Rattle.key_map.specs.declared.key_map.KeyMap.{KeyMap}
+use Rattle.key_map.specs.Keys.{key_of}
 use Rattle.directory_index.specs.Standing.{Standing}
 use Rattle.directory_index.specs.declared.names.Names.{Names}
 use Rattle.directory_index.specs.declared.names.Others.{Others}
+
+-- numbers by keys
+abbrev pub Keys : Type 0
+Keys = FinMap nat_cmp ℕ
+
+-- the number at a key, if there is one
+abbrev pub at_key : Keys → ℕ → Option ℕ
+at_key keys key = get keys key
 
 -- whether what was found is this number
 abbrev pub option_is : ℕ → Option ℕ → Bool
 option_is number found = option_map_or (λ (n : ℕ). n == number) found false
 
 -- whether the number is at the key
-abbrev pub is_at_key : KeyMap → ℕ → ℕ → Bool
+abbrev pub is_at_key : Keys → ℕ → ℕ → Bool
 is_at_key keys key number = option_is number (at_key keys key)
 
 -- whether a number is at the key
-abbrev pub is_taken : KeyMap → ℕ → Bool
+abbrev pub is_taken : Keys → ℕ → Bool
 is_taken keys key = is_some (at_key keys key)
 
 -- the number that a directory has for the name `q`, if there is one

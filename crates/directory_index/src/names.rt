@@ -1,7 +1,6 @@
 //! The numbers of places, by the keys of the places.
 ghost use Rattle.std.specs.Prelude.{◌≡◌, ℕ, ◌==◌, ◌&&◌, List, None, Some, is_ok, not, if◌then◌else◌};
-ghost use Rattle.key_map.specs.Keys.{at_key};
-ghost use Rattle.directory_index.specs.Names.{is_at_key, option_is, written};
+ghost use Rattle.directory_index.specs.Names.{at_key, is_at_key, option_is, written};
 ghost use Rattle.directory_index.specs.Standing.{is_place};
 
 use key_map::KeyMap;

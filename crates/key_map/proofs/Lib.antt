@@ -1,4 +1,5 @@
 pub mod BucketLemmas
 pub mod CellLemmas
 pub mod KeyLemmas
+pub mod MapLemmas
 pub mod TierLemmas

@@ -1,11 +1,6 @@
--- Keys, and the number that a map has at a key.
-use Rattle.std.specs.Prelude.{ℕ, ◌+◌, ◌-◌, ◌*◌, ◌%◌, ◌^◌, List, [], ◌∷◌, ◌++◌, length, drop, nat_lt, Option, if◌then◌else◌}
+-- The key of a number and bytes.
+use Rattle.std.specs.Prelude.{ℕ, ◌+◌, ◌-◌, ◌*◌, ◌%◌, ◌^◌, List, [], ◌∷◌, ◌++◌, length, drop, nat_lt, if◌then◌else◌}
 use Rattle.std.specs.Int.{w64, from_le_bytes, rotate_left}
-use Rattle.std.specs.Option.{option_or}
-use Rattle.std.specs.Ordering.{nat_cmp}
-use Rattle.std.specs.BTreeMap.{get}
-use Rattle.key_map.specs.Cells.{kept}
-use Rattle.key_map.specs.declared.key_map.KeyMap.{KeyMap}
 
 -- eight bytes after eight, each as a number with the lowest byte first; the last bytes, fewer than eight, are left out
 abbrev pub eights : List ℕ → List ℕ
@@ -39,11 +34,3 @@ key_with_all key (part ∷ parts) = key_with_all (key_with key part) parts
 -- the key of a number and bytes
 unfoldable pub key_of : ℕ → List ℕ → ℕ
 key_of number bytes = key_with_all ((number * factor) % 2 ^ 64) (parts_of bytes)
-
--- the number at a key, in the first tier that has one, else in the tree below the tiers
-unfoldable pub at_key : KeyMap → ℕ → Option ℕ
-at_key map key =
-    option_or (kept map.tiers.buckets.items map.tiers.shift key)
-    (option_or (kept map.tiers.rest.buckets.items map.tiers.rest.shift key)
-    (option_or (kept map.tiers.rest.rest.buckets.items map.tiers.rest.rest.shift key)
-    (get nat_cmp map.tiers.rest.rest.rest.numbers key)))

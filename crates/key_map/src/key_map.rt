@@ -1,11 +1,12 @@
 //! A map from keys to numbers.
-ghost use Rattle.std.specs.Prelude.{◌≡◌, ℕ, ◌==◌, None, Some, OnOk, OnErr, if◌then◌else◌};
-ghost use Rattle.key_map.specs.Keys.{at_key};
+ghost use Rattle.std.specs.Prelude.{◌≡◌, None, OnOk, OnErr};
+ghost use Rattle.std.specs.FinMap.{empty, get, insert, remove};
 
 use crate::numbers::Numbers;
 use crate::tier::Tier;
 use crate::tree::Tree;
 use std::alloc::{AllocError, Global};
+use std::marker::Model;
 
 /// How many cells a bucket has.
 const CELLS: usize = 4;
@@ -19,6 +20,21 @@ pub struct KeyMap {
     held: usize,
 }
 
+impl Model for KeyMap {
+    ghost use Rattle.std.specs.Prelude.{ℕ};
+    ghost use Rattle.std.specs.Coded.{coded_ℕ};
+    ghost use Rattle.std.specs.FinMap.{FinMap, code};
+    ghost use Rattle.std.specs.Ordering.{nat_cmp};
+
+    ghost Value = { FinMap nat_cmp ℕ };
+
+    ghost coded = { code coded_ℕ coded_ℕ };
+
+    ghost use Rattle.key_map.specs.Map.{numbers_of};
+
+    ghost view = { numbers_of };
+}
+
 impl Drop for KeyMap {
     fn drop(self) {
         let KeyMap { tiers: _, held: _ } = self;
@@ -28,16 +44,15 @@ impl Drop for KeyMap {
 impl KeyMap {
     /// Makes a map without numbers.
     pub fn new(alloc: Global) -> KeyMap
-        ensures empty { (key : ℕ) → at_key result key ≡ None }
+        ensures empty { result ≡ empty }
     {
         KeyMap::for_numbers(alloc, 0)
     }
 
     /// Makes a map without numbers, whose first buckets are enough for this many `numbers`. It takes no memory before
     /// the first number comes. The second tier has half as many buckets as the first, and the third an eighth.
-    #[tactic(auto, unfolding(crate::specs::Keys::at_key))]
     pub fn for_numbers(alloc: Global, numbers: usize) -> KeyMap
-        ensures empty { (key : ℕ) → at_key result key ≡ None }
+        ensures empty { result ≡ empty }
     {
         let buckets = numbers / CELLS;
         let third = Tier::over(alloc, 0, buckets / 8 + 1, Tree::new(alloc));
@@ -47,19 +62,17 @@ impl KeyMap {
     }
 
     /// Returns the number at `key`, if there is one.
-    #[tactic(auto, unfolding(crate::specs::Keys::at_key))]
     pub fn get(&self, key: u64) -> Option<u64>
-        ensures number { result ≡ at_key self.now key }
+        ensures number { result ≡ get self.now key }
     {
         self.tiers.get(key)
     }
 
     /// Puts `number` at `key`, which has none. If memory is refused, each key has what it had.
-    #[tactic(auto, unfolding(crate::specs::Keys::at_key))]
     pub fn insert(&mut self, alloc: Global, key: u64, number: u64) -> Result<(), AllocError>
-        requires free { at_key self.old key ≡ None }
-        ensures ok { OnOk result ((k : ℕ) → at_key self.new k ≡ (if k == key then Some number else at_key self.old k)) }
-        ensures err { OnErr result ((k : ℕ) → at_key self.new k ≡ at_key self.old k) }
+        requires free { get self.old key ≡ None }
+        ensures ok { OnOk result (self.new ≡ insert self.old key number) }
+        ensures err { OnErr result (self.new ≡ self.old) }
     {
         self.make_room(alloc)?;
         self.tiers.insert(key, number)?;
@@ -68,9 +81,8 @@ impl KeyMap {
     }
 
     /// Makes twice as many buckets, if there are as many numbers as cells in the first tier.
-    #[tactic(auto, unfolding(crate::specs::Keys::at_key))]
     fn make_room(&mut self, alloc: Global) -> Result<(), AllocError>
-        ensures same { (k : ℕ) → at_key self.new k ≡ at_key self.old k }
+        ensures same { self.new ≡ self.old }
     {
         if self.held / CELLS >= self.tiers.len() {
             self.tiers.widen(alloc)?;
@@ -79,9 +91,8 @@ impl KeyMap {
     }
 
     /// Removes the number at `key`, if there is one. Takes no memory.
-    #[tactic(auto, unfolding(crate::specs::Keys::at_key))]
     pub fn remove(&mut self, key: u64)
-        ensures removed { (k : ℕ) → at_key self.new k ≡ (if k == key then None else at_key self.old k) }
+        ensures removed { self.new ≡ remove self.old key }
     {
         self.tiers.remove(key);
         self.held = self.held.saturating_sub(1);

@@ -1,7 +1,6 @@
 -- The first of the maps' numbers and the one beside them.
-use Rattle.std.proofs.Common.{◌≡◌, ℕ, Option, Some, None, subst, sym, ◌∙◌}
+use Rattle.std.proofs.Common.{subst, sym, ◌∙◌}
 use Rattle.directory_index.specs.Children.{IsFirstChild}
-use Rattle.directory_index.specs.Index.{latest_from}
 use Rattle.directory_index.specs.Standing.{IsFirstFrom}
 use Rattle.directory_index.proofs.Looking.{first-both, first-child, first-latest}
 use Rattle.directory_index.proofs.directory_index.DirectoryIndex.first_from.Goals as goal

@@ -1,5 +1,5 @@
 -- Nothing is in the maps, and nothing beside them.
-use Rattle.std.proofs.Common.{◌≡◌, None, refl}
+use Rattle.std.proofs.Common.{None, refl}
 use Rattle.directory_index.specs.Standing.{nothing}
 use Rattle.directory_index.specs.declared.directory_index.DirectoryIndex.{DirectoryIndex}
 use Rattle.directory_index.proofs.Indexing.{children-of_nothing, index-settled}

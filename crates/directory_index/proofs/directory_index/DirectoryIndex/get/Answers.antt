@@ -1,8 +1,8 @@
 -- What is neither beside the maps nor at the key is under its name, or nowhere.
 use Rattle.std.proofs.Common.{◌≡◌, ℕ, List, Option, None, sym, ap, ◌∙◌}
-use Rattle.key_map.specs.Keys.{at_key, key_of}
+use Rattle.key_map.specs.Keys.{key_of}
 use Rattle.directory_index.specs.Index.{latest_at, IsIndexOf}
-use Rattle.directory_index.specs.Names.{written}
+use Rattle.directory_index.specs.Names.{at_key, written}
 use Rattle.directory_index.specs.Standing.{if_at, AreKnown, Standing}
 use Rattle.directory_index.specs.declared.directory_index.DirectoryIndex.{DirectoryIndex}
 use Rattle.directory_index.proofs.Looking.{found-other, missed-none}

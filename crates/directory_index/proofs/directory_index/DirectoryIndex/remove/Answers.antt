@@ -1,8 +1,7 @@
 -- The number is taken out of the maps.
-use Rattle.std.proofs.Common.{◌≡◌, ℕ, List, None, Some, refl, sym, subst, ◌∙◌, if◌then◌else◌}
+use Rattle.std.proofs.Common.{◌≡◌, ℕ, List, None, refl, sym, subst, ◌∙◌, if◌then◌else◌}
 use Rattle.std.specs.Prelude.{◌==◌, ◌&&◌, not}
-use Rattle.key_map.specs.Keys.{at_key}
-use Rattle.directory_index.specs.Names.{is_at_key, written}
+use Rattle.directory_index.specs.Names.{at_key, is_at_key, written}
 use Rattle.directory_index.specs.Standing.{is_place}
 use Rattle.directory_index.specs.declared.directory_index.DirectoryIndex.{DirectoryIndex}
 use Rattle.directory_index.proofs.Indexing.{children-removed, index-removed}
