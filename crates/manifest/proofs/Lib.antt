@@ -13,10 +13,8 @@ pub mod MapLemmas
 pub mod MoreLines
 pub mod OpenedDirectories
 pub mod OrderedMaps
-pub mod OtherPlaces
 pub mod PartsLaws
 pub mod PathLaws
 pub mod PlaceLaws
-pub mod PlacesPush
 pub mod ReadLemmas
 pub mod TextLemmas

@@ -1,113 +1,89 @@
--- What the index of the lines' places tells of a place.
-use Rattle.std.proofs.Common.{◌≡◌, ℕ, ◌+◌, ◌-◌, ◌≤◌, ◌==◌, ◌&&◌, Bool, true, false, nat_lt, List, [], Option, Some, None, is_some, refl, sym, ap, ◌∙◌, ◌⊎◌, inl, inr, arith}
-use Rattle.std.specs.Prelude.{nat_eq}
-use Rattle.std.specs.Cmp.Lexicographic.{pointwise, same_text, nat_list_eq_equiv}
-use Rattle.std.specs.FinMap.{get}
-use Rattle.std.specs.List.{slice_get}
-use Rattle.std.specs.Option.{option_map_or}
+-- Where the files of a manifest's lines stand.
+use Rattle.std.proofs.Common.{◌≡◌, ℕ, ◌+◌, ◌-◌, ◌&&◌, Bool, true, false, nat_lt, List, [], ◌∷◌, ◌++◌, length, Option, Some, None, MatchOption, IsSomeAnd, refl, sym, ap, subst, ◌∙◌, ◌⊎◌, inl, inr, arith}
 use Rattle.std.proofs.lemmas.Bool.Decides.{nat_tests}
-use Rattle.eden_base.proofs.NumberTests.{true-eq, eq-true}
+use Rattle.std.proofs.lemmas.Option.{slice_get_within}
+use Rattle.std.specs.FinMap.{get, get-empty, insert}
+use Rattle.std.specs.List.{slice_get}
+use Rattle.std.specs.Option.{option_map}
+use Rattle.directory_index.proofs.Standings.{place-or, same-number}
+use Rattle.directory_index.specs.Index.{IsIndexOf}
+use Rattle.directory_index.specs.Standing.{inserted, is_place, nothing, AreKnown, Standing, StandsNowhere}
+use Rattle.directory_index.specs.declared.directory_index.DirectoryIndex.{DirectoryIndex}
 use Rattle.eden_base.specs.declared.number.FileId.{FileId}
-use Rattle.key_map.specs.Keys.{at_key, key_of}
-use Rattle.manifest.specs.Manifest.{Line, AreLines, line_of}
-use Rattle.manifest.specs.Places.{other_at, stands, IsPlaces}
-use Rattle.manifest.specs.Tree.{links_from}
-use Rattle.manifest.specs.declared.places.Places.{Places}
-use Rattle.manifest.proofs.ManifestTree.{IsLinkOf, file_with, line_of_link, link_of_line}
-use Rattle.manifest.proofs.MoreLines.{apart}
+use Rattle.manifest.specs.Manifest.{Line, line_of}
+use Rattle.manifest.specs.Places.{place_of, standing_of}
+use Rattle.manifest.specs.Tree.{link_cmp, links_from}
+use Rattle.manifest.proofs.FlatLemmas.{link_cmp_total, link_cmp-same}
+use Rattle.manifest.proofs.ManifestTree.{IsLinkOf, file_with, line_of_link, links_from-push, same_id}
+use Rattle.manifest.proofs.MapLemmas.{get-insert_same, get-insert_other}
 
 -- both tests hold
 pub both : (a b : Bool) → (a && b) ≡ true → (a ≡ true) × (b ≡ true)
 both true b h = (refl, h)
 both false b h = absurd (let no : ⊥ = cc in no)
 
--- a file whose line stands at a place is that of the place
-pub file_that_stands : (lines : List Line) (file dir : FileId) (name : List ℕ) → AreLines lines → stands lines file dir name ≡ true → get (links_from 2 lines) (dir.0, name) ≡ Some file
-file_that_stands lines file dir name are h = in_ (nat_lt file.0 2) refl where
-  at_line : (o : Option Line) → slice_get lines (file.0 - 2) ≡ o → 2 ≤ file.0 → option_map_or (λ (line : Line). line.dir.0 == dir.0 && pointwise nat_eq line.name name) o false ≡ true → get (links_from 2 lines) (dir.0, name) ≡ Some file
-  at_line None here low t = absurd (let no : ⊥ = cc in no)
-  at_line (Some line) here low t =
-      let tests = both (line.dir.0 == dir.0) (pointwise nat_eq line.name name) t in
-      let d : line.dir.0 ≡ dir.0 = true-eq line.dir.0 dir.0 tests.0 in
-      let n : line.name ≡ name = same_text line.name name (sym tests.1) in
-      let k : ◌≡◌ {A = ℕ × List ℕ} (line.dir.0, line.name) (dir.0, name) = λ i. (d i, n i) in
-      let id : 2 + (file.0 - 2) ≡ file.0 = omega arith in
-      ap (get (links_from 2 lines)) (sym k) ∙ link_of_line lines 2 (file.0 - 2) line (apart lines are) here ∙ ap (λ (m : ℕ). Some (file_with m)) id
+abbrev id_in : Option FileId → Option ℕ
+id_in file = option_map (λ (f : FileId). f.0) file
 
-  in_ : (b : Bool) → nat_lt file.0 2 ≡ b → get (links_from 2 lines) (dir.0, name) ≡ Some file
-  in_ true e =
-      let none : line_of lines file ≡ None = rw e refl in
-      absurd (let f : stands lines file dir name ≡ false = ap (λ (o : Option Line). option_map_or (λ (line : Line). line.dir.0 == dir.0 && pointwise nat_eq line.name name) o false) none in let no : ⊥ = cc in no)
-  in_ false e =
-      let low : 2 ≤ file.0 = grind (arith, nat_tests) in
-      let some : line_of lines file ≡ slice_get lines (file.0 - 2) = rw e refl in
-      at_line (slice_get lines (file.0 - 2)) refl low (ap (λ (o : Option Line). option_map_or (λ (line : Line). line.dir.0 == dir.0 && pointwise nat_eq line.name name) o false) (sym some) ∙ h)
+-- a file is told by its id
+pub file-told : (file found : Option FileId) (id : Option ℕ) → id ≡ id_in file → MatchOption id (found ≡ None) (λ n. IsSomeAnd found (λ f. f.0 ≡ n)) → found ≡ file
+file-told None found None e is = is
+file-told None found (Some n) e is = absurd (let no : ⊥ = cc in no)
+file-told (Some file) found None e is = absurd (let no : ⊥ = cc in no)
+file-told (Some file) None (Some n) e is = absurd is
+file-told (Some file) (Some f) (Some n) e is = ap Some (same_id f file (is ∙ same-number n file.0 e))
 
--- the line of a place's file stands at the place
-pub stands_there : (lines : List Line) (file dir : FileId) (name : List ℕ) → get (links_from 2 lines) (dir.0, name) ≡ Some file → stands lines file dir name ≡ true
-stands_there lines file dir name h =
-    let r = line_of_link lines 2 dir.0 name file h in
-    let id : file.0 ≡ 2 + r.place = r.file_is in
-    let place : file.0 - 2 ≡ r.place = omega (arith, id) in
-    let low : nat_lt file.0 2 ≡ false = grind (arith, nat_tests) in
-    let line : line_of lines file ≡ slice_get lines (file.0 - 2) = rw low refl in
-    let some : line_of lines file ≡ Some r.line = line ∙ ap (slice_get lines) place ∙ r.here in
-    let same_name : pointwise nat_eq r.line.name name ≡ true = ap (λ (n : List ℕ). pointwise nat_eq n name) r.name_is ∙ nat_list_eq_equiv.refl name in
-    ap (λ (o : Option Line). option_map_or (λ (line : Line). line.dir.0 == dir.0 && pointwise nat_eq line.name name) o false) some ∙ (rw (eq-true r.line.dir.0 dir.0 r.dir_is, same_name) refl)
+-- what stands at a place has its line there
+link_of : (lines : List Line) (dir : ℕ) (name : List ℕ) (id : ℕ) → standing_of lines dir name ≡ Some id → IsLinkOf lines 2 dir name (file_with id)
+link_of lines dir name id e = in_ (get (links_from 2 lines) (dir, name)) refl e where
+  in_ : (o : Option FileId) → get (links_from 2 lines) (dir, name) ≡ o → id_in o ≡ Some id → IsLinkOf lines 2 dir name (file_with id)
+  in_ None h t = absurd (let no : ⊥ = cc in no)
+  in_ (Some file) h t = line_of_link lines 2 dir name (file_with id) (h ∙ ap Some (same_id file (file_with id) (same-number file.0 id t)))
 
-module _ (lines : List Line) (places : Places) (is : IsPlaces lines places) (dir : FileId) (name : List ℕ) where
-  key : ℕ
-  key = key_of dir.0 name
+-- so the lines know where each file stands
+pub lines-know : (lines : List Line) → AreKnown (standing_of lines) (place_of lines)
+lines-know lines dir name id e =
+    let r = link_of lines dir name id e in
+    let is : id ≡ 2 + r.place = r.file_is in
+    let low : nat_lt id 2 ≡ false = grind (arith, nat_tests) in
+    let place : id - 2 ≡ r.place = omega arith in
+    let line : line_of lines (file_with id) ≡ slice_get lines (id - 2) = rw low refl in
+    ap (option_map (λ (l : Line). (l.dir.0, l.name))) (line ∙ ap (slice_get lines) place ∙ r.here) ∙ ap Some (λ i. (r.dir_is i, r.name_is i))
 
-  -- what the index has of a line that stands at the place
-  found_of : (file : FileId) → get (links_from 2 lines) (dir.0, name) ≡ Some file →
-      (at_key places.files (key_of dir.0 name) ≡ Some file.0) ⊎ ((is_some (at_key places.files (key_of dir.0 name)) ≡ true) × (other_at places.others dir.0 name ≡ Some file))
-  found_of file h = in_ (is.found r.place r.line r.here) where
-    r : IsLinkOf lines 2 dir.0 name file
-    r = line_of_link lines 2 dir.0 name file h
+pub same_lines-know : (lines same : List Line) → same ≡ lines → AreKnown (standing_of lines) (place_of same)
+same_lines-know lines same e = subst (λ (ls : List Line). AreKnown (standing_of lines) (place_of ls)) (sym e) (lines-know lines)
 
-    id : r.place + 2 ≡ file.0
-    id = let e = r.file_is in omega arith
+-- the id of the next line stands nowhere
+pub next-nowhere : (lines : List Line) → StandsNowhere (standing_of lines) (length lines + 2)
+next-nowhere lines dir name e =
+    let r = link_of lines dir name (length lines + 2) e in
+    let within = slice_get_within lines r.place r.line r.here in
+    omega (arith, r.file_is, within)
 
-    at : ◌≡◌ {A = ℕ × List ℕ} (r.line.dir.0, r.line.name) (dir.0, name)
-    at = λ i. (r.dir_is i, r.name_is i)
+-- without lines nothing stands
+pub standing-none : standing_of [] ≡ nothing
+standing-none = λ i dir name. ap id_in (get-empty {X = FileId} link_cmp (dir, name)) i
 
-    key_is : at_key places.files (key_of r.line.dir.0 r.line.name) ≡ at_key places.files (key_of dir.0 name)
-    key_is = ap (λ (k : ℕ × List ℕ). at_key places.files (key_of k.0 k.1)) at
+-- a line at a new place was inserted there
+pub standing-push : (lines : List Line) (line : Line) → get (links_from 2 lines) (line.dir.0, line.name) ≡ None →
+    standing_of (lines ++ line ∷ []) ≡ inserted (standing_of lines) line.dir.0 line.name (length lines + 2)
+standing-push lines line new = λ i dir name. (ap (λ m. id_in (get m (dir, name))) (links_from-push 2 lines line new) ∙ at dir name (place-or dir name line.dir.0 line.name)) i where
+  at : (dir : ℕ) (name : List ℕ) → ((is_place dir name line.dir.0 line.name ≡ true) × ((dir ≡ line.dir.0) × (name ≡ line.name))) ⊎ ((is_place dir name line.dir.0 line.name ≡ false) × ((dir ≡ line.dir.0) → (name ≡ line.name) → ⊥)) →
+      id_in (get (insert (links_from 2 lines) (line.dir.0, line.name) (file_with (2 + length lines))) (dir, name)) ≡ inserted (standing_of lines) line.dir.0 line.name (length lines + 2) dir name
+  at dir name (inl p) =
+      let here : ◌≡◌ {A = ℕ × List ℕ} (dir, name) (line.dir.0, line.name) = λ i. (p.1.0 i, p.1.1 i) in
+      let id : 2 + length lines ≡ length lines + 2 = omega arith in
+      rw p.0 (ap (λ k. id_in (get (insert (links_from 2 lines) (line.dir.0, line.name) (file_with (2 + length lines))) k)) here ∙ ap id_in (get-insert_same link_cmp_total (links_from 2 lines) (line.dir.0, line.name) (file_with (2 + length lines))) ∙ ap Some id)
+  at dir name (inr p) =
+      let other : ◌≡◌ {A = ℕ × List ℕ} (dir, name) (line.dir.0, line.name) → ⊥ = λ e. p.1 (ap (λ (k : ℕ × List ℕ). k.0) e) (ap (λ (k : ℕ × List ℕ). k.1) e) in
+      rw p.0 (ap id_in (get-insert_other link_cmp_total link_cmp-same (links_from 2 lines) (line.dir.0, line.name) (file_with (2 + length lines)) (dir, name) other))
 
-    in_ : (at_key places.files (key_of r.line.dir.0 r.line.name) ≡ Some (r.place + 2)) ⊎ ((is_some (at_key places.files (key_of r.line.dir.0 r.line.name)) ≡ true) × (other_at places.others r.line.dir.0 r.line.name ≡ Some (record { 0 = r.place + 2 }))) →
-        (at_key places.files (key_of dir.0 name) ≡ Some file.0) ⊎ ((is_some (at_key places.files (key_of dir.0 name)) ≡ true) × (other_at places.others dir.0 name ≡ Some file))
-    in_ (inl e) = inl (sym key_is ∙ e ∙ ap Some id)
-    in_ (inr w) = inr (ap is_some (sym key_is) ∙ w.0, ap (λ (k : ℕ × List ℕ). other_at places.others k.0 k.1) (sym at) ∙ w.1 ∙ ap (λ (m : ℕ). Some (file_with m)) id)
-
-  -- a place whose key has no file has no line
-  pub none_at_key : at_key places.files (key_of dir.0 name) ≡ None → get (links_from 2 lines) (dir.0, name) ≡ None
-  none_at_key none = in_ (get (links_from 2 lines) (dir.0, name)) refl where
-    in_ : (o : Option FileId) → get (links_from 2 lines) (dir.0, name) ≡ o → o ≡ None
-    in_ None e = refl
-    in_ (Some file) e = absurd (elim (found_of file e) [
-      | inl some ↦ let no : ⊥ = cc in no
-      | inr w ↦ let t : true ≡ false = sym w.0 ∙ ap is_some none in let no : ⊥ = cc in no
-    ])
-
-  -- a place whose key another place took has what stands under its name
-  pub other_at_key : (file : FileId) → at_key places.files (key_of dir.0 name) ≡ Some file.0 → stands lines file dir name ≡ false → other_at places.others dir.0 name ≡ get (links_from 2 lines) (dir.0, name)
-  other_at_key file there other = in_ (other_at places.others dir.0 name) refl (get (links_from 2 lines) (dir.0, name)) refl where
-    in_ : (o : Option FileId) → other_at places.others dir.0 name ≡ o → (p : Option FileId) → get (links_from 2 lines) (dir.0, name) ≡ p → o ≡ p
-    in_ (Some f) e p q = sym (sym q ∙ is.others dir.0 name f e)
-    in_ None e None q = refl
-    in_ None e (Some f) q = absurd (elim (found_of f q) [
-      | inl some ↦
-          let both_at : Some file.0 ≡ Some f.0 = sym there ∙ some in
-          let same : file.0 ≡ f.0 = cc in
-          let t : stands lines file dir name ≡ true = ap (λ (m : ℕ). stands lines (file_with m) dir name) same ∙ stands_there lines f dir name q in
-          let no : ⊥ = cc in no
-      | inr w ↦ let no : ⊥ = cc in no
-    ])
-
--- no line has a place
-pub no_places : (places : Places) → ((key : ℕ) → at_key places.files key ≡ None) → ((dir : ℕ) (name : List ℕ) → other_at places.others dir name ≡ None) → IsPlaces [] places
-no_places places files others = record {
-  found = λ i line here. absurd (let no : ⊥ = cc in no);
-  others = λ dir name file h. absurd (let none : other_at places.others dir name ≡ None = others dir name in let no : ⊥ = cc in no);
-}
+-- so an index of the lines, with the line's place and id told in other words, is one of the lines with it
+pub index-push : (lines : List Line) (line : Line) (old new : DirectoryIndex) → IsIndexOf (standing_of lines) old → get (links_from 2 lines) (line.dir.0, line.name) ≡ None →
+    (dir : ℕ) (name : List ℕ) (id : ℕ) → dir ≡ line.dir.0 → name ≡ line.name → id ≡ length lines + 2 →
+    ((at : Standing) → IsIndexOf at old → at dir name ≡ None → StandsNowhere at id → IsIndexOf (inserted at dir name id) new) → IsIndexOf (standing_of (lines ++ line ∷ [])) new
+index-push lines line old new is free dir name id d n e put =
+    subst (λ (at : Standing). IsIndexOf at new)
+    (ap (λ (x : ℕ). inserted (standing_of lines) x name id) d ∙ ap (λ (q : List ℕ). inserted (standing_of lines) line.dir.0 q id) n ∙ ap (inserted (standing_of lines) line.dir.0 line.name) e ∙ sym (standing-push lines line free))
+    (put (standing_of lines) is (ap (λ (x : ℕ). standing_of lines x name) d ∙ ap (standing_of lines line.dir.0) n ∙ ap id_in free)
+    (subst (StandsNowhere (standing_of lines)) (sym e) (next-nowhere lines)))

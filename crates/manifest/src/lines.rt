@@ -10,9 +10,10 @@ ghost use Rattle.manifest.specs.Tree.{file_at, links_from, root};
 use crate::entry::Entry;
 use crate::field::is_path;
 use crate::line::kind_of;
-use crate::places::Places;
+use crate::places::LinePlaces;
 use crate::tally::Tally;
 use crate::{Line, ManifestFaultKind};
+use directory_index::DirectoryIndex;
 use eden_base::{FileId, Kind, Name, NoMemory, cut};
 use std::alloc::Global;
 use std::marker::Model;
@@ -21,7 +22,8 @@ use std::marker::Model;
 #[derive(Drop)]
 pub struct Lines {
     lines: Vec<Line>,
-    places: Places,
+    /// The file at each place that a line has.
+    index: DirectoryIndex,
     /// How many lines stand in each directory.
     kids: Tally,
 }
@@ -30,7 +32,8 @@ impl Model for Lines {
     ghost use Rattle.std.specs.Prelude.{◌≡◌, List, ℕ};
     ghost use Rattle.manifest.specs.Manifest.{Line, AreLines, kids_in};
     ghost use Rattle.manifest.specs.Tally.{count_of};
-    ghost use Rattle.manifest.specs.Places.{IsPlaces};
+    ghost use Rattle.manifest.specs.Places.{standing_of};
+    ghost use Rattle.directory_index.specs.Index.{IsIndexOf};
     ghost use Rattle.manifest.specs.Codes.{lines_code};
 
     ghost Value = { List Line };
@@ -39,7 +42,7 @@ impl Model for Lines {
 
     ghost view = { λ a. a.lines.items };
 
-    ghost invariant = { λ a. AreLines a.lines.items × IsPlaces a.lines.items a.places
+    ghost invariant = { λ a. AreLines a.lines.items × IsIndexOf (standing_of a.lines.items) a.index
         × ((dir : ℕ) → count_of a.kids dir ≡ kids_in dir a.lines.items) };
 }
 
@@ -53,7 +56,7 @@ impl Lines {
     {
         Lines {
             lines: Vec::new(alloc),
-            places: Places::new(alloc),
+            index: DirectoryIndex::new(alloc),
             kids: Tally::new(alloc),
         }
     }
@@ -78,7 +81,10 @@ impl Lines {
     pub fn child(&self, dir: FileId, name: &[u8]) -> Option<FileId>
         ensures { result ≡ get (links_from 2 self.now) (dir.0, name.now) }
     {
-        self.places.child(self.lines.as_slice(), dir, name)
+        let places = LinePlaces {
+            lines: self.lines.as_slice(),
+        };
+        self.index.get(&places, dir.0, name).map(FileId)
     }
 
     /// Returns how many lines stand in a directory.
@@ -163,10 +169,14 @@ impl Lines {
         requires new { get (links_from 2 self.old) (line.dir.0, line.name) ≡ None }
         ensures { IfOk result (λ _. self.new ≡ self.old ++ line ∷ []) }
     {
-        let file = FileId(self.len() as u64 + 2);
+        let file = self.len() as u64 + 2;
         self.lines.reserve(1)?;
-        self.kids.reserve(file.0 as usize)?;
-        self.places.add(alloc, line.dir, line.name.bytes(), file)?;
+        self.kids.reserve(file as usize)?;
+        let places = LinePlaces {
+            lines: self.lines.as_slice(),
+        };
+        self.index.make_room(alloc, &places)?;
+        self.index.insert(line.dir.0, line.name.bytes(), file);
         self.kids.raise(line.dir.0);
         self.lines.push(line).unwrap();
         Ok(())
