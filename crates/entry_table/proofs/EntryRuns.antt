@@ -1,43 +1,33 @@
 -- Given entries, put into a table one after another.
 use Rattle.std.proofs.Common.{◌≡◌, ℕ, zero, suc, ◌+◌, ◌<◌, ◌≤◌, Bool, true, false, cond, List, [], ◌∷◌, ◌++◌, length, take, drop, get_or, Option, Some, None, refl, sym, ap, ◌∙◌, subst, inl, inr, ◌⊎◌, arith}
-use Rattle.std.specs.Prelude.{◌==◌, if◌then◌else◌}
+use Rattle.std.specs.Prelude.{◌==◌}
 use Rattle.std.specs.List.{AllByRecursion}
-use Rattle.std.proofs.lemmas.List.{take_more, length-take}
+use Rattle.std.proofs.lemmas.List.{take_more}
+use Rattle.directory_index.specs.Index.{IsIndexOf}
+use Rattle.directory_index.specs.Standing.{inserted, AreKnown, Standing, StandsNowhere}
+use Rattle.directory_index.specs.declared.directory_index.DirectoryIndex.{DirectoryIndex}
 use Rattle.eden_base.specs.First.{first_where}
 use Rattle.eden_base.specs.declared.number.FileId.{FileId}
 use Rattle.eden_base.specs.declared.number.Number.{Number}
-use Rattle.eden_base.specs.declared.place.Place.{Place}
 use Rattle.eden_base.specs.declared.place.Place.TheVariants.{Linked, Unlinked}
-use Rattle.eden_base.proofs.NumberTests.{eq-true, eq-false}
+use Rattle.eden_base.proofs.NumberTests.{eq-true, eq-false, eq-or}
 use Rattle.eden_base.proofs.MemberLemmas.{some-same, some-none}
-use Rattle.entry_table.specs.Entries.{by_number, stands_at, is_in, entry_of, entry_at, AreNumbers, AreEntries}
-use Rattle.entry_table.specs.Links.{key_of, counted, Files}
-use Rattle.entry_table.specs.Slots.{slots_of, kept_from, files_from, notes_from, AreFull, AreSlots, Stands, IsIndexed, kid_in, kids_of}
+use Rattle.entry_table.specs.Entries.{by_number, stands_at, entry_of, entry_at, has_number, AreNumbers, AreEntries}
+use Rattle.entry_table.specs.Slots.{slots_of, kept_from, files_from, notes_from, AreSlots}
+use Rattle.entry_table.specs.Standing.{place_of_number, place_under, IsIndexed}
 use Rattle.entry_table.specs.Table.{kept_of}
-use Rattle.entry_table.specs.declared.index.Index.{Index}
-use Rattle.entry_table.specs.declared.index.Link.{Link}
 use Rattle.entry_table.specs.declared.kept.Kept.{Kept}
 use Rattle.entry_table.specs.declared.kept.Entry.{Entry}
-use Rattle.entry_table.specs.declared.maps.Maps.{Maps}
-use Rattle.entry_table.proofs.Changing.{append-extends, new_or_old}
 use Rattle.entry_table.proofs.EntryLemmas.{entry_of-first, numbers-bound, numbers-outside}
-use Rattle.entry_table.proofs.FileLemmas.{linked-marked}
-use Rattle.entry_table.proofs.IndexedChanges.{indexed-added, indexed-filed}
-use Rattle.entry_table.proofs.IndexedLemmas.{indexed-same}
-use Rattle.entry_table.proofs.Kids.{kids-append, kids-length}
-use Rattle.entry_table.proofs.Standing.{number_of, stands-more, stands-extends}
-
-abbrev one_if : Bool → ℕ
-one_if b = if b then 1 else 0
+use Rattle.entry_table.proofs.Placed.{added-elsewhere, added-here, placed-free, placed-linked, placed-none, placed-some}
+use Rattle.entry_table.proofs.SlotLemmas.{kept-append, kept-front, kept-past}
+use Rattle.entry_table.proofs.Standing.{indexed-gained, indexed-same, under}
 
 -- a list, cut at one of its members
-pub cut : (es : List Kept) (i : ℕ) (x : Kept) → i < length es → x ≡ get_or es i x → es ≡ take i es ++ x ∷ drop (suc i) es
+pub cut : {X : Type 0} (xs : List X) (i : ℕ) (x : X) → i < length xs → x ≡ get_or xs i x → xs ≡ take i xs ++ x ∷ drop (suc i) xs
 cut [] i x h e = absurd (omega arith)
-cut (y ∷ es) zero x h e = ap (λ (z : Kept). z ∷ es) (sym e)
-cut (y ∷ es) (suc i) x h e = ap (λ (zs : List Kept). y ∷ zs) (cut es i x (omega arith) e)
-
-pub taken : (es : List Kept) (i : ℕ) (x : Kept) → i < length es → x ≡ get_or es i x → take (i + 1) es ≡ take i es ++ x ∷ []
-taken es i x h e = take_more es i x h ∙ ap (λ (z : Kept). take i es ++ z ∷ []) (sym e)
+cut (y ∷ xs) zero x h e = ap (λ z. z ∷ xs) (sym e)
+cut (y ∷ xs) (suc i) x h e = ap (λ zs. y ∷ zs) (cut xs i x (omega arith) e)
 
 -- the numbers before one that comes later
 pub numbers-before : (done : List Kept) (x : Kept) (rest : List Kept) (low next : ℕ) → AreNumbers low next (done ++ x ∷ rest) → AreNumbers low x.number.0 done
@@ -78,34 +68,57 @@ module _ (done : List Kept) (x : Kept) (rest : List Kept) (next : ℕ) (are : Ar
         let there : entry_of done x.number.0 ≡ Some k = subst (λ (z : Kept). entry_of done z.number.0 ≡ Some k) it (entry_of-first done 2 x.number.0 (stands_at parent.0 name) k before e) in
         absurd (some-none (entry_of done x.number.0) k there number-new)
 
-  -- the index with it
-  pub indexed-linked : (maps new : Maps) (parent : Number) (name : List ℕ) → x.place ≡ Linked parent name → IsIndexed done (record { maps = maps; latest = None }) →
-      Files maps new parent.0 name (key_of parent.0 name) x.number.0 → IsIndexed (done ++ x ∷ []) (record { maps = new; latest = None })
-  indexed-linked maps new parent name place index files =
-      let link : Link = record { parent = parent.0; key = key_of parent.0 name; number = x.number.0 } in
-      let added = indexed-added done x.number.0 x parent name refl place number-new (place-new parent name place) (record { maps = maps; latest = None }) refl index in
-      indexed-filed (done ++ x ∷ []) (record { maps = maps; latest = Some link }) link name new added refl (stands-more done x.number.0 x parent name refl place number-new) refl files
+  -- an index with it
+  pub indexed-linked : (parent : Number) (name : List ℕ) → x.place ≡ Linked parent name → (old new : DirectoryIndex) → IsIndexed (place_of_number done) old →
+      ((at : Standing) → IsIndexOf at old → at parent.0 name ≡ None → StandsNowhere at x.number.0 → IsIndexOf (inserted at parent.0 name x.number.0) new) →
+      IsIndexed (place_of_number (done ++ x ∷ [])) new
+  indexed-linked parent name place old new is put =
+      indexed-gained (place_of_number done) (place_of_number (done ++ x ∷ [])) x.number.0 (added-elsewhere done x) old new parent.0 name
+      (placed-none done x.number.0 number-new) (added-here done x number-new ∙ ap place_under place) (placed-free done parent.0 name (place-new parent name place)) is put
 
-  pub indexed-unlinked : (index : Index) (file : FileId) → x.place ≡ Unlinked file → IsIndexed done index → IsIndexed (done ++ x ∷ []) index
-  indexed-unlinked index file place is =
-      indexed-same done (done ++ x ∷ []) index (stands-extends done (done ++ x ∷ []) (append-extends done x.number.0 x refl number-new)) (λ dir q n w. in_ dir q n w (new_or_old done x.number.0 n x w.0 refl number-new w.1))
-      (λ dir. let long = kids-append dir done x in let none : kid_in dir x ≡ 0 = ap (λ (p : Place). one_if (is_in dir p)) place in omega arith) is where
-        in_ : (dir : ℕ) (q : List ℕ) (n : ℕ) (w : Stands (done ++ x ∷ []) dir q n) → ((n ≡ x.number.0) × (w.0 ≡ x)) ⊎ (entry_of done n ≡ Some w.0) → Stands done dir q n
-        in_ dir q n w (inl (same, it)) = absurd (linked-marked x.place (number_of dir) q file (ap (λ (k : Kept). k.place) (sym it) ∙ w.2) place)
-        in_ dir q n w (inr was) = (w.0, was, w.2)
+  -- and one that stands under no name
+  pub indexed-unlinked : (file : FileId) → x.place ≡ Unlinked file → (index : DirectoryIndex) → IsIndexed (place_of_number done) index → IsIndexed (place_of_number (done ++ x ∷ [])) index
+  indexed-unlinked file place index is = indexed-same (place_of_number done) (place_of_number (done ++ x ∷ [])) index (λ n. in_ n (eq-or n x.number.0)) is where
+    in_ : (n : ℕ) → (n ≡ x.number.0) ⊎ (n ≡ x.number.0 → ⊥) → place_of_number (done ++ x ∷ []) n ≡ place_of_number done n
+    in_ n (inl same) =
+        ap (place_of_number (done ++ x ∷ [])) same ∙ added-here done x number-new ∙ ap place_under place ∙ sym (placed-none done x.number.0 number-new) ∙ ap (place_of_number done) (sym same)
+    in_ n (inr other) = added-elsewhere done x n other
 
--- the names that the maps count in a directory are no more than the entries
-pub counted-bound : (es : List Kept) (maps : Maps) (i : ℕ) (dir : ℕ) → IsIndexed (take i es) (record { maps = maps; latest = None }) → counted maps.counts dir ≤ i
-counted-bound es maps i dir is =
-    let counts : counted maps.counts dir + 0 ≡ kids_of dir (take i es) = is.counts dir in
-    let bound = kids-length dir (take i es) in
-    let short = length-take i es in
-    omega arith
+  -- what stands without it stands among all
+  pub placed-among : (n dir : ℕ) (name : List ℕ) → place_of_number done n ≡ Some (dir, name) → place_of_number (done ++ x ∷ rest) n ≡ Some (dir, name)
+  placed-among n dir name e =
+      let w = placed-some done n dir name e in
+      placed-linked (done ++ x ∷ rest) n w.0 (record { 0 = dir }) name (found-before (has_number n) done (x ∷ rest) w.0 w.1) w.2
 
--- there are no more entries than numbers
-pub numbers-long : (es : List Kept) (low next : ℕ) → AreNumbers low next es → low + length es ≤ next
-numbers-long [] low next are = let a : low ≤ next = are in omega arith
-numbers-long (x ∷ es) low next are = let a : low ≤ x.number.0 = are.0 in let b = numbers-long es (x.number.0 + 1) next are.1 in omega arith
+-- slots, cut at one of them: its entry stands between those before it and those behind it
+module _ (slots : List (ℕ × Option Entry)) (i : ℕ) (slot : ℕ × Option Entry) (within : i < length slots) (is : slot ≡ get_or slots i slot) where
+  abbrev pub before_it : List Kept
+  before_it = kept_from (take i slots)
+
+  up_to_it : kept_from (take (i + 1) slots) ≡ before_it ++ kept_from (slot ∷ [])
+  up_to_it = ap kept_from (take_more slots i slot within ∙ ap (λ (s : ℕ × Option Entry). take i slots ++ s ∷ []) (sym is)) ∙ kept-append (take i slots) (slot ∷ [])
+
+  module _ (h : Entry) (full : slot.1 ≡ Some h) where
+    pub kept-cut : kept_from slots ≡ before_it ++ kept_of slot.0 h ∷ kept_from (drop (suc i) slots)
+    kept-cut =
+        ap kept_from (cut slots i slot within is) ∙ kept-append (take i slots) (slot ∷ drop (suc i) slots)
+        ∙ ap (λ (es : List Kept). before_it ++ es) (kept-front slot h (drop (suc i) slots) full)
+
+    pub kept-taken : kept_from (take (i + 1) slots) ≡ before_it ++ kept_of slot.0 h ∷ []
+    kept-taken = up_to_it ∙ ap (λ (es : List Kept). before_it ++ es) (kept-front slot h [] full)
+
+    -- where each entry before it stands is known among all
+    pub known-among : (next : ℕ) → AreEntries (kept_from slots) next → (index : DirectoryIndex) → (before : IsIndexed (place_of_number before_it) index) → AreKnown before.at (place_of_number (kept_from slots))
+    known-among next are index before dir name n e =
+        let parted = subst (λ (es : List Kept). AreEntries es next) kept-cut are in
+        subst (λ (es : List Kept). place_of_number es n ≡ under dir name) (sym kept-cut)
+        (placed-among before_it (kept_of slot.0 h) (kept_from (drop (suc i) slots)) next parted n dir name (before.known dir name n e))
+
+  pub kept-none : slot.1 ≡ None → kept_from (take (i + 1) slots) ≡ before_it
+  kept-none empty = up_to_it ∙ ap (λ (es : List Kept). before_it ++ es) (kept-past slot [] empty) ∙ ++-nil before_it where
+    ++-nil : (es : List Kept) → es ++ [] ≡ es
+    ++-nil [] = refl
+    ++-nil (y ∷ es) = ap (λ (xs : List Kept). y ∷ xs) (++-nil es)
 
 -- the slots of entries, read again
 pub slots-are : (es : List Kept) (fs : List FileId) (low next : ℕ) → length fs ≡ length es → AreNumbers low next es → AreSlots low next (slots_of es fs)
@@ -127,44 +140,6 @@ pub slots-notes : (es : List Kept) (fs : List FileId) → notes_from (slots_of e
 slots-notes [] fs = refl
 slots-notes (y ∷ es) [] = refl
 slots-notes (y ∷ es) (f ∷ fs) = slots-notes es fs
-
-pub slots-full : (es : List Kept) (fs : List FileId) → AreFull (slots_of es fs)
-slots-full [] fs = tt
-slots-full (y ∷ es) [] = tt
-slots-full (y ∷ es) (f ∷ fs) = (refl, slots-full es fs)
-
--- the slot of an entry, at the index that the entry has
-pub record IsSlotThere (es : List Kept) (i : ℕ) (slot : ℕ × Option Entry) : Type 0 where
-  pub kept : Kept
-  pub inside : i < length es
-  pub there : kept ≡ get_or es i kept
-  pub number : slot.0 ≡ kept.number.0
-  pub entry : Entry
-  pub held : slot.1 ≡ Some entry
-  pub place : kept.place ≡ entry.place
-
--- each slot is that of an entry, since none is empty
-pub slot-in : (slots : List (ℕ × Option Entry)) → AreFull slots → (i : ℕ) (slot : ℕ × Option Entry) → i < length slots → slot ≡ get_or slots i slot → IsSlotThere (kept_from slots) i slot
-slot-in [] full i slot h e = absurd (omega arith)
-slot-in ((n, None) ∷ slots) full i slot h e = absurd (let never = full.0 in let none : ⊥ = cc in none)
-slot-in ((n, Some entry) ∷ slots) full zero slot h e = record {
-  kept = kept_of n entry;
-  inside = omega arith;
-  there = refl;
-  number = ap (λ (one : ℕ × Option Entry). one.0) e;
-  entry = entry;
-  held = ap (λ (one : ℕ × Option Entry). one.1) e;
-  place = refl;
-}
-slot-in ((n, Some entry) ∷ slots) full (suc i) slot h e =
-    let it = slot-in slots full.1 i slot (omega arith) e in
-    let inside = it.inside in
-    record { kept = it.kept; inside = omega arith; there = it.there; number = it.number; entry = it.entry; held = it.held; place = it.place }
-
--- and it holds that entry's place
-pub place-in : (es : List Kept) (i : ℕ) (slot : ℕ × Option Entry) (entry : Entry) (it : IsSlotThere es i slot) → slot.1 ≡ Some entry → it.kept.place ≡ entry.place
-place-in es i slot entry it held =
-    it.place ∙ ap (λ (one : Entry). one.place) (some-same slot.1 it.entry entry it.held held)
 
 -- what holds of each holds of the entry of a number
 pub each-entry : (es : List Kept) (P : Kept → Type 0) (n : ℕ) (kept : Kept) → AllByRecursion P es → entry_of es n ≡ Some kept → P kept

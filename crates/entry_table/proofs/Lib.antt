@@ -5,12 +5,7 @@ pub mod EntryLemmas
 pub mod EntryRuns
 pub mod FileLemmas
 pub mod Heights
-pub mod IndexLemmas
-pub mod IndexedChanges
-pub mod IndexedDrops
-pub mod IndexedLemmas
-pub mod IndexedLosses
-pub mod Kids
+pub mod Placed
 pub mod Places
 pub mod Removing
 pub mod SlotGrowth

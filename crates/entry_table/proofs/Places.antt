@@ -1,21 +1,18 @@
 -- The test whether an entry stands at a place, and what it says.
-use Rattle.std.proofs.Common.{◌≡◌, ℕ, true, List, [], ◌∷◌, refl, sym, ap, ◌∙◌}
+use Rattle.std.proofs.Common.{◌≡◌, ℕ, true, List, refl, sym, ap, ◌∙◌}
 use Rattle.std.proofs.lemmas.Bool.{and_parts}
 use Rattle.std.specs.Cmp.Lexicographic.{pointwise, same_text}
 use Rattle.std.specs.Prelude.{◌==◌, nat_eq}
+use Rattle.directory_index.proofs.Written.{names-alike}
 use Rattle.eden_base.proofs.NumberTests.{eq-true, true-eq}
 use Rattle.eden_base.specs.declared.place.Place.{Place}
 use Rattle.eden_base.specs.declared.place.Place.TheVariants.{Linked, Unlinked}
 use Rattle.entry_table.specs.Entries.{stands_at, is_place}
 use Rattle.entry_table.specs.declared.kept.Kept.{Kept}
 
-names_alike : (name : List ℕ) → pointwise nat_eq name name ≡ true
-names_alike [] = refl
-names_alike (b ∷ name) = let t : (b == b) ≡ true = eq-true b b refl in rw (t, names_alike name) refl
-
 -- what has a place passes its test
 pub place-stands : (parent : ℕ) (name : List ℕ) (kept : Kept) → kept.place ≡ Linked (record { 0 = parent }) name → stands_at parent name kept ≡ true
-place-stands parent name kept e = ap (is_place parent name) e ∙ (let t : (parent == parent) ≡ true = eq-true parent parent refl in rw (t, names_alike name) refl)
+place-stands parent name kept e = ap (is_place parent name) e ∙ (let t : (parent == parent) ≡ true = eq-true parent parent refl in rw (t, names-alike name) refl)
 
 -- what passes it has the place
 pub stands-place : (parent : ℕ) (name : List ℕ) (kept : Kept) → stands_at parent name kept ≡ true → kept.place ≡ Linked (record { 0 = parent }) name

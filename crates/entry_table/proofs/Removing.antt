@@ -1,24 +1,24 @@
 -- A table of which an entry was taken out of its slot.
 use Rattle.std.proofs.Common.{◌≡◌, ℕ, List, Option, Some, get_or, refl, sym, ap, ◌∙◌, subst}
 use Rattle.std.specs.Option.{option_map, option_and_then}
+use Rattle.directory_index.specs.Index.{IsIndexOf}
+use Rattle.directory_index.specs.Standing.{removed, Standing}
+use Rattle.directory_index.specs.declared.directory_index.DirectoryIndex.{DirectoryIndex}
 use Rattle.eden_base.specs.First.{without_where}
 use Rattle.eden_base.specs.declared.number.FileId.{FileId}
 use Rattle.eden_base.specs.declared.number.Number.{Number}
 use Rattle.eden_base.specs.declared.place.Place.TheVariants.{Linked, Unlinked}
 use Rattle.entry_table.specs.Entries.{has_number, entry_of, place_of_kept}
 use Rattle.entry_table.specs.Inside.{IsTable}
-use Rattle.entry_table.specs.Links.{Unlinks}
-use Rattle.entry_table.specs.Slots.{kept_from, slot_at, file_beside, note_beside, files_from, notes_from, spare_of, AreSlots, IsIndexed, IsIndexOf}
+use Rattle.entry_table.specs.Slots.{kept_from, slot_at, file_beside, note_beside, files_from, notes_from, spare_of, AreSlots, IsIndexOf as IsSlotOf}
+use Rattle.entry_table.specs.Standing.{place_of_number, IsIndexed}
 use Rattle.entry_table.specs.Table.{TableState, kept_of, without_entry, note_of}
 use Rattle.entry_table.specs.declared.kept.Kept.{Kept}
 use Rattle.entry_table.specs.declared.kept.Entry.{Entry}
-use Rattle.entry_table.specs.declared.index.Index.{Index}
 use Rattle.entry_table.specs.declared.table.Table.TheInside.{Inside}
-use Rattle.entry_table.proofs.IndexedLosses.{indexed-lost, indexed-left}
 use Rattle.entry_table.proofs.SlotLemmas.{held-beside}
 use Rattle.entry_table.proofs.SlotWrites.{set-slots, emptied, emptied-kept, emptied-beside}
-use Rattle.entry_table.proofs.TableLemmas.{view_of, slot-entry, found-held, written, without-loses}
-use Rattle.entry_table.proofs.Standing.{Loses}
+use Rattle.entry_table.proofs.TableLemmas.{view_of, slot-entry, found-held, written, indexed-left, indexed-without}
 use Rattle.std.specs.Prelude.{None, slice_set}
 
 -- what was taken out of the slot of a number, and what is left
@@ -28,10 +28,10 @@ pub record Taken (t : Inside) (n : ℕ) (h : Entry) (left : List (ℕ × Option 
   pub taken : left ≡ emptied t.next n h t.slots.items
 
 -- by the index at which the slot was found
-pub taken-at : (t : Inside) (n index : ℕ) (slot : ℕ × Option Entry) (h : Entry) (now : Option Entry) (slots : List (ℕ × Option Entry)) → IsTable t → slots ≡ t.slots.items → IsIndexOf slots n index →
+pub taken-at : (t : Inside) (n index : ℕ) (slot : ℕ × Option Entry) (h : Entry) (now : Option Entry) (slots : List (ℕ × Option Entry)) → IsTable t → slots ≡ t.slots.items → IsSlotOf slots n index →
     slot ≡ get_or t.slots.items index slot → slot.1 ≡ Some h → now ≡ None → Taken t n h (slice_set t.slots.items index (slot.0, now))
 taken-at t n index slot h now slots is same at value full gone =
-    let there = subst (λ (es : List (ℕ × Option Entry)). IsIndexOf es n index) same at in
+    let there = subst (λ (es : List (ℕ × Option Entry)). IsSlotOf es n index) same at in
     record {
       is = is;
       found = found-held t n index slot is there value h h full;
@@ -48,19 +48,20 @@ module _ {t : Inside} {n : ℕ} {h : Entry} {left : List (ℕ × Option Entry)} 
   pub left-kept : kept_from left ≡ kept_left
   left-kept = ap kept_from out.taken ∙ emptied-kept t.next n h t.slots.items 2 out.is.slots out.found
 
-  -- the index without its link, if it had one
-  loses : Loses (kept_from t.slots.items) kept_left n (kept_of n h)
-  loses = without-loses t n (kept_of n h) out.is (slot-entry t n h out.is out.found)
+  here : entry_of (kept_from t.slots.items) n ≡ Some (kept_of n h)
+  here = slot-entry t n h out.is out.found
 
-  pub left-lost : (parent : Number) (name : List ℕ) → h.place ≡ Linked parent name → (index : Index) → Unlinks t.index index parent.0 name n → IsIndexed (kept_from left) index
-  left-lost parent name place index unlinks = subst (λ (es : List Kept). IsIndexed es index) (sym left-kept) (indexed-lost loses parent name place t.index index unlinks out.is.indexed)
+  -- the index without its place, if it had one
+  pub left-lost : (parent : Number) (name : List ℕ) → h.place ≡ Linked parent name → (index : DirectoryIndex) →
+      ((at : Standing) → IsIndexOf at t.index → at parent.0 name ≡ Some n → IsIndexOf (removed at parent.0 name) index) → IsIndexed (place_of_number (kept_from left)) index
+  left-lost parent name place index take = subst (λ (es : List Kept). IsIndexed (place_of_number es) index) (sym left-kept) (indexed-without t n (kept_of n h) out.is here index parent name place take)
 
-  pub left-marked : (file : FileId) → h.place ≡ Unlinked file → IsIndexed (kept_from left) t.index
-  left-marked file place = subst (λ (es : List Kept). IsIndexed es t.index) (sym left-kept) (indexed-left loses file place t.index out.is.indexed)
+  pub left-marked : (file : FileId) → h.place ≡ Unlinked file → IsIndexed (place_of_number (kept_from left)) t.index
+  left-marked file place = subst (λ (es : List Kept). IsIndexed (place_of_number es) t.index) (sym left-kept) (indexed-left t n (kept_of n h) out.is here file place)
 
   -- what its view says
   pub left-place : (now : TableState) → view_of t ≡ now → option_map place_of_kept (entry_of now.entries n) ≡ Some h.place
-  left-place now view = rw (← view) (ap (option_map place_of_kept) (slot-entry t n h out.is out.found))
+  left-place now view = rw (← view) (ap (option_map place_of_kept) here)
 
   pub left-note : (now : TableState) → view_of t ≡ now → note_of now.notes n ≡ h.note
   left-note now view =

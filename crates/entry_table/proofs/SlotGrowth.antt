@@ -9,8 +9,7 @@ use Rattle.std.specs.declared.cmp.Ordering.TheVariants.{Less, Equal, Greater}
 use Rattle.std.specs.BTreeMap.{is_at, insert_entry}
 use Rattle.std.proofs.lemmas.Bool.Decides.{nat_tests}
 use Rattle.eden_base.proofs.NumberTests.{eq-or}
-use Rattle.entry_table.proofs.IndexLemmas.{at-same, at-other}
-use Rattle.entry_table.proofs.SlotLemmas.{slots-behind, slots-none}
+use Rattle.entry_table.proofs.SlotLemmas.{at-same, at-other, kept-append, slots-behind, slots-none}
 use Rattle.entry_table.proofs.SlotWrites.{found-behind, found-here}
 use Rattle.entry_table.specs.Slots.{kept_from, slot_at, first_beside, all_beside, AreSlots}
 use Rattle.entry_table.specs.Table.{kept_of}
@@ -27,9 +26,7 @@ module _ (next : ℕ) (h : Entry) where
   pushed-slots ((m, o) ∷ es) low are = (are.0, pushed-slots es (m + 1) are.1)
 
   pub pushed-kept : (es : List (ℕ × Option Entry)) → kept_from (pushed es) ≡ kept_from es ++ kept_of next h ∷ []
-  pushed-kept [] = refl
-  pushed-kept ((m, Some g) ∷ es) = ap (λ (xs : List Kept). kept_of m g ∷ xs) (pushed-kept es)
-  pushed-kept ((m, None) ∷ es) = pushed-kept es
+  pushed-kept es = kept-append es ((next, Some h) ∷ [])
 
   module _ {X : Type 0} (part : Entry → Option X) where
     pub pushed-beside : (es : List (ℕ × Option Entry)) → part h ≡ None → all_beside part (pushed es) ≡ all_beside part es

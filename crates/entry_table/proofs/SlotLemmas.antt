@@ -1,18 +1,27 @@
 -- The slots of the map of entries, read as entries.
-use Rattle.std.proofs.Common.{◌≡◌, ℕ, ◌+◌, ◌<◌, ◌≤◌, Bool, true, false, cond, List, [], ◌∷◌, length, drop, get_or, Option, Some, None, IsSome, is_some, refl, sym, ap, ◌∙◌, inl, inr, ◌⊎◌, arith}
+use Rattle.std.proofs.Common.{◌≡◌, ℕ, ◌+◌, ◌<◌, ◌≤◌, Bool, true, false, cond, List, [], ◌∷◌, ◌++◌, length, drop, get_or, Option, Some, None, IsSome, is_some, refl, sym, ap, ◌∙◌, inl, inr, ◌⊎◌, arith}
 use Rattle.std.specs.Prelude.{◌==◌}
 use Rattle.std.specs.Option.{option_map, option_and_then}
 use Rattle.std.specs.Map.{lookup}
+use Rattle.std.specs.Ordering.{nat_cmp}
+use Rattle.std.specs.Cmp.{unsigned_ties}
+use Rattle.std.specs.BTreeMap.{is_at}
 use Rattle.std.proofs.lemmas.List.{drop_more}
 use Rattle.eden_base.specs.declared.number.FileId.{FileId}
 use Rattle.eden_base.proofs.FirstLemmas.{Each-kept}
 use Rattle.eden_base.proofs.NumberTests.{eq-true, eq-false, eq-or}
-use Rattle.entry_table.proofs.IndexLemmas.{at-same, at-other}
 use Rattle.entry_table.specs.Entries.{entry_of, is_kept, AreNumbers}
 use Rattle.entry_table.specs.Slots.{kept_from, slot_at, first_beside, all_beside, files_from, AreSlots}
 use Rattle.entry_table.specs.Table.{kept_of, AreOfKept, file_number}
 use Rattle.entry_table.specs.declared.kept.Kept.{Kept}
 use Rattle.entry_table.specs.declared.kept.Entry.{Entry}
+
+-- a number is at itself alone
+pub at-same : (m n : ℕ) → m ≡ n → is_at (nat_cmp n) m ≡ true
+at-same m n e = sym (unsigned_ties n m) ∙ eq-true n m (sym e)
+
+pub at-other : (m n : ℕ) → (m ≡ n → ⊥) → is_at (nat_cmp n) m ≡ false
+at-other m n d = sym (unsigned_ties n m) ∙ eq-false n m (λ e. d (sym e))
 
 -- what stands in a slot
 abbrev pub slot_held : Option (Option Entry) → Option Entry
@@ -131,14 +140,20 @@ kept-len ((m, Some h) ∷ es) = let r = kept-len es in omega arith
 kept-len ((m, None) ∷ es) = let r = kept-len es in omega arith
 
 -- the entry of a slot stands in front of those of the slots behind it
-kept-front : (slot : ℕ × Option Entry) (h : Entry) (rest : List (ℕ × Option Entry)) → slot.1 ≡ Some h → kept_from (slot ∷ rest) ≡ kept_of slot.0 h ∷ kept_from rest
+pub kept-front : (slot : ℕ × Option Entry) (h : Entry) (rest : List (ℕ × Option Entry)) → slot.1 ≡ Some h → kept_from (slot ∷ rest) ≡ kept_of slot.0 h ∷ kept_from rest
 kept-front (n, Some k) h rest is = let same : k ≡ h = cc in ap (λ (x : Entry). kept_of n x ∷ kept_from rest) same
 kept-front (n, None) h rest is = absurd (let no : ⊥ = cc in no)
 
 -- and an empty slot has none
-kept-past : (slot : ℕ × Option Entry) (rest : List (ℕ × Option Entry)) → slot.1 ≡ None → kept_from (slot ∷ rest) ≡ kept_from rest
+pub kept-past : (slot : ℕ × Option Entry) (rest : List (ℕ × Option Entry)) → slot.1 ≡ None → kept_from (slot ∷ rest) ≡ kept_from rest
 kept-past (n, Some k) rest is = absurd (let no : ⊥ = cc in no)
 kept-past (n, None) rest is = refl
+
+-- entries of slots behind others stand behind theirs
+pub kept-append : (es fs : List (ℕ × Option Entry)) → kept_from (es ++ fs) ≡ kept_from es ++ kept_from fs
+kept-append [] fs = refl
+kept-append ((m, Some h) ∷ es) fs = ap (λ (xs : List Kept). kept_of m h ∷ xs) (kept-append es fs)
+kept-append ((m, None) ∷ es) fs = kept-append es fs
 
 -- so it is where slots are read one by one
 module _ (slots : List (ℕ × Option Entry)) (i : ℕ) (slot : ℕ × Option Entry) (within : i < length slots) (is : slot ≡ get_or slots i slot) where

@@ -7,7 +7,7 @@ use Rattle.std.specs.Ordering.{nat_cmp}
 use Rattle.std.specs.BTreeMap.{is_at}
 use Rattle.std.proofs.lemmas.Bool.Decides.{nat_tests}
 use Rattle.eden_base.proofs.NumberTests.{eq-or}
-use Rattle.entry_table.proofs.IndexLemmas.{at-same, at-other}
+use Rattle.entry_table.proofs.SlotLemmas.{at-same, at-other}
 use Rattle.entry_table.specs.Entries.{number_after}
 use Rattle.entry_table.specs.Slots.{kept_from, slot_at, first_number, AreSlots, IsIndexOf}
 use Rattle.entry_table.specs.declared.kept.Entry.{Entry}

@@ -7,7 +7,7 @@ use Rattle.std.specs.Ordering.{nat_cmp}
 use Rattle.std.specs.BTreeMap.{is_at}
 use Rattle.eden_base.specs.First.{changed_where, without_where}
 use Rattle.eden_base.proofs.NumberTests.{eq-true, eq-false, eq-or}
-use Rattle.entry_table.proofs.IndexLemmas.{at-same, at-other}
+use Rattle.entry_table.proofs.SlotLemmas.{at-same, at-other}
 use Rattle.entry_table.specs.Entries.{has_number}
 use Rattle.entry_table.specs.Slots.{kept_from, slot_at, first_beside, all_beside, AreSlots}
 use Rattle.entry_table.specs.Table.{kept_of, is_other}

@@ -1,5 +1,5 @@
 -- The fields of a table after a write to one slot.
-use Rattle.std.proofs.Common.{◌≡◌, ℕ, ◌+◌, ◌≤◌, Bool, true, false, List, [], ◌∷◌, get_or, Option, Some, None, IsSome, refl, sym, ap, ◌∙◌, subst, arith}
+use Rattle.std.proofs.Common.{◌≡◌, ℕ, ◌+◌, ◌≤◌, Bool, true, false, List, [], ◌∷◌, get_or, Option, Some, None, IsSome, refl, sym, ap, ◌∙◌, subst, inl, inr, ◌⊎◌, arith}
 use Rattle.std.specs.Prelude.{slice_set}
 use Rattle.std.specs.Map.{set_value}
 use Rattle.std.specs.Ordering.{nat_cmp}
@@ -7,20 +7,25 @@ use Rattle.std.specs.BTreeMap.{is_at}
 use Rattle.std.specs.Option.{option_map}
 use Rattle.eden_base.specs.declared.number.FileId.{FileId}
 use Rattle.eden_base.specs.declared.number.Number.{Number}
-use Rattle.eden_base.specs.declared.place.Place.TheVariants.{Unlinked}
+use Rattle.directory_index.specs.Index.{IsIndexOf}
+use Rattle.directory_index.specs.Standing.{inserted, removed, Standing, StandsNowhere}
+use Rattle.directory_index.specs.declared.directory_index.DirectoryIndex.{DirectoryIndex}
+use Rattle.eden_base.proofs.NumberTests.{eq-or}
+use Rattle.eden_base.specs.declared.place.Place.TheVariants.{Linked, Unlinked}
 use Rattle.eden_base.specs.First.{changed_where, without_where}
-use Rattle.entry_table.specs.Entries.{has_number, entry_of, marked, moved_to, IsLinked}
+use Rattle.entry_table.specs.Entries.{has_number, entry_at, entry_of, marked, moved_to, IsLinked}
 use Rattle.entry_table.specs.Inside.{IsTable}
-use Rattle.entry_table.specs.Slots.{kept_from, slot_at, all_beside, files_from, notes_from, spare_of, AreSlots, IsIndexOf}
+use Rattle.entry_table.specs.Slots.{kept_from, slot_at, all_beside, files_from, notes_from, spare_of, AreSlots, IsIndexOf as IsSlotOf}
+use Rattle.entry_table.specs.Standing.{place_of_number, place_under, IsIndexed}
 use Rattle.entry_table.specs.Table.{TableState, kept_of}
 use Rattle.entry_table.specs.declared.kept.Kept.{Kept}
 use Rattle.entry_table.specs.declared.kept.Entry.{Entry}
 use Rattle.entry_table.specs.declared.table.Table.TheInside.{Inside}
 use Rattle.eden_base.proofs.MemberLemmas.{some-same, some-none, some-IsSome}
-use Rattle.entry_table.proofs.EntryLemmas.{changed-same, changed-other, without-other, without-same}
 use Rattle.entry_table.proofs.FileLemmas.{linked-marked}
-use Rattle.entry_table.proofs.Kids.{kids-without, kids-changed_one}
-use Rattle.entry_table.proofs.Standing.{Loses}
+use Rattle.entry_table.proofs.Changing.{KeepsPlace}
+use Rattle.entry_table.proofs.Placed.{changed-elsewhere, changed-here, changed-nowhere, placed-entry, placed-free, placed-linked, without-elsewhere, without-here}
+use Rattle.entry_table.proofs.Standing.{indexed-gained, indexed-lost, indexed-same, under}
 use Rattle.entry_table.proofs.SlotLemmas.{slot_held, some-held, held-entry, slots-numbers}
 use Rattle.entry_table.proofs.SlotSearch.{index-found, index-set}
 use Rattle.entry_table.proofs.SlotWrites.{set-slots, set-kept, set-beside}
@@ -50,7 +55,7 @@ changed-none (x ∷ es) p = in_ (p x) (changed-none es p) where
   in_ false e = ap (λ (xs : List Kept). x ∷ xs) e
 
 -- a slot that was found by its number
-module _ (t : Inside) (n index : ℕ) (slot : ℕ × Option Entry) (is : IsTable t) (there : IsIndexOf t.slots.items n index) (value : slot ≡ get_or t.slots.items index slot) where
+module _ (t : Inside) (n index : ℕ) (slot : ℕ × Option Entry) (is : IsTable t) (there : IsSlotOf t.slots.items n index) (value : slot ≡ get_or t.slots.items index slot) where
   pub found-in : slot_at t.slots.items n ≡ Some slot.1
   found-in = index-found t.slots.items 2 t.next n index slot is.slots there ∙ ap (λ (s : ℕ × Option Entry). Some s.1) (sym value)
 
@@ -73,40 +78,53 @@ module _ (t : Inside) (n index : ℕ) (slot : ℕ × Option Entry) (is : IsTable
     pub written-beside : {X : Type 0} (part : Entry → Option X) → part now ≡ part h → all_beside part (slice_set t.slots.items index (slot.0, Some now)) ≡ all_beside part t.slots.items
     written-beside part same = ap (all_beside part) (written (Some now)) ∙ set-beside t.next n h now part t.slots.items 2 same is.slots found-held
 
--- an entry is taken out
-pub without-loses : (t : Inside) (n : ℕ) (x : Kept) → IsTable t → entry_of (kept_from t.slots.items) n ≡ Some x → Loses (kept_from t.slots.items) (without_where (has_number n) (kept_from t.slots.items)) n x
-without-loses t n x is here = record {
-  here = here;
-  others = λ m d. without-other (kept_from t.slots.items) n m d;
-  nowhere = λ kept dir name e p. some-none (entry_of (without_where (has_number n) (kept_from t.slots.items)) n) kept e (without-same (kept_from t.slots.items) 2 t.next n (slots-numbers t.slots.items 2 t.next is.slots));
-  kids = λ dir. kids-without dir (has_number n) (kept_from t.slots.items) x here;
-}
+-- an index of places, after an entry was written anew
+module _ (t : Inside) (n : ℕ) (x : Kept) (is : IsTable t) (here : entry_of (kept_from t.slots.items) n ≡ Some x) where
+  abbrev es : List Kept
+  es = kept_from t.slots.items
 
--- an entry loses its name
-pub marked-loses : (t : Inside) (n : ℕ) (file : FileId) (x : Kept) → entry_of (kept_from t.slots.items) n ≡ Some x → Loses (kept_from t.slots.items) (changed_where (has_number n) (marked file) (kept_from t.slots.items)) n x
-marked-loses t n file x here = record {
-  here = here;
-  others = λ m d. changed-other (kept_from t.slots.items) n m (marked file) (λ y. refl) d;
-  nowhere = λ kept dir name e p.
-      let there : entry_of (changed_where (has_number n) (marked file) (kept_from t.slots.items)) n ≡ Some (marked file x) =
-      changed-same (kept_from t.slots.items) n (marked file) (λ y. refl) ∙ ap (option_map (marked file)) here in
-      let same : kept ≡ marked file x = some-same (entry_of (changed_where (has_number n) (marked file) (kept_from t.slots.items)) n) kept (marked file x) e there in
-      linked-marked kept.place dir name file p (ap (λ (k : Kept). k.place) same);
-  kids = λ dir. let less = kids-changed_one dir (has_number n) (marked file) (kept_from t.slots.items) x here in omega arith;
-}
+  module _ (new : DirectoryIndex) (dir : Number) (name : List ℕ) (place : x.place ≡ Linked dir name) (take : (at : Standing) → IsIndexOf at t.index → at dir.0 name ≡ Some n → IsIndexOf (removed at dir.0 name) new) where
+    -- without its entry
+    pub indexed-without : IsIndexed (place_of_number (without_where (has_number n) es)) new
+    indexed-without =
+        indexed-lost (place_of_number es) (place_of_number (without_where (has_number n) es)) n (without-elsewhere es n) t.index new dir.0 name
+        (placed-linked es n x dir name here place) (without-here es 2 t.next n (slots-numbers t.slots.items 2 t.next is.slots)) is.indexed take
 
--- an entry moves: the entries without it have lost its new place, too
-pub moved-loses : (t : Inside) (n : ℕ) (parent : Number) (name : List ℕ) (x : Kept) → IsTable t → entry_of (kept_from t.slots.items) n ≡ Some x →
-    Loses (changed_where (has_number n) (moved_to parent name) (kept_from t.slots.items)) (without_where (has_number n) (kept_from t.slots.items)) n (moved_to parent name x)
-moved-loses t n parent name x is here = record {
-  here = changed-same (kept_from t.slots.items) n (moved_to parent name) (λ y. refl) ∙ ap (option_map (moved_to parent name)) here;
-  others = λ m d. without-other (kept_from t.slots.items) n m d ∙ sym (changed-other (kept_from t.slots.items) n m (moved_to parent name) (λ y. refl) d);
-  nowhere = (without-loses t n x is here).nowhere;
-  kids = λ dir.
-      let less = kids-without dir (has_number n) (kept_from t.slots.items) x here in
-      let more = kids-changed_one dir (has_number n) (moved_to parent name) (kept_from t.slots.items) x here in
-      omega arith;
-}
+    -- with a mark
+    pub indexed-marked : (file : FileId) → IsIndexed (place_of_number (changed_where (has_number n) (marked file) es)) new
+    indexed-marked file =
+        indexed-lost (place_of_number es) (place_of_number (changed_where (has_number n) (marked file) es)) n (changed-elsewhere es n (marked file) (λ y. refl)) t.index new dir.0 name
+        (placed-linked es n x dir name here place) (changed-here es n (marked file) (λ y. refl) x here) is.indexed take
+
+    -- at another place, which was free
+    pub indexed-moved : (parent : Number) (text : List ℕ) (moved : List ℕ) → text ≡ moved → entry_at es parent.0 moved ≡ None → (last : DirectoryIndex) →
+        ((at : Standing) → IsIndexOf at new → at parent.0 text ≡ None → StandsNowhere at n → IsIndexOf (inserted at parent.0 text n) last) → IsIndexed (place_of_number (changed_where (has_number n) (moved_to parent moved) es)) last
+    indexed-moved parent text moved same free last put =
+        let others : (m : ℕ) → (m ≡ n → ⊥) → place_of_number (changed_where (has_number n) (moved_to parent moved) es) m ≡ place_of_number (without_where (has_number n) es) m = λ m d.
+        changed-elsewhere es n (moved_to parent moved) (λ y. refl) m d ∙ sym (without-elsewhere es n m d) in
+        indexed-gained (place_of_number (without_where (has_number n) es)) (place_of_number (changed_where (has_number n) (moved_to parent moved) es)) n others new last parent.0 text
+        (without-here es 2 t.next n (slots-numbers t.slots.items 2 t.next is.slots))
+        (changed-here es n (moved_to parent moved) (λ y. refl) x here ∙ ap (under parent.0) (sym same))
+        (λ m e. free_in m e (eq-or m n)) indexed-without put where
+          free_in : (m : ℕ) → place_of_number (without_where (has_number n) es) m ≡ Some (parent.0, text) → (m ≡ n) ⊎ (m ≡ n → ⊥) → ⊥
+          free_in m e (inl is_it) =
+              some-none (place_of_number (without_where (has_number n) es) n) (parent.0, text) (ap (place_of_number (without_where (has_number n) es)) (sym is_it) ∙ e)
+              (without-here es 2 t.next n (slots-numbers t.slots.items 2 t.next is.slots))
+          free_in m e (inr other) = placed-free es parent.0 moved free m (sym (without-elsewhere es n m other) ∙ e ∙ ap (under parent.0) same)
+
+  -- where it stood under no name
+  pub indexed-left : (file : FileId) → x.place ≡ Unlinked file → IsIndexed (place_of_number (without_where (has_number n) es)) t.index
+  indexed-left file place = indexed-same (place_of_number es) (place_of_number (without_where (has_number n) es)) t.index (λ m. in_ m (eq-or m n)) is.indexed where
+    in_ : (m : ℕ) → (m ≡ n) ⊎ (m ≡ n → ⊥) → place_of_number (without_where (has_number n) es) m ≡ place_of_number es m
+    in_ m (inl same) =
+        ap (place_of_number (without_where (has_number n) es)) same ∙ without-here es 2 t.next n (slots-numbers t.slots.items 2 t.next is.slots)
+        ∙ sym (placed-entry es n x here ∙ ap place_under place) ∙ ap (place_of_number es) (sym same)
+    in_ m (inr other) = without-elsewhere es n m other
+
+-- an index of places where an entry keeps its place
+pub indexed-changed : (t : Inside) (k : ℕ) (change : Kept → Kept) → KeepsPlace change → IsTable t → IsIndexed (place_of_number (changed_where (has_number k) change (kept_from t.slots.items))) t.index
+indexed-changed t k change keeps is =
+    indexed-same (place_of_number (kept_from t.slots.items)) (place_of_number (changed_where (has_number k) change (kept_from t.slots.items))) t.index (changed-nowhere (kept_from t.slots.items) k change keeps) is.indexed
 
 -- whether the next number is reserved
 pub reserved : (t : Inside) (now : TableState) → view_of t ≡ now → now.spare ≡ 1 → t.is_reserved ≡ true

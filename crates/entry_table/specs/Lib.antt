@@ -1,6 +1,6 @@
 pub mod Entries
 pub mod EntryPlaces
 pub mod Inside
-pub mod Links
 pub mod Slots
+pub mod Standing
 pub mod Table

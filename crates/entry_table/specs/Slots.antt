@@ -1,20 +1,15 @@
--- How the entries stand in the slots of their table, and what the table's index has of the entries.
-use Rattle.std.specs.Prelude.{◌≡◌, ℕ, ◌+◌, ◌<◌, ◌≤◌, ◌⊎◌, Bool, true, List, [], ◌∷◌, map, length, zip, Option, Some, None, is_some, if◌then◌else◌}
-use Rattle.std.specs.List.{AllByRecursion, HoldsAt}
+-- How the entries stand in the slots of their table.
+use Rattle.std.specs.Prelude.{◌≡◌, ℕ, ◌+◌, ◌<◌, ◌≤◌, Bool, List, [], ◌∷◌, map, length, zip, Option, Some, None, if◌then◌else◌}
+use Rattle.std.specs.List.{HoldsAt}
 use Rattle.std.specs.Map.{lookup}
 use Rattle.std.specs.BTreeMap.{is_at}
 use Rattle.std.specs.Option.{option_and_then}
 use Rattle.std.specs.Ordering.{nat_cmp}
 use Rattle.eden_base.specs.declared.number.FileId.{FileId}
 use Rattle.eden_base.specs.declared.number.Number.{Number}
-use Rattle.eden_base.specs.declared.place.Place.TheVariants.{Linked}
-use Rattle.entry_table.specs.Entries.{entry_of, is_kid_of}
-use Rattle.entry_table.specs.Links.{key_of, at_key, written, is_latest, names_in, AreWithout}
 use Rattle.entry_table.specs.Table.{kept_of}
 use Rattle.entry_table.specs.declared.kept.Kept.{Kept}
 use Rattle.entry_table.specs.declared.kept.Entry.{Entry}
-use Rattle.entry_table.specs.declared.index.Index.{Index}
-use Rattle.entry_table.specs.declared.index.Link.{Link}
 
 -- what a slot holds of an entry at first: all but its number, with this file remembered and no note
 abbrev pub held_of : Kept → FileId → Entry
@@ -27,10 +22,6 @@ slot_of named = (named.0.number.0, Some (held_of named.0 named.1))
 -- the slots of entries at first, with a file for each
 abbrev pub slots_of : List Kept → List FileId → List (ℕ × Option Entry)
 slots_of entries files = map slot_of (zip entries files)
-
--- no slot is empty
-abbrev pub AreFull : List (ℕ × Option Entry) → Type 0
-AreFull slots = AllByRecursion (λ (slot : ℕ × Option Entry). is_some slot.1 ≡ true) slots
 
 -- the entries that stand in slots; a slot is empty once its entry was removed
 abbrev pub kept_from : List (ℕ × Option Entry) → List Kept
@@ -92,44 +83,3 @@ AreSlots low next (slot ∷ slots) = (low ≤ slot.0) × AreSlots (slot.0 + 1) n
 -- the numbers of the slots rise from 2, whichever number is next
 abbrev pub IsSlots : List (ℕ × Option Entry) → Type 0
 IsSlots slots = (next : ℕ) × AreSlots 2 next slots
-
--- the entry of number `n` stands under this name in the directory `dir`
-abbrev pub Stands : List Kept → ℕ → List ℕ → ℕ → Type 0
-Stands entries dir name n =
-    (kept : Kept) × (entry_of entries n ≡ Some kept) × (kept.place ≡ Linked (record { 0 = dir }) name)
-
--- the key is that of the place at which the entry of number `n` stands
-abbrev pub IsKeyOf : List Kept → ℕ → ℕ → Type 0
-IsKeyOf entries key n = (dir : ℕ) × (name : List ℕ) × Stands entries dir name n × (key_of dir name ≡ key)
-
--- the index has number `n` for a place: as the link that was added last, at the place's key, or under its name
-abbrev pub IsFiled : Index → ℕ → List ℕ → ℕ → Type 0
-IsFiled index dir name n =
-    (is_latest index.latest n ≡ true)
-    ⊎ ((at_key index.maps.numbers (key_of dir name) ≡ Some n) ⊎ (written index.maps.others dir name ≡ Some n))
-
--- the link is that of an entry: it has the entry's number, and the directory and the key of the entry's place
-abbrev pub IsLinkOf : List Kept → Link → Type 0
-IsLinkOf entries link =
-    (name : List ℕ) × Stands entries link.parent name link.number × (link.key ≡ key_of link.parent name)
-
--- 1 if the entry stands in the directory `dir`, else 0
-abbrev pub kid_in : ℕ → Kept → ℕ
-kid_in dir kept = if is_kid_of dir kept then 1 else 0
-
--- how many entries stand in the directory `dir`
-abbrev pub kids_of : ℕ → List Kept → ℕ
-kids_of dir [] = 0
-kids_of dir (kept ∷ entries) = kids_of dir entries + kid_in dir kept
-
--- the index has each linked entry once and nothing else, counts those in each directory, and no two stand at one place
-pub record IsIndexed (entries : List Kept) (index : Index) : Type 0 where
-  pub apart : (dir : ℕ) (name : List ℕ) (n m : ℕ) → Stands entries dir name n → Stands entries dir name m → n ≡ m
-  pub found : (dir : ℕ) (name : List ℕ) (n : ℕ) → Stands entries dir name n → IsFiled index dir name n
-  pub keyed : (key n : ℕ) → at_key index.maps.numbers key ≡ Some n → IsKeyOf entries key n
-  pub others : (dir : ℕ) (name : List ℕ) (n : ℕ) → written index.maps.others dir name ≡ Some n → Stands entries dir name n
-  pub latest : (link : Link) → index.latest ≡ Some link → IsLinkOf entries link
-  pub beside : (n : ℕ) → is_latest index.latest n ≡ true → AreWithout index.maps n
-  pub once : (dir : ℕ) (name : List ℕ) (n : ℕ) → written index.maps.others dir name ≡ Some n →
-      at_key index.maps.numbers (key_of dir name) ≡ Some n → ⊥
-  pub counts : (dir : ℕ) → names_in index dir ≡ kids_of dir entries

@@ -2,9 +2,8 @@
 #![tactic(auto)]
 
 mod dense;
-mod index;
 mod kept;
-mod maps;
+mod slot_places;
 mod table;
 mod way;
 

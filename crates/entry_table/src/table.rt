@@ -16,10 +16,11 @@ ghost use Rattle.entry_table.specs.Table.{IsIn, kept_of, without_entry, AreOfKep
 mod moves;
 
 use crate::dense::{dense_index_of, index_by_steps, index_if};
-use crate::index::Index;
 use crate::kept::{Entry, Kept, NamedEntries};
+use crate::slot_places::{SlotPlaces, index_of_places};
 use crate::way::locate;
 use checkout::Tree;
+use directory_index::DirectoryIndex;
 use eden_base::{FileId, GREATEST_COUNT, Name, NoMemory, Number, Place};
 use std::alloc::{AllocError, Global};
 use std::marker::Model;
@@ -33,7 +34,7 @@ pub(crate) type Slot = (u64, Option<Entry>);
 /// follow one another.
 pub struct Table {
     slots: Vec<Slot>,
-    index: Index,
+    index: DirectoryIndex,
     next: u64,
     is_reserved: bool,
     way: Vec<Number>,
@@ -79,7 +80,7 @@ impl Table {
     {
         Table {
             slots: Vec::new(alloc),
-            index: Index::new(alloc),
+            index: DirectoryIndex::new(alloc),
             next: 2,
             is_reserved: false,
             way: Vec::new(alloc),
@@ -101,7 +102,7 @@ impl Table {
         }) }
     {
         let slots = slots_of(alloc, named)?;
-        let index = Index::of_slots(alloc, slots.as_slice())?;
+        let index = index_of_places(alloc, slots.as_slice())?;
         let way = Vec::with_capacity(alloc, slots.len())?;
         Ok(Table {
             slots,
@@ -153,7 +154,8 @@ impl Table {
     pub fn find(&self, parent: Number, name: &Name) -> Option<Number>
         ensures number { result ≡ option_map number_of_kept (entry_at self.now.entries parent.0 name.now) }
     {
-        match self.index.get(self.slots.as_slice(), parent.0, name) {
+        let places = SlotPlaces::of(self.slots.as_slice());
+        match self.index.get(&places, parent.0, name.bytes()) {
             Some(number) => Some(Number(number)),
             None => None,
         }
@@ -177,7 +179,8 @@ impl Table {
         make_room(&mut self.slots)?;
         self.way.clear();
         self.way.try_reserve_exact(self.slots.capacity())?;
-        self.index.settle(alloc, self.slots.as_slice())?;
+        let places = SlotPlaces::of(self.slots.as_slice());
+        self.index.make_room(alloc, &places)?;
         self.is_reserved = true;
         Ok(())
     }
@@ -195,7 +198,7 @@ impl Table {
         } }
     {
         let number = Number(self.next);
-        self.index.add(parent.0, &name, number.0);
+        self.index.insert(parent.0, name.bytes(), number.0);
         let entry = Entry {
             place: Place::Linked { parent, name },
             count: 1,
@@ -316,7 +319,7 @@ impl Table {
         let Place::Linked { parent, name } = &entry.place else {
             unreachable!()
         };
-        self.index.remove(parent.0, name, number.0);
+        self.index.remove(parent.0, name.bytes(), number.0);
         *parent
     }
 
@@ -334,7 +337,7 @@ impl Table {
         let slot = &mut self.slots[index];
         let Some(entry) = &slot.1 else { unreachable!() };
         if let Place::Linked { parent, name } = &entry.place {
-            self.index.remove(parent.0, name, number.0);
+            self.index.remove(parent.0, name.bytes(), number.0);
         }
         slot.1.take().unwrap()
     }

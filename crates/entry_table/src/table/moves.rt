@@ -44,8 +44,8 @@ impl Table {
         else {
             unreachable!()
         };
-        self.index.remove(dir.0, left, number.0);
-        self.index.add(parent.0, &name, number.0);
+        self.index.remove(dir.0, left.bytes(), number.0);
+        self.index.insert(parent.0, name.bytes(), number.0);
         slot.1 = Some(Entry {
             place: Place::Linked { parent, name },
             count: entry.count,

@@ -1,13 +1,13 @@
 -- A count is lowered in the slot of its entry, or the slot stays as it was.
 use Rattle.std.proofs.Common.{◌≡◌, ℕ, ◌-◌, List, Option, Some, None, refl, sym, ap, ◌∙◌, subst, arith}
 use Rattle.std.specs.Prelude.{slice_set}
-use Rattle.entry_table.specs.Slots.{slot_at, kept_from, file_beside, note_beside, IsIndexed, IsIndexOf}
+use Rattle.entry_table.specs.Slots.{slot_at, file_beside, note_beside, IsIndexOf}
+use Rattle.entry_table.specs.Standing.{place_of_number, IsIndexed}
 use Rattle.entry_table.specs.declared.kept.Kept.{Kept}
 use Rattle.entry_table.specs.declared.kept.Entry.{Entry}
 use Rattle.entry_table.proofs.Counting.{less, less-keeps, good-item, count_in, count-held, bad-in}
-use Rattle.entry_table.proofs.IndexedLemmas.{indexed-changed}
 use Rattle.entry_table.proofs.SlotLemmas.{slot_held, files-kept}
-use Rattle.entry_table.proofs.TableLemmas.{found-in, found-held, written-slots, written-kept, written-beside}
+use Rattle.entry_table.proofs.TableLemmas.{found-in, found-held, written-slots, written-kept, written-beside, indexed-changed}
 use Rattle.entry_table.proofs.table.Table.lower.Goals as goal
 
 pub returns-in_err-index-clause-bad : goal.returns-in_err-index-clause-bad
@@ -42,8 +42,8 @@ invariant_of-self-2 c =
     let now : Entry = record h { count = h.count - c.args.k } in
     record {
       slots = written-slots t n c.in_ok-index.index slot c.self.invariant there c.index_mut-slot.ensures.value (Some now);
-      indexed = subst (λ (es : List Kept). IsIndexed es t.index) (sym (written-kept t n c.in_ok-index.index slot c.self.invariant there c.index_mut-slot.ensures.value h now c.in-Some.is (less c.args.k) refl))
-          (indexed-changed (kept_from t.slots.items) t.index n (less c.args.k) (less-keeps c.args.k) c.self.invariant.indexed);
+      indexed = subst (λ (es : List Kept). IsIndexed (place_of_number es) t.index) (sym (written-kept t n c.in_ok-index.index slot c.self.invariant there c.index_mut-slot.ensures.value h now c.in-Some.is (less c.args.k) refl))
+          (indexed-changed t n (less c.args.k) (less-keeps c.args.k) c.self.invariant);
       ready = c.self.invariant.ready;
       free = c.self.invariant.free;
       room = c.self.invariant.room;

@@ -1,15 +1,17 @@
 -- The entries are read again from their slots.
 use Rattle.std.proofs.Common.{refl, ◌∙◌, subst, arith}
-use Rattle.entry_table.specs.Slots.{kept_from, IsIndexed}
-use Rattle.entry_table.proofs.EntryRuns.{slots-are, slots-full, slots-kept, slots-files, slots-notes}
+use Rattle.entry_table.specs.Slots.{kept_from}
+use Rattle.entry_table.specs.Standing.{place_of_number, IsIndexed}
+use Rattle.entry_table.proofs.EntryRuns.{slots-are, slots-kept, slots-files, slots-notes}
 use Rattle.entry_table.proofs.table.Table.of_entries.Goals as goal
 
-pub of_slots-requires-clause-full : goal.of_slots-requires-clause-full
-of_slots-requires-clause-full c =
-    rw (c.as_slice.ensures.value ∙ c.in_ok-slots.ensures.slots) (slots-full c.args.named.entries.items c.args.named.files.items)
+pub index_of_places-requires-clause-slots : goal.index_of_places-requires-clause-slots
+index_of_places-requires-clause-slots c =
+    let es = c.args.named.entries.items in
+    (c.args.next, rw (c.as_slice.ensures.value ∙ c.in_ok-slots.ensures.slots) (slots-are es c.args.named.files.items 2 c.args.next c.requires.files c.requires.entries.numbers))
 
-pub of_slots-requires-clause-entries : goal.of_slots-requires-clause-entries
-of_slots-requires-clause-entries c =
+pub index_of_places-requires-clause-entries : goal.index_of_places-requires-clause-entries
+index_of_places-requires-clause-entries c =
     let es = c.args.named.entries.items in
     let slots = c.as_slice.ensures.value ∙ c.in_ok-slots.ensures.slots in
     (c.args.next, rw (slots, slots-kept es c.args.named.files.items c.requires.files) c.requires.entries)
@@ -19,7 +21,7 @@ invariant_of-result c =
     let es = c.args.named.entries.items in
     record {
       slots = rw c.in_ok-slots.ensures.slots (slots-are es c.args.named.files.items 2 c.args.next c.requires.files c.requires.entries.numbers);
-      indexed = subst (λ slots. IsIndexed (kept_from slots) c.in_ok-index.index) c.as_slice.ensures.value c.in_ok-index.ensures;
+      indexed = subst (λ slots. IsIndexed (place_of_number (kept_from slots)) c.in_ok-index.index) c.as_slice.ensures.value c.in_ok-index.ensures.indexed;
       ready = λ is. let none : ⊥ = cc in absurd none;
       free = λ is. let none : ⊥ = cc in absurd none;
       room =

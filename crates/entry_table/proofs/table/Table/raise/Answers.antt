@@ -4,13 +4,13 @@ use Rattle.std.specs.Prelude.{nat_lt}
 use Rattle.std.proofs.lemmas.Bool.Decides.{nat_tests}
 use Rattle.eden_base.specs.Limits.{greatest_count}
 use Rattle.entry_table.specs.Entries.{count_of, once_more}
-use Rattle.entry_table.specs.Slots.{slot_at, kept_from, file_beside, note_beside, IsIndexed, IsIndexOf}
+use Rattle.entry_table.specs.Slots.{slot_at, file_beside, note_beside, IsIndexOf}
+use Rattle.entry_table.specs.Standing.{place_of_number, IsIndexed}
 use Rattle.entry_table.specs.declared.kept.Kept.{Kept}
 use Rattle.entry_table.specs.declared.kept.Entry.{Entry}
 use Rattle.entry_table.proofs.Counting.{once-keeps, count_in, count-held}
-use Rattle.entry_table.proofs.IndexedLemmas.{indexed-changed}
 use Rattle.entry_table.proofs.SlotLemmas.{slot_held, files-kept}
-use Rattle.entry_table.proofs.TableLemmas.{never-none, never-empty, found-in, found-held, written-slots, written-kept, written-beside}
+use Rattle.entry_table.proofs.TableLemmas.{never-none, never-empty, found-in, found-held, written-slots, written-kept, written-beside, indexed-changed}
 use Rattle.entry_table.proofs.table.Table.raise.Goals as goal
 
 full_in : (m : ℕ) → greatest_count ≤ m → nat_lt m greatest_count ≡ false
@@ -55,8 +55,8 @@ invariant_of-self-2 c =
     let now : Entry = record h { count = h.count + 1 } in
     record {
       slots = written-slots t n c.in-Some.index slot c.self.invariant there c.index_mut-slot.ensures.value (Some now);
-      indexed = subst (λ (es : List Kept). IsIndexed es t.index) (sym (written-kept t n c.in-Some.index slot c.self.invariant there c.index_mut-slot.ensures.value h now c.in-Some-1₀.is once_more refl))
-          (indexed-changed (kept_from t.slots.items) t.index n once_more once-keeps c.self.invariant.indexed);
+      indexed = subst (λ (es : List Kept). IsIndexed (place_of_number es) t.index) (sym (written-kept t n c.in-Some.index slot c.self.invariant there c.index_mut-slot.ensures.value h now c.in-Some-1₀.is once_more refl))
+          (indexed-changed t n once_more once-keeps c.self.invariant);
       ready = c.self.invariant.ready;
       free = c.self.invariant.free;
       room = c.self.invariant.room;

@@ -1,19 +1,15 @@
 -- An entry gets another place in its slot, and its link one beside the maps.
 use Rattle.std.proofs.Common.{◌≡◌, ℕ, List, Option, Some, None, refl, sym, ap, ◌∙◌, subst, arith}
 use Rattle.std.specs.Prelude.{slice_set}
-use Rattle.eden_base.specs.First.{changed_where}
 use Rattle.eden_base.specs.declared.place.Place.TheVariants.{Linked}
-use Rattle.entry_table.specs.Entries.{has_number, entry_of, entry_at, moved_to}
-use Rattle.entry_table.specs.Slots.{kept_from, slot_at, file_beside, note_beside, IsIndexed, IsIndexOf}
+use Rattle.entry_table.specs.Entries.{entry_of, entry_at, moved_to}
+use Rattle.entry_table.specs.Slots.{kept_from, slot_at, file_beside, note_beside, IsIndexOf}
+use Rattle.entry_table.specs.Standing.{place_of_number, IsIndexed}
 use Rattle.entry_table.specs.Table.{TableState, kept_of}
-use Rattle.entry_table.specs.declared.index.Index.{Index}
 use Rattle.entry_table.specs.declared.kept.Kept.{Kept}
 use Rattle.entry_table.specs.declared.kept.Entry.{Entry}
-use Rattle.entry_table.proofs.IndexedChanges.{none-latest, indexed-gained}
-use Rattle.entry_table.proofs.IndexedLosses.{indexed-lost, still-ready}
 use Rattle.entry_table.proofs.SlotLemmas.{files-kept}
-use Rattle.entry_table.proofs.Standing.{none-stands, left-stood}
-use Rattle.entry_table.proofs.TableLemmas.{never-none, never-empty, slot-entry, found-in, found-held, written-slots, written-kept, written-beside, without-loses, moved-loses, reserved, way-room, linked-some, linked-place}
+use Rattle.entry_table.proofs.TableLemmas.{never-none, never-empty, slot-entry, found-in, found-held, written-slots, written-kept, written-beside, indexed-moved, reserved, way-room, linked-some, linked-place}
 use Rattle.entry_table.proofs.table.Table.relink.Goals as goal
 
 pub unreachable-requires : goal.unreachable-requires
@@ -38,6 +34,9 @@ unreachable-requires-in_default-place c =
     linked-place t c.args.self.now n h c.in_default-place.field-0 c.self.view_is c.self.invariant c.requires.linked
     (found-held t n c.in-Some.index c.index_mut-slot.result.now c.self.invariant there c.index_mut-slot.ensures.value h h (sym c.take.ensures.value ∙ c.in-Some-take.is)) c.in_default-place.is
 
+pub insert-requires : goal.insert-requires
+insert-requires c = record { room = c.remove.ensures.room (c.self.invariant.ready (reserved c.self.inside c.args.self.now c.self.view_is c.requires.reserved)) }
+
 pub invariant_of-self : goal.invariant_of-self
 invariant_of-self c =
     let t = c.self.inside in
@@ -48,18 +47,12 @@ invariant_of-self c =
     let here = sym c.take.ensures.value ∙ c.in-Some-take.is in
     let now : Entry = record { place = Linked c.args.parent c.args.name; count = h.count; file = h.file; note = h.note } in
     let entry = slot-entry t n h c.self.invariant (found-held t n c.in-Some.index slot c.self.invariant there c.index_mut-slot.ensures.value h now here) in
-    let loses = without-loses t n (kept_of n h) c.self.invariant entry in
     let free : entry_at (kept_from t.slots.items) c.args.parent.0 c.args.name ≡ None = subst (λ (s : TableState). entry_at s.entries c.args.parent.0 c.args.name ≡ None) (sym c.self.view_is) c.requires.is_free in
-    let unlinked : Index = c.remove.new.self in
-    let ready = still-ready t.index unlinked c.in-Linked.dir.0 c.in-Linked.left n c.remove.ensures (c.self.invariant.ready (reserved t c.args.self.now c.self.view_is c.requires.reserved)) in
     record {
       slots = written-slots t n c.in-Some.index slot c.self.invariant there c.index_mut-slot.ensures.value (Some now);
-      indexed = subst (λ (es : List Kept). IsIndexed es c.add.new.self) (sym (written-kept t n c.in-Some.index slot c.self.invariant there c.index_mut-slot.ensures.value h now here (moved_to c.args.parent c.args.name) refl))
-          (subst (λ (index : Index). IsIndexed (changed_where (has_number n) (moved_to c.args.parent c.args.name) (kept_from t.slots.items)) index) (sym c.add.ensures)
-          (indexed-gained (moved-loses t n c.args.parent c.args.name (kept_of n h) c.self.invariant entry) c.args.parent c.args.name refl
-          (λ m w. none-stands (kept_from t.slots.items) c.args.parent.0 c.args.name m free (left-stood loses c.args.parent.0 c.args.name m w).1)
-          unlinked (none-latest unlinked ready)
-          (indexed-lost loses c.in-Linked.dir c.in-Linked.left c.in-Linked.is t.index unlinked c.remove.ensures c.self.invariant.indexed)));
+      indexed = subst (λ (es : List Kept). IsIndexed (place_of_number es) c.insert.new.self) (sym (written-kept t n c.in-Some.index slot c.self.invariant there c.index_mut-slot.ensures.value h now here (moved_to c.args.parent c.args.name) refl))
+          (indexed-moved t n (kept_of n h) c.self.invariant entry c.remove.new.self c.in-Linked.dir c.bytes.result.now (c.in-Linked.is ∙ ap (Linked c.in-Linked.dir) (sym c.bytes.ensures.bytes)) c.remove.ensures.removed
+          c.args.parent c.bytes-2.result.now c.args.name c.bytes-2.ensures.bytes free c.insert.new.self c.insert.ensures.inserted);
       ready = λ is. let none : ⊥ = cc in absurd none;
       free = λ is. let none : ⊥ = cc in absurd none;
       room = let few = way-room t.is_reserved _ _ c.self.invariant.room in omega (arith, few);

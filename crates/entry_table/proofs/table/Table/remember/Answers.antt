@@ -1,7 +1,8 @@
 -- A file is written in the slot of its entry.
 use Rattle.std.proofs.Common.{◌≡◌, ℕ, List, Option, Some, None, refl, sym, ap, ◌∙◌, subst}
 use Rattle.entry_table.specs.Entries.{has_number}
-use Rattle.entry_table.specs.Slots.{slot_at, kept_from, file_beside, note_beside, files_from, IsIndexed, IsIndexOf}
+use Rattle.entry_table.specs.Slots.{slot_at, kept_from, file_beside, note_beside, files_from, IsIndexOf}
+use Rattle.entry_table.specs.Standing.{place_of_number, IsIndexed}
 use Rattle.entry_table.specs.declared.kept.Kept.{Kept}
 use Rattle.entry_table.specs.declared.kept.Entry.{Entry}
 use Rattle.entry_table.proofs.SlotGrowth.{set-put}
@@ -31,7 +32,7 @@ invariant_of-self c =
     let same = written-kept t n c.in-Some.index slot c.self.invariant there c.index_mut-slot.ensures.value h now c.in-Some-1₀.is (λ x. x) refl ∙ changed-none (kept_from t.slots.items) (has_number n) in
     record {
       slots = written-slots t n c.in-Some.index slot c.self.invariant there c.index_mut-slot.ensures.value (Some now);
-      indexed = subst (λ (es : List Kept). IsIndexed es t.index) (sym same) c.self.invariant.indexed;
+      indexed = subst (λ (es : List Kept). IsIndexed (place_of_number es) t.index) (sym same) c.self.invariant.indexed;
       ready = c.self.invariant.ready;
       free = c.self.invariant.free;
       room = c.self.invariant.room;

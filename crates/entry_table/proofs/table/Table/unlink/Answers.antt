@@ -1,15 +1,15 @@
 -- A name is taken out of its slot and out of the index.
 use Rattle.std.proofs.Common.{◌≡◌, ℕ, List, Option, Some, None, refl, sym, ap, ◌∙◌, subst}
 use Rattle.std.specs.Prelude.{slice_set}
-use Rattle.eden_base.specs.declared.place.Place.TheVariants.{Unlinked}
+use Rattle.eden_base.specs.declared.place.Place.TheVariants.{Linked, Unlinked}
 use Rattle.entry_table.specs.Entries.{entry_of, marked}
-use Rattle.entry_table.specs.Slots.{slot_at, file_beside, note_beside, IsIndexed, IsIndexOf}
+use Rattle.entry_table.specs.Slots.{slot_at, file_beside, note_beside, IsIndexOf}
+use Rattle.entry_table.specs.Standing.{place_of_number, IsIndexed}
 use Rattle.entry_table.specs.Table.{TableState, kept_of}
 use Rattle.entry_table.specs.declared.kept.Kept.{Kept}
 use Rattle.entry_table.specs.declared.kept.Entry.{Entry}
-use Rattle.entry_table.proofs.IndexedLosses.{indexed-lost, still-ready}
 use Rattle.entry_table.proofs.SlotLemmas.{files-kept}
-use Rattle.entry_table.proofs.TableLemmas.{never-none, never-empty, slot-entry, found-in, found-held, written-slots, written-kept, written-beside, marked-loses, linked-some, linked-place}
+use Rattle.entry_table.proofs.TableLemmas.{never-none, never-empty, slot-entry, found-in, found-held, written-slots, written-kept, written-beside, indexed-marked, linked-some, linked-place}
 use Rattle.entry_table.proofs.table.Table.unlink.Goals as goal
 
 pub unreachable-requires : goal.unreachable-requires
@@ -48,9 +48,9 @@ invariant_of-self c =
     let entry = slot-entry t n h c.self.invariant (found-held t n c.in-Some.index slot c.self.invariant there c.index_mut-slot.ensures.value h now here) in
     record {
       slots = written-slots t n c.in-Some.index slot c.self.invariant there c.index_mut-slot.ensures.value (Some now);
-      indexed = subst (λ (es : List Kept). IsIndexed es c.remove.new.self) (sym (written-kept t n c.in-Some.index slot c.self.invariant there c.index_mut-slot.ensures.value h now here (marked c.args.file) refl))
-          (indexed-lost (marked-loses t n c.args.file (kept_of n h) entry) c.in-Linked.parent c.in-Linked.name c.in-Linked.is t.index c.remove.new.self c.remove.ensures c.self.invariant.indexed);
-      ready = λ is. still-ready t.index c.remove.new.self c.in-Linked.parent.0 c.in-Linked.name n c.remove.ensures (c.self.invariant.ready is);
+      indexed = subst (λ (es : List Kept). IsIndexed (place_of_number es) c.remove.new.self) (sym (written-kept t n c.in-Some.index slot c.self.invariant there c.index_mut-slot.ensures.value h now here (marked c.args.file) refl))
+          (indexed-marked t n (kept_of n h) c.self.invariant entry c.remove.new.self c.in-Linked.parent c.bytes.result.now (c.in-Linked.is ∙ ap (Linked c.in-Linked.parent) (sym c.bytes.ensures.bytes)) c.remove.ensures.removed c.args.file);
+      ready = λ is. c.remove.ensures.room (c.self.invariant.ready is);
       free = c.self.invariant.free;
       room = c.self.invariant.room;
     }
