@@ -6,7 +6,7 @@ use Rattle.eden_base.proofs.NumberTests.{eq-true, true-eq}
 use Rattle.directory_index.proofs.Standings.{inserted-apart, inserted-here, inserted-still, inserted-was, moved, place-or, removed-apart, removed-still, removed-was, same-number}
 use Rattle.directory_index.specs.Children.{is_child}
 use Rattle.directory_index.specs.Index.{is_latest, AddsLatest, AreChildrenOf, IsIndexOf}
-use Rattle.key_map.specs.Keys.{key_of}
+use Rattle.directory_index.specs.Keys.{key_of}
 use Rattle.directory_index.specs.Names.{AreNamesOf}
 use Rattle.directory_index.specs.Standing.{inserted, is_place, nothing, removed, AreApart, Standing, StandsIn, StandsNowhere}
 use Rattle.directory_index.specs.declared.children.Children.{Children}

@@ -1,4 +1,5 @@
 pub mod Indexing
+pub mod KeyLemmas
 pub mod Keyed
 pub mod Looking
 pub mod Naming

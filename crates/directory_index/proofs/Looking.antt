@@ -10,7 +10,7 @@ use Rattle.std.specs.List.{list_any}
 use Rattle.std.specs.Ordering.{nat_cmp}
 use Rattle.std.specs.BTreeMap.{is_at}
 use Rattle.eden_base.proofs.NumberTests.{eq-true, true-eq}
-use Rattle.key_map.specs.Keys.{key_of}
+use Rattle.directory_index.specs.Keys.{key_of}
 use Rattle.directory_index.proofs.Indexing.{below-stands, latest-stands, stands-either}
 use Rattle.directory_index.proofs.Standings.{known-at, known-here, same-number}
 use Rattle.directory_index.specs.Children.{has_children, is_among, is_child, is_some_in, IsFirstChild}

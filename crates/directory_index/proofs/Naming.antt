@@ -3,7 +3,7 @@ use Rattle.std.proofs.Common.{◌≡◌, ℕ, Bool, true, false, List, Option, S
 use Rattle.std.proofs.lemmas.Bool.{and_parts}
 use Rattle.std.specs.Prelude.{◌==◌, ◌&&◌, not, is_some}
 use Rattle.eden_base.proofs.NumberTests.{eq-true, true-eq}
-use Rattle.key_map.specs.Keys.{key_of}
+use Rattle.directory_index.specs.Keys.{key_of}
 use Rattle.directory_index.specs.Index.{IsAdded}
 use Rattle.directory_index.specs.Names.{at_key, is_at_key, is_taken, option_is, written, AreNamesOf, IsNamed}
 use Rattle.directory_index.specs.Standing.{inserted, is_place, nothing, removed, AreApart, Standing, StandsNowhere}

@@ -2,7 +2,7 @@
 use Rattle.std.specs.Prelude.{◌≡◌, ℕ, ◌==◌, ◌&&◌, Bool, true, false, not, List, Option, None, Some, nat_le, is_some, if◌then◌else◌}
 use Rattle.std.specs.Option.{option_map_or}
 use Rattle.directory_index.specs.Children.{is_child}
-use Rattle.key_map.specs.Keys.{key_of}
+use Rattle.directory_index.specs.Keys.{key_of}
 use Rattle.directory_index.specs.Names.{at_key, is_taken, written, AreNamesOf}
 use Rattle.directory_index.specs.Standing.{inserted, is_place, AreApart, Standing, StandsIn, StandsNowhere}
 use Rattle.directory_index.specs.declared.children.Children.{Children}

@@ -1,4 +1,5 @@
 pub mod Children
 pub mod Index
+pub mod Keys
 pub mod Names
 pub mod Standing

@@ -9,7 +9,7 @@ use Rattle.std.specs.HashMap.{HashMap}
 use Rattle.std.specs.HashMap as hash
 use Rattle.std.specs.declared.alloc.Global.{Global}
 use Rattle.std.specs.declared.vec.Vec.{Vec}
-use Rattle.key_map.specs.Keys.{key_of}
+use Rattle.directory_index.specs.Keys.{key_of}
 use Rattle.directory_index.specs.Standing.{Standing}
 use Rattle.directory_index.specs.declared.names.Names.{Names}
 use Rattle.directory_index.specs.declared.names.Others.{Others}

@@ -4,10 +4,10 @@ ghost use Rattle.directory_index.specs.Index.{has_room, IsAdded, IsIndexOf};
 ghost use Rattle.directory_index.specs.Standing.{if_at, inserted, nothing, removed, AreKnown, IsFirstFrom, Standing, StandsIn, StandsNowhere};
 
 use crate::children::Children;
+use crate::key::key_of;
 use crate::link::{Link, is_latest, is_latest_in, latest_at, latest_from};
 use crate::names::Names;
 use crate::places::Places;
-use key_map::key_of;
 use std::alloc::{AllocError, Global};
 
 /// The number at each place, a directory and a name in it, and the numbers that stand in each directory. It stores no

@@ -3,6 +3,7 @@
 
 mod children;
 mod directory_index;
+mod key;
 mod link;
 mod names;
 mod places;

@@ -1,5 +1,4 @@
 pub mod BucketLemmas
 pub mod CellLemmas
-pub mod KeyLemmas
 pub mod MapLemmas
 pub mod TierLemmas

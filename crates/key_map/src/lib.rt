@@ -4,11 +4,9 @@
 mod bucket;
 mod buckets;
 mod cells;
-mod key;
 mod key_map;
 mod numbers;
 mod tier;
 mod tree;
 
-pub use key::key_of;
 pub use key_map::KeyMap;

@@ -1,6 +1,6 @@
 -- What is neither beside the maps nor at the key is under its name, or nowhere.
 use Rattle.std.proofs.Common.{◌≡◌, ℕ, List, Option, None, sym, ap, ◌∙◌}
-use Rattle.key_map.specs.Keys.{key_of}
+use Rattle.directory_index.specs.Keys.{key_of}
 use Rattle.directory_index.specs.Index.{latest_at, IsIndexOf}
 use Rattle.directory_index.specs.Names.{at_key, written}
 use Rattle.directory_index.specs.Standing.{if_at, AreKnown, Standing}

@@ -1,6 +1,6 @@
 //! The key of a number and bytes.
 ghost use Rattle.std.specs.Prelude.{◌≡◌, ◌<◌, length};
-ghost use Rattle.key_map.specs.Keys.{key_of, key_with, key_with_all, last_eight};
+ghost use Rattle.directory_index.specs.Keys.{key_of, key_with, key_with_all, last_eight};
 
 /// A large odd number, by which a key is multiplied for each part that it takes.
 const FACTOR: u64 = 0x9E37_79B9_7F4A_7C15;
@@ -8,7 +8,7 @@ const FACTOR: u64 = 0x9E37_79B9_7F4A_7C15;
 /// Returns the key of `number` and `bytes`, so that two pairs rarely share a key. It takes eight bytes after eight, then
 /// the last eight once more, and at the end how many bytes there are. Of fewer than eight bytes it takes each.
 #[tactic(auto, unfolding(crate::specs::Keys::key_of))]
-pub fn key_of(number: u64, bytes: &[u8]) -> u64
+pub(crate) fn key_of(number: u64, bytes: &[u8]) -> u64
     ensures key { result ≡ key_of number bytes.now }
 {
     let (mut key, mut rest) = (number.wrapping_mul(FACTOR), bytes);

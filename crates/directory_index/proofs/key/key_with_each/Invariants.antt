@@ -1,6 +1,6 @@
 use Rattle.std.proofs.Common.{◌≡◌, drop}
-use Rattle.key_map.specs.Keys.{key_with_all}
-use Rattle.key_map.proofs.key.key_with_each.Given as goal
+use Rattle.directory_index.specs.Keys.{key_with_all}
+use Rattle.directory_index.proofs.key.key_with_each.Given as goal
 
 -- the bytes that are left make of the key so far what all bytes make of the first
 abbrev pub invariant-loop-byte : goal.invariant-loop-byte

@@ -3,7 +3,7 @@ use Rattle.std.proofs.Common.{◌≡◌, ◌<◌, ◌≤◌, ℕ, ◌+◌, ◌-�
 use Rattle.std.specs.Prelude.{nat_lt}
 use Rattle.std.proofs.lemmas.Bool.Decides.{nat_tests}
 use Rattle.std.specs.Int.{w64, from_le_bytes}
-use Rattle.key_map.specs.Keys.{eights, last_eight, parts_of, key_with, key_with_all}
+use Rattle.directory_index.specs.Keys.{eights, last_eight, parts_of, key_with, key_with_all}
 
 -- the first eight bytes are a number, in front of those of the others
 first-eight : (bytes : List ℕ) → 8 ≤ length bytes → eights bytes ≡ from_le_bytes w64 (take 8 bytes) ∷ eights (drop 8 bytes)

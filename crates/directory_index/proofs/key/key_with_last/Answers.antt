@@ -1,7 +1,7 @@
 -- The last eight bytes, or each of fewer.
 use Rattle.std.proofs.Common.{arith}
-use Rattle.key_map.proofs.KeyLemmas.{by-eight, by-each}
-use Rattle.key_map.proofs.key.key_with_last.Goals as goal
+use Rattle.directory_index.proofs.KeyLemmas.{by-eight, by-each}
+use Rattle.directory_index.proofs.key.key_with_last.Goals as goal
 
 pub returns-in-Some : goal.returns-in-Some
 returns-in-Some c =

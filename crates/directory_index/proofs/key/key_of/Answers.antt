@@ -1,8 +1,8 @@
 -- Eight bytes more, and the last eight behind all.
 use Rattle.std.proofs.Common.{◌%◌, ◌*◌, ◌^◌, ◌∙◌}
-use Rattle.key_map.specs.Keys.{factor, key_of}
-use Rattle.key_map.proofs.KeyLemmas.{goes_on, ends}
-use Rattle.key_map.proofs.key.key_of.Goals as goal
+use Rattle.directory_index.specs.Keys.{factor, key_of}
+use Rattle.directory_index.proofs.KeyLemmas.{goes_on, ends}
+use Rattle.directory_index.proofs.key.key_of.Goals as goal
 
 pub loop-word-preserved : goal.loop-word-preserved
 loop-word-preserved c =
