@@ -1,296 +1,154 @@
--- The parts of the added links, as links come, go and move.
-use Rattle.std.proofs.Common.{◌≡◌, nat_eq, ℕ, ◌+◌, ◌-◌, ◌==◌, cond, List, Option, Some, None, MatchOption, refl, sym, ap, subst, ◌∙◌, inl, inr, ◌⊎◌, arith}
-use Rattle.std.specs.Prelude.{if◌then◌else◌}
-use Rattle.std.specs.FinMap.{FinMap, empty, get, insert, remove}
-use Rattle.std.specs.List.{IsDistinct}
-use Rattle.std.specs.Map.{keys_of, lookup}
-use Rattle.eden_base.proofs.NumberTests.{eq-true}
+-- The added links, their places and the index of them, as links come and go.
+use Rattle.std.proofs.Common.{◌≡◌, nat_eq, ℕ, ◌==◌, Bool, true, false, cond, List, Option, Some, None, IfSome, refl, sym, ap, subst, ◌∙◌, inl, inr}
+use Rattle.std.specs.FinMap.{FinMap, empty, entries, get, get-empty, get-insert, get-remove, insert, remove, same_map}
+use Rattle.std.specs.HashMap.{IsUnique}
+use Rattle.std.specs.List.{list_any}
+use Rattle.std.specs.Option.{option_map}
+use Rattle.std.specs.Ordering.{eq_by_cmp}
+use Rattle.directory_index.proofs.Standings.{known-at, place-or, same-place}
+use Rattle.directory_index.specs.Index.{IsIndexOf}
+use Rattle.directory_index.specs.Standing.{inserted, is_at, nothing, removed, AreKnown, Standing, StandsIn, StandsNowhere}
+use Rattle.directory_index.specs.declared.directory_index.DirectoryIndex.{DirectoryIndex}
 use Rattle.eden_base.specs.declared.number.FileId.{FileId}
-use Rattle.key_map.specs.Keys.{at_key, key_of}
 use Rattle.manifest.specs.Tree.{link_cmp}
-use Rattle.manifest.proofs.FlatLemmas.{link_cmp-same, link_cmp_total}
-use Rattle.manifest.proofs.ManifestTree.{same_id}
-use Rattle.manifest.proofs.MapLemmas.{get-insert_other, get-insert_same, get-remove_cases, get-remove_other, removed_nothing}
-use Rattle.checkout.proofs.AddedCounts.{inserted-counts, no-counts, put-again, removed-counts, replaced-counts}
-use Rattle.checkout.proofs.AddedNames.{Adds, added-AreNamesOf, moved-here, named-elsewhere, named-here, named-other, new-key, new-other, none-AreNamesOf, not-at-key, removed-AreNamesOf, was-key, was-other}
-use Rattle.checkout.proofs.AddedPlaces.{alike-ArePlacesOf, key, links_of-is, moved-ArePlacesOf, no_link, none-ArePlacesOf, not-eq, one_place, place, put_cases, removed-ArePlacesOf, same_file}
-use Rattle.checkout.specs.Added.{count_in, links_of, AreLinks, AreNamed, AreNamesOf, ArePlacesOf, IsNamed, Removes}
-use Rattle.checkout.specs.declared.added.AddedPlace.{AddedPlace}
-use Rattle.checkout.specs.declared.added.names.Names.{Names}
+use Rattle.manifest.proofs.FlatLemmas.{has_link, has_no_link, link_cmp-same, link_cmp_total}
+use Rattle.manifest.proofs.MapLemmas.{get-insert_other, get-insert_same, get-remove_other, get-remove_same, removed_nothing}
+use Rattle.checkout.proofs.AddedPlaces.{alike-ArePlacesOf, file_of, inserted-ArePlacesOf, key, links_of-is, no_link, no_place, none-ArePlacesOf, place, removed-ArePlacesOf, same_file}
+use Rattle.checkout.specs.Added.{gives, links_of, place_of, place_of_file, standing_of, without, AreLinks, ArePlacesOf}
+use Rattle.checkout.specs.declared.added.places.AddedPlace.{AddedPlace}
+use Rattle.checkout.specs.declared.added.places.AddedPlaces.{AddedPlaces}
 
--- 1 for this directory, 0 for another
-abbrev one : ℕ → ℕ → ℕ
-one dir d = if dir == d then 1 else 0
+abbrev id_of : FileId → ℕ
+id_of file = file.0
 
--- a file left the place of its link, if it had one
-abbrev pub Leaves : Option AddedPlace → FileId → Names → Names → (ℕ → ℕ) → (ℕ → ℕ) → Type 0
-Leaves place file old new raised lowered = MatchOption place ((new ≡ old) × ((d : ℕ) → lowered d ≡ raised d)) (λ p. Removes old new p.dir.0 p.name file × ((d : ℕ) → lowered d ≡ raised d - one p.dir.0 d))
+-- what stands under a name is the file that a link gives there
+pub standing-gives : (links : FinMap link_cmp FileId) (d : ℕ) (q : List ℕ) (o : Option ℕ) → standing_of links d q ≡ o → get links (d, q) ≡ option_map file_of o
+standing-gives links d q o e = in_ (get links (d, q)) ∙ ap (option_map file_of) e where
+  in_ : (f : Option FileId) → f ≡ option_map file_of (option_map id_of f)
+  in_ (Some f) = refl
+  in_ None = refl
 
-module _ (links : FinMap link_cmp FileId) (at : ℕ → Option AddedPlace) (names : Names) (counts : ℕ → ℕ) (are : AreLinks links at names counts) where
-  -- a link came
-  pub added-AreLinks : (to : ℕ × List ℕ) (file : FileId) (at' : ℕ → Option AddedPlace) (names' : Names) (counts' : ℕ → ℕ) → get links to ≡ None → at file.0 ≡ None →
-      ((q : ℕ) → at' q ≡ cond (nat_eq file.0 q) (Some (place to)) (at q)) → Adds names names' to file → ((d : ℕ) → counts' d ≡ counts d + one to.0 d) → AreLinks (insert links to file) at' names' counts'
-  added-AreLinks to file at' names' counts' free none updated adds raised = record {
-    are_places = subst (λ m. ArePlacesOf m at') (put-again links to file) (moved-ArePlacesOf links at are.are_places at' to to file
-        (λ f h. let no : ⊥ = cc in absurd no)
-        (λ k h. absurd (no_link links at are.are_places file none k h))
-        (updated file.0 ∙ ap (λ b. cond b (Some (place to)) (at file.0)) (eq-true file.0 file.0 refl))
-        (λ g h. let no : ⊥ = cc in absurd no)
-        (λ q apart _. updated q ∙ ap (λ b. cond b (Some (place to)) (at q)) (not-eq file.0 q apart)));
-    are_names = added-AreNamesOf links names names' to file are.are_names free (no_link links at are.are_places file none) adds;
-    are_counts = λ d. let a = raised d in let b = are.are_counts d in let c = inserted-counts d links to file free in omega arith;
-  }
+-- what stands after a link came
+pub standing-inserted : (links : FinMap link_cmp FileId) (k : ℕ × List ℕ) (file : FileId) → inserted (standing_of links) k.0 k.1 file.0 ≡ standing_of (insert links k file)
+standing-inserted links k file i d q = at d q i where
+  at : (d : ℕ) (q : List ℕ) → inserted (standing_of links) k.0 k.1 file.0 d q ≡ standing_of (insert links k file) d q
+  at d q = elim (place-or d q k.0 k.1) [
+    | inl p ↦ rw p.0 (sym (ap (option_map id_of) (ap (get (insert links k file)) (λ i. (p.1.0 i, p.1.1 i)) ∙ get-insert_same link_cmp_total links k file)))
+    | inr p ↦ rw p.0 (sym (ap (option_map id_of) (get-insert_other link_cmp_total link_cmp-same links k file (d, q) (λ e. p.1 (λ i. (e i).0) (λ i. (e i).1)))))
+  ]
 
-  -- a link went
-  pub removed-AreLinks : (from : ℕ × List ℕ) (file : FileId) (at' : ℕ → Option AddedPlace) (names' : Names) (counts' : ℕ → ℕ) → get links from ≡ Some file →
-      ((q : ℕ) → at' q ≡ cond (nat_eq file.0 q) None (at q)) → Removes names names' from.0 from.1 file → ((d : ℕ) → counts' d ≡ counts d - one from.0 d) → AreLinks (remove links from) at' names' counts'
-  removed-AreLinks from file at' names' counts' there updated removes lowered = record {
-    are_places = removed-ArePlacesOf links at are.are_places at' from file there updated;
-    are_names = removed-AreNamesOf links names names' from file there (λ k h. one_place links at are.are_places k from file h there) are.are_names removes;
-    are_counts = λ d. let a = lowered d in let b = are.are_counts d in let c = removed-counts d links from file there in omega arith;
-  }
+-- and after one went
+pub standing-removed : (links : FinMap link_cmp FileId) (k : ℕ × List ℕ) → removed (standing_of links) k.0 k.1 ≡ standing_of (remove links k)
+standing-removed links k i d q = at d q i where
+  at : (d : ℕ) (q : List ℕ) → removed (standing_of links) k.0 k.1 d q ≡ standing_of (remove links k) d q
+  at d q = elim (place-or d q k.0 k.1) [
+    | inl p ↦ rw p.0 (sym (ap (option_map id_of) (ap (get (remove links k)) (λ i. (p.1.0 i, p.1.1 i)) ∙ get-remove_same link_cmp_total links k)))
+    | inr p ↦ rw p.0 (sym (ap (option_map id_of) (get-remove_other link_cmp_total link_cmp-same links k (d, q) (λ e. p.1 (λ i. (e i).0) (λ i. (e i).1)))))
+  ]
+
+-- the places know where each file stands
+pub places-known : (links : FinMap link_cmp FileId) (places : AddedPlaces) → ArePlacesOf links (place_of_file places) → AreKnown (standing_of links) (place_of places)
+places-known links places are d q n e = ap (option_map key) (are.each d q (file_of n) (standing-gives links d q (Some n) e))
+
+-- what the index finds under a name is the file of the link there
+pub found-link : (links : FinMap link_cmp FileId) (places : AddedPlaces) (index : DirectoryIndex) → AreLinks links places index → (dir : ℕ) (text name : List ℕ) (found : Option ℕ) → text ≡ name →
+    ((at : Standing) → IsIndexOf at index → AreKnown at (place_of places) → found ≡ at dir text) → option_map file_of found ≡ get links (dir, name)
+found-link links places index are dir text name found same finds =
+    sym (standing-gives links dir name found (ap (standing_of links dir) (sym same) ∙ sym (finds (standing_of links) are.is_index (places-known links places are.are_places))))
+
+-- a directory has a link where something stands in it
+pub any-link : (links : FinMap link_cmp FileId) (dir : ℕ) (b : Bool) → (b ≡ true → (n : ℕ) × StandsIn (standing_of links) dir n) → (b ≡ false → (q : List ℕ) → standing_of links dir q ≡ None) →
+    b ≡ list_any (λ (link : (ℕ × List ℕ) × FileId). link.0.0 == dir) (entries links)
+any-link links dir true some none = let w = some refl in sym (has_link links dir w.1.0 (file_of w.0) (standing-gives links dir w.1.0 (Some w.0) w.1.1))
+any-link links dir false some none = sym (has_no_link links dir (λ q. standing-gives links dir q None (none refl q)))
+
+-- without a link in the directory no name gives a file
+pub no-link-in : (links : FinMap link_cmp FileId) (dir : ℕ) → list_any (λ (link : (ℕ × List ℕ) × FileId). link.0.0 == dir) (entries links) ≡ false → (name : List ℕ) → get links (dir, name) ≡ None
+no-link-in links dir none name = in_ (get links (dir, name)) refl where
+  in_ : (o : Option FileId) → get links (dir, name) ≡ o → o ≡ None
+  in_ None e = refl
+  in_ (Some file) e = let some = has_link links dir name file e in let no : ⊥ = cc in absurd no
+
+module _ (links : FinMap link_cmp FileId) (old new : AddedPlaces) (before after : DirectoryIndex) (are : AreLinks links old before) (unique : IsUnique nat_eq new.files) where
+  -- a link came to a free place
+  pub added-AreLinks : (to : ℕ × List ℕ) (file : FileId) → get links to ≡ None → gives links file ≡ false → ((q : ℕ) → place_of_file new q ≡ cond (nat_eq file.0 q) (Some (place to)) (place_of_file old q)) →
+      ((at : Standing) → IsIndexOf at before → at to.0 to.1 ≡ None → StandsNowhere at file.0 → IsIndexOf (inserted at to.0 to.1 file.0) after) → AreLinks (insert links to file) new after
+  added-AreLinks to file free new_file updated indexed =
+      let none = no_place links (place_of_file old) are.are_places file new_file in
+      record {
+        unique = unique;
+        are_places = inserted-ArePlacesOf links (place_of_file old) are.are_places (place_of_file new) to file free none updated;
+        is_index = subst (λ (s : Standing). IsIndexOf s after) (standing-inserted links to file) (indexed (standing_of links) are.is_index (ap (option_map id_of) free) (λ d q e. no_link links (place_of_file old) are.are_places file none (d, q) (standing-gives links d q (Some file.0) e)));
+      }
+
+  -- a file's link went from its place
+  pub removed-AreLinks : (file : FileId) (at : AddedPlace) → place_of_file old file.0 ≡ Some at → ((q : ℕ) → place_of_file new q ≡ cond (nat_eq file.0 q) None (place_of_file old q)) →
+      ((s : Standing) → IsIndexOf s before → s at.dir.0 at.name ≡ Some file.0 → IsIndexOf (removed s at.dir.0 at.name) after) → AreLinks (remove links (key at)) new after
+  removed-AreLinks file at was updated indexed =
+      let there = are.are_places.no_others file.0 at was in
+      record {
+        unique = unique;
+        are_places = removed-ArePlacesOf links (place_of_file old) are.are_places (place_of_file new) (key at) file there updated;
+        is_index = subst (λ (s : Standing). IsIndexOf s after) (standing-removed links (key at)) (indexed (standing_of links) are.is_index (ap (option_map id_of) there));
+      }
 
   -- the same links in parts that say the same
-  pub alike-AreLinks : (at' : ℕ → Option AddedPlace) (names' : Names) (counts' : ℕ → ℕ) → ((q : ℕ) → at' q ≡ at q) → AreNamesOf links names' → ((d : ℕ) → counts' d ≡ counts d) → AreLinks links at' names' counts'
-  alike-AreLinks at' names' counts' same named counted = record {
-    are_places = alike-ArePlacesOf links at at' same are.are_places;
-    are_names = named;
-    are_counts = λ d. counted d ∙ are.are_counts d;
+  pub alike-AreLinks : ((q : ℕ) → place_of_file new q ≡ place_of_file old q) → ((at : Standing) → IsIndexOf at before → AreKnown at (place_of old) → IsIndexOf at after) → AreLinks links new after
+  alike-AreLinks same indexed = record {
+    unique = unique;
+    are_places = alike-ArePlacesOf links (place_of_file old) (place_of_file new) same are.are_places;
+    is_index = indexed (standing_of links) are.is_index (places-known links old are.are_places);
   }
 
-  module _ (from to : ℕ × List ℕ) (file : FileId) (mid left : Names) (raised lowered : ℕ → ℕ)
-      (apart : to ≡ from → ⊥)
-      (there : (f : FileId) → get links from ≡ Some f → f ≡ file)
-      (once : (k : ℕ × List ℕ) → get links k ≡ Some file → k ≡ from)
-      (other : get links to ≡ Some file → ⊥)
-      (adds : Adds names mid to file)
-      (raises : (d : ℕ) → raised d ≡ counts d + one to.0 d)
-      (leaves : Leaves (at file.0) file mid left raised lowered) where
-    abbrev moved : FinMap link_cmp FileId
-    moved = insert (remove links from) to file
-
-    -- a link that is left is the file's at its new place, or another's where it was
-    cases : (k : ℕ × List ℕ) (f : FileId) → get moved k ≡ Some f → ((k ≡ to) × (file ≡ f)) ⊎ ((k ≡ to → ⊥) × (get links k ≡ Some f) × (f.0 ≡ file.0 → ⊥))
-    cases k f h = elim (put_cases link_cmp_total link_cmp-same (remove links from) to file k f h) [
-      | inl w ↦ inl w
-      | inr w ↦
-          let was = get-remove_cases link_cmp_total link_cmp-same links from k f w.1 in
-          inr (w.0, was.0, λ same. was.1 (once k (was.0 ∙ ap (λ (x : FileId). Some x) (same_id f file same))))
-    ]
-
-    named-left : AreNamed moved left
-    named-left d n f h = elim (cases (d, n) f h) [
-      | inl w ↦ subst (λ (x : ℕ × List ℕ). IsNamed left x.0 x.1 f.0) (sym w.0) (subst (λ (x : FileId). IsNamed left to.0 to.1 x.0) w.1 (here (at file.0) refl leaves))
-      | inr w ↦ elsewhere (d, n) f w.2 (named-elsewhere names mid to file adds (d, n) f.0 w.0 (are.are_names.each d n f w.1)) (at file.0) leaves
-    ]
-      where
-        here : (o : Option AddedPlace) → at file.0 ≡ o → Leaves o file mid left raised lowered → IsNamed left to.0 to.1 file.0
-        here None e l = subst (λ (x : Names). IsNamed x to.0 to.1 file.0) (sym l.0) (named-here names mid to file adds)
-        here (Some p) e l =
-            let was = are.are_places.no_others file.0 p e in
-            moved-here names mid left (key p) to file (λ same. other (ap (get links) same ∙ was)) adds l.0 (are.are_names.each p.dir.0 p.name file was)
-
-        elsewhere : (k : ℕ × List ℕ) (f : FileId) → (f.0 ≡ file.0 → ⊥) → IsNamed mid k.0 k.1 f.0 → (o : Option AddedPlace) → Leaves o file mid left raised lowered → IsNamed left k.0 k.1 f.0
-        elsewhere k f another was None l = subst (λ (x : Names). IsNamed x k.0 k.1 f.0) (sym l.0) was
-        elsewhere k f another was (Some p) l = named-other mid left (key p) file l.0 k f.0 another was
-
-    -- what left had left the file's old place, wherever it was
-    was-left-key : (k n : ℕ) → at_key left.keys k ≡ Some n → at_key mid.keys k ≡ Some n
-    was-left-key k n e = in_ (at file.0) leaves where
-      in_ : (o : Option AddedPlace) → Leaves o file mid left raised lowered → at_key mid.keys k ≡ Some n
-      in_ None l = ap (λ (x : Names). at_key x.keys k) (sym l.0) ∙ e
-      in_ (Some p) l = (was-key mid left (key p) file l.0 k n e).0
-
-    was-left-other : (k : ℕ × List ℕ) (f : FileId) → get left.others k ≡ Some f → get mid.others k ≡ Some f
-    was-left-other k f e = in_ (at file.0) leaves where
-      in_ : (o : Option AddedPlace) → Leaves o file mid left raised lowered → get mid.others k ≡ Some f
-      in_ None l = ap (λ (x : Names). get x.others k) (sym l.0) ∙ e
-      in_ (Some p) l = (was-other mid left (key p) file l.0 k f e).0
-
-    -- the file isn't under its old name any more
-    not-under : (k : ℕ × List ℕ) → get links k ≡ Some file → get left.others k ≡ Some file → ⊥
-    not-under k there e = in_ (at file.0) refl leaves where
-      in_ : (o : Option AddedPlace) → at file.0 ≡ o → Leaves o file mid left raised lowered → ⊥
-      in_ None a l = no_link links at are.are_places file a k there
-      in_ (Some p) a l =
-          let same = one_place links at are.are_places k (key p) file there (are.are_places.no_others file.0 p a) in
-          (was-other mid left (key p) file l.0 k file e).1 same refl
-
-    -- nor at the key of its old place, where it was there
-    not-at-old : (k : ℕ × List ℕ) → get links k ≡ Some file → at_key names.keys (key_of k.0 k.1) ≡ Some file.0 → at_key left.keys (key_of k.0 k.1) ≡ Some file.0 → ⊥
-    not-at-old k there was e = in_ (at file.0) refl leaves where
-      in_ : (o : Option AddedPlace) → at file.0 ≡ o → Leaves o file mid left raised lowered → ⊥
-      in_ None a l = no_link links at are.are_places file a k there
-      in_ (Some p) a l =
-          let same = one_place links at are.are_places k (key p) file there (are.are_places.no_others file.0 p a) in
-          let own = ap (λ (x : ℕ × List ℕ). key_of x.0 x.1) same in
-          let under = not-at-key mid left (key p) file l.0 (ap (at_key left.keys) (sym own) ∙ e) in
-          elim (new-other names mid to file adds (key p) file under) [
-            | inl w ↦ apart (sym w.0 ∙ once (key p) (are.are_places.no_others file.0 p a))
-            | inr w ↦ are.are_names.once p.dir.0 p.name file w (ap (at_key names.keys) (sym own) ∙ was)
-          ]
-
-    -- what is left at a key
-    keyed-left : (k n : ℕ) → at_key left.keys k ≡ Some n → ((k ≡ key_of to.0 to.1) × (n ≡ file.0)) ⊎ ((d : ℕ) × (q : List ℕ) × (get links (d, q) ≡ Some (record { 0 = n })) × (key_of d q ≡ k) × (◌≡◌ {A = ℕ × List ℕ} (d, q) from → ⊥))
-    keyed-left k n e = elim (new-key names mid to file adds k n (was-left-key k n e)) [
-      | inl w ↦ inl (w.0, w.1)
-      | inr w ↦
-          let l = are.are_names.keyed k n w in
-          inr (
-            l.0,
-            l.1,
-            l.2,
-            l.3,
-            λ same.
-                let is = there (record { 0 = n }) (sym (ap (get links) same) ∙ l.2) in
-                let number : n ≡ file.0 = ap (λ (x : FileId). x.0) is in
-                not-at-old (l.0, l.1) (l.2 ∙ ap (λ (x : FileId). Some x) is) (ap (at_key names.keys) l.3 ∙ w ∙ ap Some number) (ap (at_key left.keys) l.3 ∙ e ∙ ap Some number),
-          )
-    ]
-
-    -- what is left under a name
-    others-left : (k : ℕ × List ℕ) (f : FileId) → get left.others k ≡ Some f → ((k ≡ to) × (file ≡ f)) ⊎ ((get links k ≡ Some f) × (k ≡ from → ⊥))
-    others-left k f e = elim (new-other names mid to file adds k f (was-left-other k f e)) [
-      | inl w ↦ inl (w.0, w.1)
-      | inr w ↦
-          let l = are.are_names.others k.0 k.1 f w in
-          inr (
-            l,
-            λ same.
-                let is = there f (sym (ap (get links) same) ∙ l) in
-                let one_more = ap (λ (x : FileId). Some x) is in
-                not-under k (l ∙ one_more) (e ∙ one_more),
-          )
-    ]
-
-    -- nothing is left in both
-    once-left : (d : ℕ) (q : List ℕ) (f : FileId) → get left.others (d, q) ≡ Some f → at_key left.keys (key_of d q) ≡ Some f.0 → ⊥
-    once-left d q f e g = elim (new-other names mid to file adds (d, q) f (was-left-other (d, q) f e)) [
-      | inl w ↦ elim (new-key names mid to file adds (key_of d q) f.0 (was-left-key (key_of d q) f.0 g)) [
-        | inl v ↦ let both = sym w.2 ∙ v.2 in let no : ⊥ = cc in no
-        | inr v ↦
-            let l = are.are_names.keyed (key_of d q) f.0 v in
-            let is = ap (λ (x : FileId). x.0) w.1 in
-            not-at-old (l.0, l.1) (l.2 ∙ ap (λ x. Some (record { 0 = x })) (sym is)) (ap (at_key names.keys) l.3 ∙ v ∙ ap Some (sym is)) (ap (at_key left.keys) l.3 ∙ g ∙ ap Some (sym is))
-      ]
-      | inr w ↦ elim (new-key names mid to file adds (key_of d q) f.0 (was-left-key (key_of d q) f.0 g)) [
-        | inl v ↦
-            let is = ap (λ (x : FileId). Some x) (same_id f file v.1) in
-            not-under (d, q) (are.are_names.others d q f w ∙ is) (e ∙ is)
-        | inr v ↦ are.are_names.once d q f w v
-      ]
-    ]
-
-    -- a link under neither name stays
-    stays : (k : ℕ × List ℕ) → (k ≡ to → ⊥) → (k ≡ from → ⊥) → get moved k ≡ get links k
-    stays k not_to not_from = get-insert_other link_cmp_total link_cmp-same (remove links from) to file k not_to ∙ get-remove_other link_cmp_total link_cmp-same links from k not_from
-
-    here : (k : ℕ × List ℕ) (f : FileId) → k ≡ to → file ≡ f → get moved k ≡ Some f
-    here k f same is = ap (get moved) same ∙ get-insert_same link_cmp_total (remove links from) to file ∙ ap (λ (x : FileId). Some x) is
-
-    -- the counts without the link at its old place
-    counts-left : (d : ℕ) → lowered d ≡ count_in d (remove links from) + one to.0 d
-    counts-left d = in_ (at file.0) refl leaves where
-      in_ : (o : Option AddedPlace) → at file.0 ≡ o → Leaves o file mid left raised lowered → lowered d ≡ count_in d (remove links from) + one to.0 d
-      in_ None e l =
-          let none : get links from ≡ None = none_there (get links from) refl e in
-          let same = ap (count_in d) (removed_nothing link_cmp_total link_cmp-same links from none) in
-          let a = l.1 d in let b = raises d in let c = are.are_counts d in omega arith
-        where
-          none_there : (w : Option FileId) → get links from ≡ w → at file.0 ≡ None → w ≡ None
-          none_there None g none = refl
-          none_there (Some f) g none = absurd (no_link links at are.are_places file none from (g ∙ ap (λ (x : FileId). Some x) (there f g)))
-      in_ (Some p) e l =
-          let was = are.are_places.no_others file.0 p e in
-          let same = once (key p) was in
-          let at_from = ap (get links) (sym same) ∙ was in
-          let gone = removed-counts d links from file at_from in
-          let dir : one p.dir.0 d ≡ one from.0 d = ap (λ (k : ℕ × List ℕ). one k.0 d) same in
-          let a = l.1 d in let b = raises d in let c = are.are_counts d in omega arith
-
-    -- where nothing stood under the new name
-    pub came-AreLinks : (at' : ℕ → Option AddedPlace) → get links to ≡ None → ((q : ℕ) → at' q ≡ cond (nat_eq file.0 q) (Some (place to)) (at q)) → AreLinks moved at' left lowered
-    came-AreLinks at' free updated = record {
-      are_places = moved-ArePlacesOf links at are.are_places at' from to file there once
-          (updated file.0 ∙ ap (λ b. cond b (Some (place to)) (at file.0)) (eq-true file.0 file.0 refl))
-          (λ g h. let no : ⊥ = cc in absurd no)
-          (λ q another _. updated q ∙ ap (λ b. cond b (Some (place to)) (at q)) (not-eq file.0 q another));
-      are_names = record {
-        each = named-left;
-        keyed = λ k n e. elim (keyed-left k n e) [
-          | inl w ↦ (to.0, to.1, get-insert_same link_cmp_total (remove links from) to file ∙ ap (λ x. Some (record { 0 = x })) (sym w.1), sym w.0)
-          | inr w ↦ (w.0, w.1, stays (w.0, w.1) (λ same. let there = ap (get links) (sym same) ∙ w.2 in let no : ⊥ = cc in no) w.4 ∙ w.2, w.3)
-        ];
-        others = λ d q f e. elim (others-left (d, q) f e) [
-          | inl w ↦ here (d, q) f w.0 w.1
-          | inr w ↦ stays (d, q) (λ same. let there = ap (get links) (sym same) ∙ w.0 in let no : ⊥ = cc in no) w.1 ∙ w.0
-        ];
-        once = once-left;
-      };
-      are_counts = λ d.
-          let free_too = get-remove_other link_cmp_total link_cmp-same links from to apart ∙ free in
-          counts-left d ∙ sym (inserted-counts d (remove links from) to file free_too);
-    }
-
-    -- where a file stood there, which has no link then
-    pub replaced-AreLinks : (replaced : FileId) (at' : ℕ → Option AddedPlace) (names' : Names) (counts' : ℕ → ℕ) → get links to ≡ Some replaced →
-        ((q : ℕ) → at' q ≡ cond (nat_eq replaced.0 q) None (cond (nat_eq file.0 q) (Some (place to)) (at q))) → Removes left names' to.0 to.1 replaced → ((d : ℕ) → counts' d ≡ lowered d - one to.0 d) → AreLinks moved at' names' counts'
-    replaced-AreLinks replaced at' names' counts' stood updated removes lowers = record {
-      are_places = moved-ArePlacesOf links at are.are_places at' from to file there once
-          (updated file.0 ∙ ap (λ b. cond b None (cond (nat_eq file.0 file.0) (Some (place to)) (at file.0))) (not-eq replaced.0 file.0 not_it) ∙ ap (λ b. cond b (Some (place to)) (at file.0)) (eq-true file.0 file.0 refl))
-          (λ g h. let it = ap (λ (x : FileId). x.0) (same_file replaced g (sym stood ∙ h)) in updated g.0 ∙ ap (λ b. cond b None (cond (nat_eq file.0 g.0) (Some (place to)) (at g.0))) (eq-true replaced.0 g.0 it))
-          (λ q another not_there. updated q ∙ ap (λ b. cond b None (cond (nat_eq file.0 q) (Some (place to)) (at q))) (not-eq replaced.0 q (λ same. not_there (stood ∙ ap (λ n. Some (record { 0 = n })) same))) ∙ ap (λ b. cond b (Some (place to)) (at q)) (not-eq file.0 q another));
-      are_names = record {
-        each = λ d n f h. named-other left names' to replaced removes (d, n) f.0 (not_replaced (d, n) f h) (named-left d n f h);
-        keyed = λ k n e.
-            let was = was-key left names' to replaced removes k n e in
-            elim (keyed-left k n was.0) [
-              | inl w ↦ (to.0, to.1, get-insert_same link_cmp_total (remove links from) to file ∙ ap (λ x. Some (record { 0 = x })) (sym w.1), sym w.0)
-              | inr w ↦ (w.0, w.1, stays (w.0, w.1) (λ same. not_at_to k n e (w.0, w.1) same w.2 w.3) w.4 ∙ w.2, w.3)
-            ];
-        others = λ d q f e.
-            let was = was-other left names' to replaced removes (d, q) f e in
-            elim (others-left (d, q) f was.0) [
-              | inl w ↦ here (d, q) f w.0 w.1
-              | inr w ↦ stays (d, q) (λ same. was.1 same (ap (λ (x : FileId). x.0) (same_file f replaced (sym w.0 ∙ ap (get links) same ∙ stood)))) w.1 ∙ w.0
-            ];
-        once = λ d q f e g. once-left d q f (was-other left names' to replaced removes (d, q) f e).0 (was-key left names' to replaced removes (key_of d q) f.0 g).0;
-      };
-      are_counts = λ d.
-          let stood_too = get-remove_other link_cmp_total link_cmp-same links from to apart ∙ stood in
-          let a = lowers d in let b = counts-left d in let c = replaced-counts d (remove links from) to file replaced stood_too in omega arith;
-    }
-      where
-        not_it : replaced.0 ≡ file.0 → ⊥
-        not_it same = other (stood ∙ ap (λ (x : FileId). Some x) (same_id replaced file same))
-
-        -- what was replaced is at the key of its place no more
-        not_at_to : (k n : ℕ) → at_key names'.keys k ≡ Some n → (l : ℕ × List ℕ) → l ≡ to → get links l ≡ Some (record { 0 = n }) → key_of l.0 l.1 ≡ k → ⊥
-        not_at_to k n e l same there own =
-            let is : n ≡ replaced.0 = ap (λ (x : FileId). x.0) (same_file (record { 0 = n }) replaced (sym there ∙ ap (get links) same ∙ stood)) in
-            let at_own : k ≡ key_of to.0 to.1 = sym own ∙ ap (λ (x : ℕ × List ℕ). key_of x.0 x.1) same in
-            let now : at_key names'.keys (key_of to.0 to.1) ≡ Some replaced.0 = ap (at_key names'.keys) (sym at_own) ∙ e ∙ ap Some is in
-            let under = not-at-key left names' to replaced removes now in
-            let at_key_too = (was-key left names' to replaced removes (key_of to.0 to.1) replaced.0 now).0 in
-            once-left to.0 to.1 replaced under at_key_too
-
-        not_replaced : (k : ℕ × List ℕ) (f : FileId) → get moved k ≡ Some f → f.0 ≡ replaced.0 → ⊥
-        not_replaced k f h same = elim (cases k f h) [
-          | inl w ↦ not_it (sym same ∙ sym (ap (λ (x : FileId). x.0) w.1))
-          | inr w ↦ w.0 (one_place links at are.are_places k to replaced (w.1 ∙ ap (λ (x : FileId). Some x) (same_id f replaced same)) stood)
-        ]
-
 -- no links
-pub none-AreLinks : (at : ℕ → Option AddedPlace) (names : Names) (counts : ℕ → ℕ) → ((q : ℕ) → at q ≡ None) → ((k : ℕ) → at_key names.keys k ≡ None) → names.others ≡ empty → ((d : ℕ) → counts d ≡ 0) → AreLinks empty at names counts
-none-AreLinks at names counts none keys others zero = record {
-  are_places = none-ArePlacesOf at none;
-  are_names = none-AreNamesOf names keys others;
-  are_counts = λ d. zero d ∙ sym (no-counts d);
+pub none-AreLinks : (places : AddedPlaces) (index : DirectoryIndex) → IsUnique nat_eq places.files → ((q : ℕ) → place_of_file places q ≡ None) → IsIndexOf nothing index → AreLinks empty places index
+none-AreLinks places index unique none is = record {
+  unique = unique;
+  are_places = none-ArePlacesOf (place_of_file places) none;
+  is_index = subst (λ (s : Standing). IsIndexOf s index) (λ i d q. ap (option_map id_of) (sym (get-empty {X = FileId} link_cmp (d, q))) i) is;
 }
 
 -- places that have these links make them
-pub shown-AreLinks : (es : List (ℕ × AddedPlace)) → IsDistinct nat_eq (keys_of es) → (m : FinMap link_cmp FileId) (names : Names) (counts : ℕ → ℕ) → AreLinks m (λ q. lookup (nat_eq q) es) names counts →
-    (links_of es ≡ m) × AreLinks (links_of es) (λ q. lookup (nat_eq q) es) names counts
-shown-AreLinks es distinct m names counts are =
-    let is = links_of-is es distinct m are.are_places in
-    (is, subst (λ x. AreLinks x (λ q. lookup (nat_eq q) es) names counts) (sym is) are)
+pub shown-AreLinks : (links : FinMap link_cmp FileId) (places : AddedPlaces) (index : DirectoryIndex) → AreLinks links places index → (links_of places.files.entries ≡ links) × AreLinks (links_of places.files.entries) places index
+shown-AreLinks links places index are =
+    let is = links_of-is places.files.entries are.unique links are.are_places in
+    (is, subst (λ (m : FinMap link_cmp FileId). AreLinks m places index) (sym is) are)
+
+-- where no link gives a file, none goes
+pub unmoved-AreLinks : (links : FinMap link_cmp FileId) (places : AddedPlaces) (index : DirectoryIndex) (k : ℕ × List ℕ) → get links k ≡ None → AreLinks links places index → AreLinks (remove links k) places index
+unmoved-AreLinks links places index k none are = subst (λ (m : FinMap link_cmp FileId). AreLinks m places index) (sym (removed_nothing link_cmp_total link_cmp-same links k none)) are
+
+-- a file that stands under a name has its place there
+pub stands-place : (o : Option AddedPlace) (dir : ℕ) (name : List ℕ) → is_at (option_map key o) dir name ≡ true → o ≡ Some (place (dir, name))
+stands-place None dir name t = absurd (let no : ⊥ = cc in no)
+stands-place (Some p) dir name t = let same = same-place p.dir.0 dir p.name name t in λ i. Some (place (same.0 i, same.1 i))
+
+module _ (links : FinMap link_cmp FileId) (places : AddedPlaces) (are : ArePlacesOf links (place_of_file places)) where
+  -- where the only file that a link may give doesn't stand, no link is
+  pub stands-not : (k : ℕ × List ℕ) (file : FileId) → IfSome (get links k) (λ other. Some file ≡ Some other) → is_at (place_of places file.0) k.0 k.1 ≡ false → get links k ≡ None
+  stands-not k file only not = in_ (get links k) refl only where
+    in_ : (o : Option FileId) → get links k ≡ o → IfSome o (λ other. Some file ≡ Some other) → o ≡ None
+    in_ None e same = refl
+    in_ (Some other) e same =
+        let there = known-at (standing_of links) (place_of places) (places-known links places are) k.0 k.1 other.0 (ap (option_map id_of) e) in
+        let one = ap (λ (f : FileId). is_at (place_of places f.0) k.0 k.1) (same_file file other same) in
+        let no : ⊥ = cc in absurd no
+
+  -- the only link that gives a file goes with its place
+  pub without-is : (from : ℕ × List ℕ) (file : FileId) → IfSome (get links from) (λ other. other ≡ file) → ((k : ℕ × List ℕ) → get links k ≡ Some file → k ≡ from) → without links (place_of_file places file.0) ≡ remove links from
+  without-is from file there once = in_ (place_of_file places file.0) refl where
+    in_ : (o : Option AddedPlace) → place_of_file places file.0 ≡ o → without links o ≡ remove links from
+    in_ (Some p) e = ap (remove links) (once (key p) (are.no_others file.0 p e))
+    in_ None e = sym (removed_nothing link_cmp_total link_cmp-same links from (none_in (get links from) refl there)) where
+      none_in : (o : Option FileId) → get links from ≡ o → IfSome o (λ other. other ≡ file) → o ≡ None
+      none_in None g same = refl
+      none_in (Some other) g same = absurd (no_link links (place_of_file places) are file e from (g ∙ ap (λ (x : FileId). Some x) same))
+
+-- what was removed comes again, or another file in its place
+pub put-again : (links : FinMap link_cmp FileId) (k : ℕ × List ℕ) (file : FileId) → insert (remove links k) k file ≡ insert links k file
+put-again links k file = same_map link_cmp_total link_cmp-same _ _ (λ q.
+    get-insert link_cmp_total (remove links k) k file q ∙ ap (cond (eq_by_cmp link_cmp q k) (Some file)) (get-remove link_cmp_total links k q) ∙ twice (eq_by_cmp link_cmp q k) (get links q) ∙ sym (get-insert link_cmp_total links k file q))
+  where
+    twice : (b : Bool) (o : Option FileId) → cond b (Some file) (cond b None o) ≡ cond b (Some file) o
+    twice true o = refl
+    twice false o = refl

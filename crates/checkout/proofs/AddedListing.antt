@@ -16,7 +16,7 @@ use Rattle.manifest.proofs.FlatLemmas.{link_cmp-same, link_cmp_total}
 use Rattle.manifest.proofs.OrderedMaps.{entries-rising}
 use Rattle.checkout.proofs.AddedPlaces.{file_of, found_place, key, not-eq, other_key, same_file}
 use Rattle.checkout.specs.Added.{link_of, links_of, ArePlacesOf}
-use Rattle.checkout.specs.declared.added.AddedPlace.{AddedPlace}
+use Rattle.checkout.specs.declared.added.places.AddedPlace.{AddedPlace}
 
 abbrev Link : Type 0
 Link = (ℕ × List ℕ) × FileId

@@ -1,21 +1,20 @@
 -- The places of added links, and the links that they make, as links come and go.
-use Rattle.std.proofs.Common.{◌≡◌, nat_eq, ℕ, true, false, cond, List, [], ◌∷◌, map, Option, Some, None, MatchOption, refl, sym, ap, ◌∙◌, inl, inr, ◌⊎◌}
+use Rattle.std.proofs.Common.{◌≡◌, nat_eq, ℕ, Bool, true, false, cond, List, [], ◌∷◌, map, Option, Some, None, MatchOption, refl, sym, ap, ◌∙◌, inl, inr, ◌⊎◌}
 use Rattle.std.proofs.lemmas.Map.Keys.{IsDistinct-head, IsDistinct-tail}
-use Rattle.std.specs.Cmp.{IsTotalOrder, tied_itself}
-use Rattle.std.specs.FinMap.{FinMap, IsAntisymmetric, empty, find, get, get-empty, get-from_entries, get-insert, insert, remove, same_map}
+use Rattle.std.specs.Cmp.{tied_itself}
+use Rattle.std.specs.FinMap.{FinMap, empty, find, get, get-empty, get-from_entries, insert, remove, same_map}
 use Rattle.std.specs.List.{AllByRecursion, IsDistinct}
 use Rattle.std.specs.Map.{keys_of, lookup}
 use Rattle.std.specs.Ordering.{eq_by_cmp, is_eq}
-use Rattle.std.specs.declared.cmp.Ordering.{Ordering}
 use Rattle.eden_base.proofs.NumberTests.{eq-true, true-eq}
 use Rattle.eden_base.specs.declared.number.FileId.{FileId}
 use Rattle.manifest.specs.Tree.{link_cmp}
 use Rattle.manifest.proofs.FlatLemmas.{link_cmp-same, link_cmp_total}
 use Rattle.manifest.proofs.ManifestTree.{same_id}
-use Rattle.manifest.proofs.MapLemmas.{get-insert_other, get-insert_same, get-remove_cases, get-remove_other, tied_key}
+use Rattle.manifest.proofs.MapLemmas.{get-insert_cases, get-insert_other, get-insert_same, get-remove_cases, get-remove_other, tied_key}
 use Rattle.checkout.proofs.LinkLaws.{given_from_link, link_from_given}
 use Rattle.checkout.specs.Added.{gives, link_of, links_of, ArePlacesOf}
-use Rattle.checkout.specs.declared.added.AddedPlace.{AddedPlace}
+use Rattle.checkout.specs.declared.added.places.AddedPlace.{AddedPlace}
 
 abbrev pub place : ℕ × List ℕ → AddedPlace
 place k = record { dir = record { 0 = k.0 }; name = k.1 }
@@ -50,14 +49,6 @@ same_or_other f g = elim (same_or_not f.0 g.0) [ inl e ↦ inl (same_id f g e) |
 
 pub same_file : (a b : FileId) → Some a ≡ Some b → a ≡ b
 same_file a b e = cc
-
--- what a map has after an insertion is what was inserted, or at another key what it had
-pub put_cases : {K X : Type 0} {R : K → K → Ordering} (o : IsTotalOrder R) → IsAntisymmetric R → (m : FinMap R X) (k : K) (v : X) (q : K) (w : X) → get (insert m k v) q ≡ Some w → ((q ≡ k) × (v ≡ w)) ⊎ ((q ≡ k → ⊥) × (get m q ≡ Some w))
-put_cases {K} {X} {R} o same m k v q w h =
-    elim (eq_by_cmp R q k) as (λ b. eq_by_cmp R q k ≡ b → cond b (Some v) (get m q) ≡ Some w → ((q ≡ k) × (v ≡ w)) ⊎ ((q ≡ k → ⊥) × (get m q ≡ Some w))) [
-      | true ↦ λ e g. inl (tied_key same q k e, cc)
-      | false ↦ λ e g. inr (λ at. let t = ap (λ x. eq_by_cmp R x k) at ∙ ap is_eq (tied_itself o k) in let no : ⊥ = cc in no, g)
-    ] refl (sym (get-insert o m k v q) ∙ h)
 
 -- a key that is found is another than one that is apart from all keys
 pub other_key : (k q : ℕ) (es : List (ℕ × AddedPlace)) (p : AddedPlace) → AllByRecursion (λ y. nat_eq k y ≡ false) (keys_of es) → lookup (nat_eq q) es ≡ Some p → q ≡ k → ⊥
@@ -105,6 +96,13 @@ links_of-is es h m are = same_map link_cmp_total link_cmp-same _ _ (λ k. get-fr
   at k None e None v = e ∙ sym v
   at k None e (Some f) v = absurd (place_found es f.0 (place k) (are.each k.0 k.1 f v) e)
 
+-- a file is not given where no link gives it
+pub not-given : (links : FinMap link_cmp FileId) (file : FileId) → ((k : ℕ × List ℕ) → get links k ≡ Some file → ⊥) → gives links file ≡ false
+not-given links file none = in_ (gives links file) refl where
+  in_ : (b : Bool) → gives links file ≡ b → b ≡ false
+  in_ false e = refl
+  in_ true e = let w = link_from_given links file e in absurd (none (w.0.0, w.1) w.2)
+
 -- places that are the same
 pub alike-ArePlacesOf : (m : FinMap link_cmp FileId) (at now : ℕ → Option AddedPlace) → ((q : ℕ) → now q ≡ at q) → ArePlacesOf m at → ArePlacesOf m now
 alike-ArePlacesOf m at now same are = record {
@@ -133,14 +131,10 @@ module _ (links : FinMap link_cmp FileId) (at : ℕ → Option AddedPlace) (are 
 
   -- no link gives a file without a place
   pub gives-places : (file : FileId) → MatchOption (at file.0) (gives links file ≡ false) (λ p. get links (key p) ≡ Some file)
-  gives-places file =
-      elim (at file.0) as (λ o. at file.0 ≡ o → MatchOption o (gives links file ≡ false) (λ p. get links (key p) ≡ Some file)) [
-        | Some p ↦ λ e. are.no_others file.0 p e
-        | None ↦ λ e. elim (gives links file) as (λ b. gives links file ≡ b → b ≡ false) [
-          | false ↦ λ _. refl
-          | true ↦ λ g. let w = link_from_given links file g in absurd (no_link file e (w.0.0, w.1) w.2)
-        ] refl
-      ] refl
+  gives-places file = in_ (at file.0) refl where
+    in_ : (o : Option AddedPlace) → at file.0 ≡ o → MatchOption o (gives links file ≡ false) (λ p. get links (key p) ≡ Some file)
+    in_ (Some p) e = are.no_others file.0 p e
+    in_ None e = not-given links file (no_link file e)
 
   -- a file that no link gives has no place
   pub no_place : (file : FileId) → gives links file ≡ false → at file.0 ≡ None
@@ -167,28 +161,27 @@ module _ (links : FinMap link_cmp FileId) (at : ℕ → Option AddedPlace) (are 
     ];
   }
 
-  -- a link that came under one name, and maybe went from another; the file that stood under the new name has no place
-  pub moved-ArePlacesOf : (now : ℕ → Option AddedPlace) (from to : ℕ × List ℕ) (file : FileId) →
-      ((f : FileId) → get links from ≡ Some f → f ≡ file) → ((k : ℕ × List ℕ) → get links k ≡ Some file → k ≡ from) →
-      now file.0 ≡ Some (place to) → ((g : FileId) → get links to ≡ Some g → now g.0 ≡ None) →
-      ((q : ℕ) → (file.0 ≡ q → ⊥) → (get links to ≡ Some (file_of q) → ⊥) → now q ≡ at q) → ArePlacesOf (insert (remove links from) to file) now
-  moved-ArePlacesOf now from to file there once here gone rest = record {
-    each = λ d n f h. elim (put_cases link_cmp_total link_cmp-same (remove links from) to file (d, n) f h) [
-      | inl w ↦ ap (λ (x : FileId). now x.0) (sym w.1) ∙ here ∙ ap (λ k. Some (place k)) (sym w.0)
-      | inr w ↦
-          let was = get-remove_cases link_cmp_total link_cmp-same links from (d, n) f w.1 in
-          let apart : file.0 ≡ f.0 → ⊥ = λ same. was.1 (once (d, n) (was.0 ∙ ap (λ (x : FileId). Some x) (sym (same_id file f same)))) in
-          rest f.0 apart (λ at_to. w.0 (one_place (d, n) to f was.0 at_to)) ∙ are.each d n f was.0
+  -- a link that came to a free place
+  pub inserted-ArePlacesOf : (now : ℕ → Option AddedPlace) (to : ℕ × List ℕ) (file : FileId) → get links to ≡ None → at file.0 ≡ None →
+      ((q : ℕ) → now q ≡ cond (nat_eq file.0 q) (Some (place to)) (at q)) → ArePlacesOf (insert links to file) now
+  inserted-ArePlacesOf now to file free none updated = record {
+    each = λ d n f h. elim (get-insert_cases link_cmp_total link_cmp-same links to file (d, n) f h) [
+      | inl w ↦ here f.0 (ap (λ (x : FileId). x.0) w.1) ∙ ap (λ k. Some (place k)) (sym w.0)
+      | inr w ↦ let was = are.each d n f w in other f.0 (λ same. let gone = ap at (sym same) ∙ none in let no : ⊥ = cc in no) ∙ was
     ];
     no_others = λ q p h. elim (same_or_not file.0 q) [
       | inl same ↦
-          let both = sym h ∙ ap now (sym same) ∙ here in
+          let both = sym h ∙ here q same in
           let at_to : p ≡ place to = cc in
-          ap (λ x. get (insert (remove links from) to file) (key x)) at_to ∙ get-insert_same link_cmp_total (remove links from) to file ∙ ap (λ n. Some (file_of n)) same
+          ap (λ x. get (insert links to file) (key x)) at_to ∙ get-insert_same link_cmp_total links to file ∙ ap (λ n. Some (file_of n)) same
       | inr apart ↦
-          let not_to : get links to ≡ Some (file_of q) → ⊥ = λ e. let none = gone (file_of q) e in let no : ⊥ = cc in no in
-          let was = are.no_others q p (sym (rest q apart not_to) ∙ h) in
-          get-insert_other link_cmp_total link_cmp-same (remove links from) to file (key p) (λ e. not_to (sym (ap (get links) e) ∙ was))
-          ∙ get-remove_other link_cmp_total link_cmp-same links from (key p) (λ e. apart (sym (ap (λ (x : FileId). x.0) (there (file_of q) (sym (ap (get links) e) ∙ was))))) ∙ was
+          let was = are.no_others q p (sym (other q apart) ∙ h) in
+          get-insert_other link_cmp_total link_cmp-same links to file (key p) (λ e. let there = sym (ap (get links) e) ∙ was in let no : ⊥ = cc in no) ∙ was
     ];
   }
+    where
+      here : (q : ℕ) → file.0 ≡ q → now q ≡ Some (place to)
+      here q same = updated q ∙ ap (λ b. cond b (Some (place to)) (at q)) (eq-true file.0 q same)
+
+      other : (q : ℕ) → (file.0 ≡ q → ⊥) → now q ≡ at q
+      other q apart = updated q ∙ ap (λ b. cond b (Some (place to)) (at q)) (not-eq file.0 q apart)

@@ -1,9 +1,7 @@
 pub mod AboveItself
 pub mod AboveLaws
-pub mod AddedCounts
 pub mod AddedLinks
 pub mod AddedListing
-pub mod AddedNames
 pub mod AddedPlaces
 pub mod AmongLinks
 pub mod AroundPaths

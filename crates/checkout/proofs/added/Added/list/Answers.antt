@@ -20,9 +20,9 @@ loop-file-preserved c =
 
 pub returns : goal.returns
 returns c =
-    let es = c.self.inside.places.entries in
+    let es = c.self.inside.places.files.entries in
     let so_far = c.loop-file.links.items in
     let gives : c.into_iter-file-iterator.result ≡ es = c.into_iter-file-iterator.ensures.into_iter_gives.0 in
     let listed = sym (append-nil so_far) ∙ ap (λ it. so_far ++ map added_change (map link_of it)) (sym c.in-None.ensures.steps.0) ∙ c.loop-file.invariant ∙ ap (λ it. c.args.links.now.items ++ map added_change (map link_of it)) gives in
-    let all = IsPermutation-append_right c.args.links.now.items _ _ (IsPermutation-map added_change (entries (links_of es)) (map link_of es) (all-links es c.self.invariant.0 c.self.invariant.1.are_places)) in
+    let all = IsPermutation-append_right c.args.links.now.items _ _ (IsPermutation-map added_change (entries (links_of es)) (map link_of es) (all-links es c.self.invariant.unique c.self.invariant.are_places)) in
     subst (λ m. IsPermutation (c.args.links.now.items ++ map added_change (entries m)) so_far) c.self.view_is (subst (IsPermutation (c.args.links.now.items ++ map added_change (entries (links_of es)))) (sym listed) all)
