@@ -2,7 +2,7 @@
 use Rattle.std.proofs.Common.{◌≡◌, ℕ, List, Option, Some, None, refl, sym, ap, ◌∙◌, inl, inr, ◌⊎◌}
 use Rattle.directory_index.proofs.Standings.{inserted-here, inserted-still, inserted-was, moved, removed-still, removed-was, same-number}
 use Rattle.directory_index.specs.Index.{IsIndexOf}
-use Rattle.directory_index.specs.Standing.{inserted, nothing, removed, Standing, StandsNowhere}
+use Rattle.directory_index.specs.Standing.{inserted, removed, Standing, StandsNowhere}
 use Rattle.directory_index.specs.declared.directory_index.DirectoryIndex.{DirectoryIndex}
 use Rattle.eden_base.proofs.MemberLemmas.{some-none}
 use Rattle.eden_base.proofs.NumberTests.{eq-or}
@@ -18,15 +18,6 @@ same-place o d dir q name e f =
     let same : under d q ≡ under dir name = sym e ∙ f in
     let pair : ◌≡◌ {A = ℕ × List ℕ} (d, q) (dir, name) = cc in
     (ap (λ (p : ℕ × List ℕ). p.0) pair, ap (λ (p : ℕ × List ℕ). p.1) pair)
-
--- where nothing stands
-pub indexed-nothing : (place : ℕ → Option (ℕ × List ℕ)) (index : DirectoryIndex) → ((n : ℕ) → place n ≡ None) → IsIndexOf nothing index → IsIndexed place index
-indexed-nothing place index none is = record {
-  at = nothing;
-  of = is;
-  known = λ d q n e. let no : ⊥ = cc in absurd no;
-  each = λ d q n e. absurd (some-none (place n) (d, q) e (none n));
-}
 
 -- where each number stands as it stood
 pub indexed-same : (place after : ℕ → Option (ℕ × List ℕ)) (index : DirectoryIndex) → ((n : ℕ) → after n ≡ place n) → IsIndexed place index → IsIndexed after index
