@@ -1,16 +1,14 @@
 //! A queue of lines, and the thread that writes them.
 use crate::backlog::Backlog;
 use crate::loss::Loss;
+use monitor::{Condition, Look, Monitor};
 use std::alloc::Global;
 use std::fmt::Display;
 use std::io::{self, Write};
-use std::sync::{Arc, Condvar, Mutex, Wait};
+use std::sync::{Arc, Wait};
 use std::thread;
 use std::thread::Threads;
 use std::time::Duration;
-
-/// The longest sleep of the thread that writes, in milliseconds.
-const LONGEST_SLEEP: u64 = 60_000;
 
 /// How many milliseconds pass between two looks of who waits until all is written.
 const PAUSE: u64 = 10;
@@ -22,8 +20,8 @@ const LOOKS: u64 = 100;
 /// whole.
 #[derive(Drop)]
 pub struct LineQueue {
-    backlog: Mutex<Backlog>,
-    changes: Condvar,
+    backlog: Monitor<Backlog>,
+    changes: Condition,
 }
 
 impl LineQueue {
@@ -35,8 +33,8 @@ impl LineQueue {
         let queue = Arc::new(
             alloc,
             LineQueue {
-                backlog: Mutex::new(Backlog::new(alloc)),
-                changes: Condvar::new(),
+                backlog: Monitor::new(Backlog::new(alloc)),
+                changes: Condition::new(),
             },
         )?;
         let (host, theirs) = (*rt, Arc::try_clone(&queue)?);
@@ -46,41 +44,36 @@ impl LineQueue {
 
     /// Lets a line with the text of `line` wait, or drops it. Waits for no write.
     pub(crate) fn print<R: Wait, D: Display + Drop>(&self, rt: &R, line: D) {
-        self.backlog.lock(rt).print(line);
-        self.changes.notify_all();
+        self.backlog
+            .change(rt, &self.changes, |backlog| backlog.print(line));
     }
 
     /// Lets `text` wait as one line, or drops it. Waits for no write.
     pub(crate) fn write<R: Wait>(&self, rt: &R, text: &[u8]) {
-        self.backlog.lock(rt).write(text);
-        self.changes.notify_all();
+        self.backlog
+            .change(rt, &self.changes, |backlog| backlog.write(text));
     }
 
     /// Waits until all lines are written, for a second at most. Returns the first loss, if a line was lost.
     pub(crate) fn finish<R: Wait>(&self, rt: &R) -> Option<Loss> {
-        for _ in 0..LOOKS {
-            let seen = self.changes.notifications();
-            let backlog = self.backlog.lock(rt);
-            if backlog.is_done() {
-                return backlog.loss();
+        let mut looks = LOOKS;
+        self.backlog.wait_until(rt, &self.changes, |backlog| {
+            if looks == 0 {
+                return Look::Found(backlog.loss().or(Some(Loss::Full)));
             }
-            drop(backlog);
-            self.changes.sleep(rt, seen, Duration::from_millis(PAUSE));
-        }
-        self.backlog.lock(rt).loss().or(Some(Loss::Full))
+            if backlog.is_done() {
+                return Look::Found(backlog.loss());
+            }
+            looks = looks.saturating_sub(1);
+            Look::Again(Duration::from_millis(PAUSE))
+        })
     }
 
     /// Waits until a line waits, and moves all that wait to `chunk`.
     fn take<R: Wait>(&self, rt: &R, chunk: &mut Vec<u8>) {
-        for _ in rt.forever() {
-            let seen = self.changes.notifications();
-            if self.backlog.lock(rt).take(chunk) {
-                return;
-            }
-            self.changes
-                .sleep(rt, seen, Duration::from_millis(LONGEST_SLEEP));
-        }
-        unreachable!()
+        self.backlog.wait_until(rt, &self.changes, |backlog| {
+            Look::of(backlog.take(chunk).then_some(()))
+        });
     }
 }
 
@@ -91,8 +84,9 @@ fn write_all<R: Wait, W: Write + Drop>(rt: &R, alloc: Global, queue: &LineQueue,
     for _ in rt.forever() {
         queue.take(rt, &mut chunk);
         let written = write(&mut out, chunk.as_slice());
-        queue.backlog.lock(rt).wrote(written);
-        queue.changes.notify_all();
+        queue
+            .backlog
+            .change(rt, &queue.changes, |backlog| backlog.wrote(written));
     }
 }
 
