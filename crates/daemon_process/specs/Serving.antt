@@ -19,13 +19,13 @@ abbrev pub IsServing : Phase → Type 0
 IsServing phase = (generation : ℕ) × (phase ≡ phases.Serving generation)
 
 -- the lease of the round that comes next, if a round comes next
-abbrev pub served_next : Next → Option Lease
-served_next (next.Serve lease stop stops) = Some lease
+abbrev pub served_next : Option Next → Option Lease
+served_next (Some (next.Serve lease stop stops)) = Some lease
 served_next other = None
 
 -- how often rounds were asked to stop before the round that comes next, if a round comes next
-abbrev pub stops_next : Next → Option ℕ
-stops_next (next.Serve lease stop stops) = Some stops
+abbrev pub stops_next : Option Next → Option ℕ
+stops_next (Some (next.Serve lease stop stops)) = Some stops
 stops_next other = None
 
 -- how often rounds were asked to stop, after one more request if a round may run; the greatest count is followed by 0
@@ -33,17 +33,17 @@ abbrev pub stops_behind : Bool → ℕ → ℕ
 stops_behind true stops = if stops == 18446744073709551615 then 0 else stops + 1
 stops_behind false stops = stops
 
--- A round over what may be lent comes next, or a wait if nothing may be lent. A pause comes next if memory for the
+-- A round over what may be lent comes next, or nothing does if nothing may be lent. A pause comes next if memory for the
 -- round's stop was refused.
-abbrev pub IsRound : Option ServerState → Next → Type 0
-IsRound server next.Pause = Unit {0}
-IsRound (Some server) (next.Serve lease stop stops) = lent_server lease ≡ server
-IsRound None next.Wait = Unit {0}
+abbrev pub IsRound : Option ServerState → Option Next → Type 0
+IsRound server (Some next.Pause) = Unit {0}
+IsRound (Some server) (Some (next.Serve lease stop stops)) = lent_server lease ≡ server
+IsRound None None = Unit {0}
 IsRound server other = ⊥
 
--- a wait comes next while the daemon drains, else what `IsRound` says
-abbrev pub ComesWhile : Bool → Option ServerState → Next → Type 0
-ComesWhile true server what = what ≡ next.Wait
+-- nothing comes next while the daemon drains, else what `IsRound` says
+abbrev pub ComesWhile : Bool → Option ServerState → Option Next → Type 0
+ComesWhile true server what = what ≡ None
 ComesWhile false server what = IsRound server what
 
 -- whether the end of standard input ends a daemon in this phase, if it has come: a takeover goes to its end first
@@ -51,15 +51,15 @@ abbrev pub ends_in : Bool → Phase → Bool
 ends_in true (phases.Serving generation) = true
 ends_in is_closed phase = false
 
--- the end comes next if standard input ends the daemon now; else a wait while the daemon drains, else what `IsRound`
+-- the end comes next if standard input ends the daemon now; else nothing while the daemon drains, else what `IsRound`
 -- says of what may be lent
-abbrev pub ComesOn : Bool → DeskState → Next → Type 0
-ComesOn true desk what = what ≡ next.Close
+abbrev pub ComesOn : Bool → DeskState → Option Next → Type 0
+ComesOn true desk what = what ≡ Some next.Close
 ComesOn false desk what = ComesWhile (is_draining desk.daemon.node.phase) (lendable desk) what
 
 -- the exit comes next if it is noted; else what `ComesOn` says, by whether standard input ended and that is heeded
-abbrev pub ComesNext : Option Exit → Bool → DeskState → Next → Type 0
-ComesNext (Some exit) is_closed desk what = what ≡ next.Exit exit
+abbrev pub ComesNext : Option Exit → Bool → DeskState → Option Next → Type 0
+ComesNext (Some exit) is_closed desk what = what ≡ Some (next.Exit exit)
 ComesNext None is_closed desk what = ComesOn (ends_in is_closed desk.daemon.node.phase) desk what
 
 -- ---- what is printed

@@ -4,10 +4,12 @@ ghost use Rattle.daemon_process.specs.PeerQueue.{TakesFirst, admission, gives_wa
 
 use crate::peer_queue::{Admission, Offer, PeerQueue};
 use links::Frame;
+use monitor::{Condition, Look, Monitor};
 use std::alloc::Global;
+use std::mem;
 use std::net::Shutdown;
 use std::os::unix::net::UnixStream;
-use std::sync::{Condvar, Mutex, Wait};
+use std::sync::Wait;
 use std::time::Duration;
 
 /// How long a connection waits for a place before it takes that of another one, in microseconds. Each of 64 that said
@@ -16,9 +18,6 @@ const MOMENT: u64 = 200;
 
 /// How long a connection waits for a place where all others offered, in milliseconds.
 const PAUSE: u64 = 10;
-
-/// The longest sleep of a thread that waits, in milliseconds.
-const LONGEST_SLEEP: u64 = 60_000;
 
 /// What the lock protects.
 #[derive(Drop)]
@@ -37,8 +36,8 @@ struct State {
 /// time.
 #[derive(Drop)]
 pub(crate) struct PeerConnections {
-    state: Mutex<State>,
-    changes: Condvar,
+    state: Monitor<State>,
+    changes: Condition,
 }
 
 /// How a connection enters.
@@ -102,6 +101,14 @@ impl State {
         }
     }
 
+    /// Lets the connection `entering` in, for which there is a place.
+    fn admit(&mut self, entering: Option<UnixStream>) -> Admitted {
+        match entering.and_then(|stream| self.queue.enter(stream)) {
+            Some(number) => Admitted::Heard(number),
+            None => Admitted::Refused,
+        }
+    }
+
     /// Notes that the served connection has a takeover under way, unless that was sent away. Returns whether it may stay.
     fn stay(&mut self) -> bool
         ensures stays { result ≡ not self.old.is_sent_away }
@@ -132,40 +139,33 @@ impl PeerConnections {
     /// Makes the connections of peers. None is there yet.
     pub(crate) fn new(alloc: Global) -> PeerConnections {
         PeerConnections {
-            state: Mutex::new(State {
+            state: Monitor::new(State {
                 queue: PeerQueue::new(alloc),
                 current: None,
                 is_engaged: false,
                 is_sent_away: false,
                 is_over: false,
             }),
-            changes: Condvar::new(),
+            changes: Condition::new(),
         }
     }
 
     /// Lets a connection in by a handle of it, once there is a place. Where all are taken it soon takes that of the oldest
     /// one that said nothing yet.
     pub(crate) fn enter<R: Wait>(&self, rt: &R, stream: UnixStream) -> Admitted {
+        let mut entering = Some(stream);
         let mut pause = Duration::from_micros(MOMENT);
         let mut is_late = false;
-        for _ in rt.forever() {
-            let seen = self.changes.notifications();
-            let mut state = self.state.lock(rt);
+        self.state.wait_until(rt, &self.changes, |state| {
             if state.is_over {
-                return Admitted::Over;
+                return Look::Found(Admitted::Over);
             }
             if state.has_place(is_late) {
-                return match state.queue.enter(stream) {
-                    Some(number) => Admitted::Heard(number),
-                    None => Admitted::Refused,
-                };
+                return Look::Found(state.admit(entering.take()));
             }
-            drop(state);
-            self.changes.sleep(rt, seen, pause);
-            pause = Duration::from_millis(PAUSE);
             is_late = true;
-        }
-        unreachable!()
+            Look::Again(mem::replace(&mut pause, Duration::from_millis(PAUSE)))
+        })
     }
 
     /// Notes that a connection ended, or said what is no offer.
@@ -177,32 +177,23 @@ impl PeerConnections {
 
     /// Notes that a connection offered by `frame`. If the served connection has no takeover under way, it is sent away.
     pub(crate) fn offer<R: Wait>(&self, rt: &R, number: u64, frame: Frame) {
-        let mut state = self.state.lock(rt);
-        state.queue.offer(number, frame);
-        state.send_away();
-        drop(state);
-        self.changes.notify_all();
+        self.state.change(rt, &self.changes, |state| {
+            state.queue.offer(number, frame);
+            state.send_away();
+        });
     }
 
     /// Returns the connection that offered first, which is served from then on; none where no connection is let in any
     /// more.
     pub(crate) fn next<R: Wait>(&self, rt: &R) -> Option<Offer> {
-        for _ in rt.forever() {
-            let seen = self.changes.notifications();
-            let mut state = self.state.lock(rt);
+        let offer = self.state.wait_until(rt, &self.changes, |state| {
             if state.is_over {
-                return None;
+                return Look::Found(None);
             }
-            if let Some(offer) = state.take() {
-                drop(state);
-                self.changes.notify_all();
-                return Some(offer);
-            }
-            drop(state);
-            self.changes
-                .sleep(rt, seen, Duration::from_millis(LONGEST_SLEEP));
-        }
-        unreachable!()
+            Look::of(state.take().map(Some))
+        })?;
+        self.changes.notify_all();
+        Some(offer)
     }
 
     /// Notes that the served connection has a takeover under way, unless that connection was sent away. Returns whether
@@ -226,14 +217,13 @@ impl PeerConnections {
 
     /// Ends all connections, and lets none in any more.
     pub(crate) fn end<R: Wait>(&self, rt: &R) {
-        let mut state = self.state.lock(rt);
-        state.is_over = true;
-        state.queue.end_all();
-        if let Some(current) = &state.current {
-            let _ended = current.shutdown(Shutdown::Both);
-        }
-        drop(state);
-        self.changes.notify_all();
+        self.state.change(rt, &self.changes, |state| {
+            state.is_over = true;
+            state.queue.end_all();
+            if let Some(current) = &state.current {
+                let _ended = current.shutdown(Shutdown::Both);
+            }
+        });
     }
 
     /// Returns whether no connection is let in any more.

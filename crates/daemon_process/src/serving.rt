@@ -56,7 +56,6 @@ pub(crate) fn serve<R: Threads + Wait + Clock + Sync, W: Unblock>(
         rooms: Rooms::new(alloc),
     };
     for _ in rt.forever() {
-        let seen = shared.changes();
         match shared.next(rt, alloc, until_closed) {
             Next::Serve(lease, stop, stops) => {
                 if let Some(exit) = serve_lease(
@@ -73,7 +72,6 @@ pub(crate) fn serve<R: Threads + Wait + Clock + Sync, W: Unblock>(
                     return Ending::Exits(exit);
                 }
             }
-            Next::Wait => shared.sleep(rt, seen),
             Next::Pause => thread::sleep(rt, Duration::from_millis(PAUSE)),
             Next::Exit(exit) => return Ending::Exits(exit),
             Next::Close => return Ending::Closed,

@@ -1,5 +1,5 @@
 //! What the threads of a daemon share.
-ghost use Rattle.std.specs.Prelude.{◌≡◌, ◌⊎◌, ◌&&◌, None, is_some, true};
+ghost use Rattle.std.specs.Prelude.{◌≡◌, ◌⊎◌, ◌&&◌, None, Some, is_some, true};
 ghost use Rattle.std.specs.Option.{IfSome};
 ghost use Rattle.takeover_core.specs.declared.phase.Phase.TheVariants.{Serving};
 ghost use Rattle.daemon_desk.specs.Desk.{Hears};
@@ -15,18 +15,15 @@ use daemon::Lease;
 use daemon_desk::{Claiming, DaemonDesk, Hearing, Mounting};
 use eden_base::NoMemory;
 use links::Frame;
+use monitor::{Condition, Look, Monitor};
 use non_blocking::Notes;
 use std::alloc::Global;
 use std::mem;
 use std::net::Shutdown;
 use std::os::unix::net::UnixStream;
-use std::sync::{Arc, Condvar, Mutex, Wait};
-use std::time::Duration;
+use std::sync::{Arc, Wait};
 use takeover_core::Phase;
 use workers::Stop;
-
-/// The longest sleep of a waiting thread, in milliseconds.
-const LONGEST_SLEEP: u64 = 60_000;
 
 /// What the lock protects.
 #[derive(Drop)]
@@ -50,8 +47,6 @@ struct State {
 pub(crate) enum Next {
     /// Serves a round until the round is asked to stop. The number is how often rounds were asked to stop before.
     Serve(Lease, Arc<Stop>, u64),
-    /// Waits for a change.
-    Wait,
     /// Waits a moment, since memory was refused.
     Pause,
     Exit(Exit),
@@ -59,42 +54,41 @@ pub(crate) enum Next {
     Close,
 }
 
-/// A daemon's desk under a lock, and the signal that tells its threads of changes.
+/// A daemon's desk under a lock, and the condition by which its threads hear of changes.
 #[derive(Drop)]
 pub(crate) struct Shared {
-    state: Mutex<State>,
-    changes: Condvar,
+    state: Monitor<State>,
+    changes: Condition,
     notes: Notes,
     silences: Silences,
 }
 
 impl State {
-    /// Returns what the main thread does next. The end of standard input is heeded if `until_closed`.
+    /// Returns what the main thread does next; none if it waits for a change. The end of standard input is heeded if
+    /// `until_closed`.
     #[tactic(auto, using(crate::proofs::NextRound::serves_at))]
-    fn next(&mut self, alloc: Global, until_closed: bool) -> Next
+    fn next(&mut self, alloc: Global, until_closed: bool) -> Option<Next>
         ensures next { ComesNext self.old.exit (until_closed && self.old.is_closed) self.old.desk result }
-        ensures closes { result ≡ Close → until_closed ≡ true }
+        ensures closes { result ≡ Some Close → until_closed ≡ true }
         ensures serves { IfSome (served_next result) (λ lease.
             self.old.desk.daemon.node.phase ≡ Serving lease.generation) }
         ensures stops { IfSome (stops_next result) (λ stops. stops ≡ self.old.stops) }
         ensures kept { self.new.stops ≡ self.old.stops }
     {
         if let Some(exit) = self.exit {
-            return Next::Exit(exit);
+            return Some(Next::Exit(exit));
         }
         if until_closed && self.is_closed && self.is_free() {
-            return Next::Close;
+            return Some(Next::Close);
         }
         if self.desk.drains() {
-            return Next::Wait;
+            return None;
         }
         let Ok(stop) = self.stop_of_round(alloc) else {
-            return Next::Pause;
+            return Some(Next::Pause);
         };
-        match self.desk.lend() {
-            Some(lease) => Next::Serve(lease, stop, self.stops),
-            None => Next::Wait,
-        }
+        let lease = self.desk.lend()?;
+        Some(Next::Serve(lease, stop, self.stops))
     }
 
     /// Returns whether the daemon serves and no takeover is under way.
@@ -169,7 +163,7 @@ impl Shared {
     /// Makes the shared state over `desk`, with no exit and no round. Notes are said by `notes`.
     pub(crate) fn new(desk: DaemonDesk, notes: Notes) -> Shared {
         Shared {
-            state: Mutex::new(State {
+            state: Monitor::new(State {
                 desk,
                 stop: None,
                 stops: 0,
@@ -178,7 +172,7 @@ impl Shared {
                 is_closed: false,
                 waits_at: None,
             }),
-            changes: Condvar::new(),
+            changes: Condition::new(),
             silences: Silences::new(notes.again()),
             notes,
         }
@@ -192,17 +186,6 @@ impl Shared {
     /// Returns the handle by which threads say notes.
     pub(crate) fn notes(&self) -> &Notes {
         &self.notes
-    }
-
-    /// Returns how many changes were signalled.
-    pub(crate) fn changes(&self) -> u64 {
-        self.changes.notifications()
-    }
-
-    /// Waits until more than `seen` changes were signalled, for a minute at most.
-    pub(crate) fn sleep<R: Wait>(&self, rt: &R, seen: u64) {
-        self.changes
-            .sleep(rt, seen, Duration::from_millis(LONGEST_SLEEP));
     }
 
     /// Makes the state that the daemon serves once it mounts, before it asks for the mount.
@@ -232,16 +215,14 @@ impl Shared {
 
     /// Takes in a frame of another daemon, and signals a change.
     pub(crate) fn hear<R: Wait>(&self, rt: &R, frame: &Frame) -> Hearing {
-        let heard = self.state.lock(rt).hear(frame);
-        self.changes.notify_all();
-        heard
+        self.state
+            .change(rt, &self.changes, |state| state.hear(frame))
     }
 
     /// Ends the daemon's part in a takeover, and returns the frame to send to the other daemon, if there is one.
     pub(crate) fn give_up<R: Wait>(&self, rt: &R) -> Option<Frame> {
-        let told = self.state.lock(rt).desk.give_up();
-        self.changes.notify_all();
-        told
+        self.state
+            .change(rt, &self.changes, |state| state.desk.give_up())
     }
 
     /// Returns the frame of the claim that the daemon wants to make, if it wants to make one.
@@ -251,46 +232,40 @@ impl Shared {
 
     /// Takes in the broker's answer to a Claim frame.
     pub(crate) fn take_claim<R: Wait>(&self, rt: &R, answer: &Frame) -> Claiming {
-        let claiming = self.state.lock(rt).desk.take_claim(answer);
-        self.changes.notify_all();
-        claiming
+        self.state
+            .change(rt, &self.changes, |state| state.desk.take_claim(answer))
     }
 
-    /// Returns what the main thread does next. The end of standard input is heeded if `until_closed`.
+    /// Waits until the main thread has something to do, and returns what that is. The end of standard input is heeded if
+    /// `until_closed`.
     pub(crate) fn next<R: Wait>(&self, rt: &R, alloc: Global, until_closed: bool) -> Next
         ensures closes { result ≡ Close → until_closed ≡ true }
     {
-        self.state.lock(rt).next(alloc, until_closed)
+        self.state.wait_until(rt, &self.changes, |state| {
+            Look::of(state.next(alloc, until_closed))
+        })
     }
 
     /// Takes a round's lease back.
     pub(crate) fn take_back<R: Wait>(&self, rt: &R, lease: Lease) {
-        self.state.lock(rt).desk.take_back(lease);
-        self.changes.notify_all();
+        self.state
+            .change(rt, &self.changes, |state| state.desk.take_back(lease));
     }
 
     /// Waits until the workers gave their lease back, and returns the frame to send to the other daemon. Returns none
     /// if the daemon is over before that.
     pub(crate) fn drain<R: Wait>(&self, rt: &R) -> Option<Frame> {
-        for _ in rt.forever() {
-            let seen = self.changes();
-            let mut state = self.state.lock(rt);
+        self.state.wait_until(rt, &self.changes, |state| {
             if state.is_over() {
-                return None;
+                return Look::Found(None);
             }
-            if let Some(ready) = state.desk.drained() {
-                return Some(ready);
-            }
-            drop(state);
-            self.sleep(rt, seen);
-        }
-        unreachable!()
+            Look::of(state.desk.drained().map(Some))
+        })
     }
 
     /// Notes that standard input ended, and signals a change.
     pub(crate) fn close<R: Wait>(&self, rt: &R) {
-        self.state.lock(rt).close();
-        self.changes.notify_all();
+        self.state.change(rt, &self.changes, |state| state.close());
     }
 
     /// Notes the connection at which the daemon waits before it serves; none if it waits at none. The end of standard
@@ -317,18 +292,17 @@ impl Shared {
 
     /// Notes the daemon's exit, unless one is noted.
     pub(crate) fn end<R: Wait>(&self, rt: &R, exit: Exit) {
-        let mut state = self.state.lock(rt);
-        if state.exit.is_none() {
-            state.exit = Some(exit);
-        }
-        drop(state);
-        self.changes.notify_all();
+        self.state.change(rt, &self.changes, |state| {
+            if state.exit.is_none() {
+                state.exit = Some(exit);
+            }
+        });
     }
 
     /// Notes that the main thread has ended.
     pub(crate) fn finish<R: Wait>(&self, rt: &R) {
-        self.state.lock(rt).is_finished = true;
-        self.changes.notify_all();
+        self.state
+            .change(rt, &self.changes, |state| state.is_finished = true);
     }
 
     /// Returns whether the daemon's exit is noted, or its main thread has ended.
