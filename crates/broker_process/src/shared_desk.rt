@@ -5,6 +5,7 @@ ghost use Rattle.broker_desk.specs.Desk.{told_by};
 ghost use Rattle.broker_core.specs.Broker.{BrokerState};
 ghost use Rattle.broker_process.specs.SharedDesk.{granted_by, wakes};
 ghost use Rattle.broker_process.specs.Playing.{Began, HasCome};
+ghost use Rattle.monitor.specs.Wait.{IfFound};
 ghost use Rattle.broker_script.specs.Beginning.{Begins};
 ghost use Rattle.broker_script.specs.Printed.{PrintsBegun};
 ghost use Rattle.broker_script.specs.declared.awaited.Came.TheVariants.{Lacks};
@@ -17,6 +18,7 @@ use broker_desk::{Desk, Peer, Response};
 use broker_script::{Awaited, Begun, BrokerLine, Came, begin, look, print_begun, print_held};
 use eden_base::NoMemory;
 use links::Frame;
+use monitor::{Condition, Look, Monitor};
 use mount_desk::Kernel;
 pub(crate) use mounted::Next;
 use script_lines::print_numbered;
@@ -26,7 +28,7 @@ use std::fs::File;
 use std::io::{self, BufWriter, Write};
 use std::os::unix::net::UnixStream;
 use std::rt::Clock;
-use std::sync::{Condvar, Mutex, Wait};
+use std::sync::Wait;
 use std::thread;
 use std::time::{Duration, Instant};
 
@@ -41,9 +43,6 @@ const MOMENT: u64 = 1000;
 
 /// How long a script that was refused memory waits until it looks again, in milliseconds.
 const PAUSE: u64 = 1;
-
-/// The longest sleep of a script that waits, in milliseconds.
-const LONGEST_SLEEP: u64 = 60_000;
 
 /// What the script waits for.
 #[derive(Clone, Copy, PartialEq, Eq)]
@@ -114,9 +113,9 @@ impl AcceptedConnection {
 /// The desk and the connections, under a lock. `asks` wakes a held Take, and `events` wakes the script.
 #[derive(Drop)]
 pub(crate) struct SharedDesk {
-    state: Mutex<State>,
-    asks: Condvar,
-    events: Condvar,
+    state: Monitor<State>,
+    asks: Condition,
+    events: Condition,
 }
 
 impl State {
@@ -198,6 +197,20 @@ impl State {
         begun
     }
 
+    /// Looks for the result of the wait for `awaited`. Where memory for it was refused, there is another look after a
+    /// pause.
+    fn look_for(&mut self, awaited: &Awaited) -> Look<Came>
+        ensures come { IfFound result (HasCome awaited.now) }
+    {
+        let Some(came) = look(&mut self.desk, awaited) else {
+            return Look::of(None);
+        };
+        if is_lacking(&came) {
+            return Look::Again(Duration::from_millis(PAUSE));
+        }
+        Look::Found(came)
+    }
+
     /// Returns how many daemons other than the holder of the seat have their first connection open.
     fn others(&self) -> usize {
         let running = self.desk.running();
@@ -274,7 +287,7 @@ impl SharedDesk {
     ) -> Result<SharedDesk, NoMemory> {
         let kernel = Kernel::new(alloc)?;
         Ok(SharedDesk {
-            state: Mutex::new(State {
+            state: Monitor::new(State {
                 desk,
                 connections: Connections::new(alloc),
                 asked: None,
@@ -285,8 +298,8 @@ impl SharedDesk {
                 log,
                 is_over: false,
             }),
-            asks: Condvar::new(),
-            events: Condvar::new(),
+            asks: Condition::new(),
+            events: Condition::new(),
         })
     }
 
@@ -358,27 +371,32 @@ impl SharedDesk {
         hold: Deadline,
     ) -> Response {
         let mut hold = hold;
-        for _ in rt.forever() {
-            let seen = self.asks.notifications();
-            let response = self.hear(rt, accepted, frame);
+        let (response, wakes) = self.state.wait_until(rt, &self.asks, |state| {
+            let (response, wakes) = state.answer(accepted, frame);
             if !finds_nothing(&response) {
-                return response;
+                return Look::Found((response, wakes));
             }
             match hold.left(rt) {
-                Left::For(left) => self.asks.sleep(rt, seen, left),
-                Left::Forever | Left::Nothing => return response,
+                Left::For(left) => Look::Again(left),
+                Left::Forever | Left::Nothing => Look::Found((response, wakes)),
             }
-        }
-        unreachable!()
+        });
+        self.wake_script(wakes);
+        response
     }
 
     /// Answers a frame at once, and wakes the script that waits for it.
     fn hear<R: Wait>(&self, rt: &R, accepted: &mut AcceptedConnection, frame: &Frame) -> Response {
         let (response, wakes) = self.state.lock(rt).answer(accepted, frame);
+        self.wake_script(wakes);
+        response
+    }
+
+    /// Wakes the script, if the last answer `wakes` it.
+    fn wake_script(&self, wakes: bool) {
         if wakes {
             self.events.notify_one();
         }
-        response
     }
 
     /// Returns the deadline up to which a Take waits while nothing can be taken.
@@ -411,22 +429,8 @@ impl SharedDesk {
     pub(crate) fn wait_for<R: Wait + Clock>(&self, rt: &R, awaited: &Awaited) -> Came
         ensures come { HasCome awaited.now result }
     {
-        for _ in rt.forever() {
-            let seen = self.events.notifications();
-            let looked = look(&mut self.state.lock(rt).desk, awaited);
-            match looked {
-                Some(came) => {
-                    if !is_lacking(&came) {
-                        return came;
-                    }
-                    thread::sleep(rt, Duration::from_millis(PAUSE));
-                }
-                None => self
-                    .events
-                    .sleep(rt, seen, Duration::from_millis(LONGEST_SLEEP)),
-            }
-        }
-        unreachable!()
+        self.state
+            .wait_until(rt, &self.events, |state| state.look_for(awaited))
     }
 
     /// Prints the immediate result of a line.
@@ -444,14 +448,9 @@ impl SharedDesk {
 
     /// Waits until no daemon but the holder of the seat has its first connection open.
     pub(crate) fn wait_for_others<R: Wait>(&self, rt: &R) {
-        for _ in rt.forever() {
-            let seen = self.events.notifications();
-            if self.state.lock(rt).others() == 0 {
-                return;
-            }
-            self.events
-                .sleep(rt, seen, Duration::from_millis(LONGEST_SLEEP));
-        }
+        self.state.wait_until(rt, &self.events, |state| {
+            Look::of((state.others() == 0).then_some(()))
+        });
     }
 
     /// Tells every daemon from now on that the mount is over.
@@ -466,23 +465,17 @@ impl SharedDesk {
 
     /// Waits until every daemon closed its first connection.
     pub(crate) fn wait_for_all<R: Wait>(&self, rt: &R) {
-        for _ in rt.forever() {
-            let seen = self.events.notifications();
-            if self.state.lock(rt).desk.running() == 0 {
-                return;
-            }
-            self.events
-                .sleep(rt, seen, Duration::from_millis(LONGEST_SLEEP));
-        }
+        self.state.wait_until(rt, &self.events, |state| {
+            Look::of((state.desk.running() == 0).then_some(()))
+        });
     }
 
     /// Ends all connections, and lets none in any more.
     pub(crate) fn end<R: Wait>(&self, rt: &R) {
-        let mut state = self.state.lock(rt);
-        state.is_over = true;
-        state.connections.end_all();
-        drop(state);
-        self.asks.notify_all();
+        self.state.change(rt, &self.asks, |state| {
+            state.is_over = true;
+            state.connections.end_all();
+        });
     }
 
     /// Returns whether no connection is let in any more.

@@ -6,11 +6,12 @@ ghost use Rattle.broker_process.specs.Serving.{IsHeard};
 ghost use Rattle.broker_process.specs.declared.shared_desk.mounted.Next.TheVariants.{Gone, Nothing, Over};
 ghost use Rattle.broker_process.specs.declared.service.MountEnd.TheVariants.{Dead, Unmounted};
 
-use super::{Agreed, Granted, LONGEST_SLEEP, PAUSE, SharedDesk, State, Waiting};
+use super::{Agreed, Granted, PAUSE, SharedDesk, State, Waiting};
 use crate::service::MountEnd;
 use broker_desk::Response;
 use fuse_wire::{Answer, Reply};
 use links::Frame;
+use monitor::Look;
 use mount_desk::{Delivered, Forgot, Progress, take_back};
 use mount_wire::Message;
 use std::rt::Clock;
@@ -35,12 +36,12 @@ pub(crate) enum Next {
 }
 
 impl Next {
-    /// Returns the longest time until the next look, in milliseconds, or none if this is to be told.
-    fn pause(&self) -> Option<u64> {
+    /// Returns the look that found this; one that found nothing where the kernel is to be told nothing yet.
+    fn look(self) -> Look<Next> {
         match self {
-            Next::Nothing => Some(LONGEST_SLEEP),
-            Next::NoMemory => Some(PAUSE),
-            Next::Reply(_) | Next::Unasked(_) | Next::Over | Next::Gone => None,
+            Next::Nothing => Look::of(None),
+            Next::NoMemory => Look::Again(Duration::from_millis(PAUSE)),
+            Next::Reply(_) | Next::Unasked(_) | Next::Over | Next::Gone => Look::Found(self),
         }
     }
 }
@@ -99,37 +100,27 @@ impl SharedDesk {
     /// Waits until a daemon has the seat, notes that a kernel's mount begins, and returns the seat's generation.
     pub(crate) fn begin_mount<R: Wait>(&self, rt: &R) -> u64 {
         self.state.lock(rt).waiting = Waiting::Seat;
-        for _ in rt.forever() {
-            let seen = self.events.notifications();
-            if let Some(generation) = self.state.lock(rt).begin_mount() {
-                return generation;
-            }
-            self.events
-                .sleep(rt, seen, Duration::from_millis(LONGEST_SLEEP));
-        }
-        unreachable!()
+        self.state
+            .wait_until(rt, &self.events, |state| Look::of(state.begin_mount()))
     }
 
     /// Notes that the kernel agreed to the mount for the seat at `generation`, so that its daemon hears of it.
     pub(crate) fn note_agreed<R: Wait>(&self, rt: &R, generation: u64) {
-        self.state.lock(rt).agreed = Agreed::To(generation);
-        self.asks.notify_all();
+        self.state.change(rt, &self.asks, |state| {
+            state.agreed = Agreed::To(generation);
+        });
     }
 
     /// Answers the Mount of a daemon that has the seat at `generation` once the kernel agreed. Where no mount is made, the
     /// connection is closed.
     pub(super) fn answer_mount<R: Wait>(&self, rt: &R, generation: u64) -> Response {
-        for _ in rt.forever() {
-            let seen = self.asks.notifications();
-            match self.state.lock(rt).granted(generation) {
-                Granted::Now => return Response::Tells(Frame::Mounted { generation }),
-                Granted::Never => return Response::Closes,
-                Granted::Later => {}
-            }
-            self.asks
-                .sleep(rt, seen, Duration::from_millis(LONGEST_SLEEP));
-        }
-        unreachable!()
+        self.state.wait_until(rt, &self.asks, |state| {
+            Look::of(match state.granted(generation) {
+                Granted::Now => Some(Response::Tells(Frame::Mounted { generation })),
+                Granted::Never => Some(Response::Closes),
+                Granted::Later => None,
+            })
+        })
     }
 
     /// Notes that the kernel's mount has ended, so that the next daemon may mount.
@@ -180,14 +171,7 @@ impl SharedDesk {
 
     /// Waits until the kernel is to be told something, and returns it.
     pub(crate) fn next<R: Wait + Clock>(&self, rt: &R) -> Next {
-        for _ in rt.forever() {
-            let seen = self.events.notifications();
-            let next = self.state.lock(rt).next();
-            match next.pause() {
-                Some(pause) => self.events.sleep(rt, seen, Duration::from_millis(pause)),
-                None => return next,
-            }
-        }
-        unreachable!()
+        self.state
+            .wait_until(rt, &self.events, |state| state.next().look())
     }
 }
