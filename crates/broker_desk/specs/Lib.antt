@@ -1,2 +1,5 @@
 pub mod Desk
+pub mod Forgets
 pub mod Inside
+pub mod Kernel
+pub mod Progress

@@ -1,7 +1,7 @@
 -- A kernel's messages, turn by turn and read by read.
 use Rattle.std.proofs.Common.{◌≡◌, ℕ, zero, suc, List, Option, Result, inl, inr, refl}
-use Rattle.mount_desk.specs.declared.hearing.Progress.{Progress}
-use Rattle.mount_desk.specs.declared.hearing.Progress.TheVariants.{Done, Answers, Leaves, NotMounted}
+use Rattle.broker_desk.specs.declared.progress.Progress.{Progress}
+use Rattle.broker_desk.specs.declared.progress.Progress.TheVariants.{Done, Answers, Leaves, NotMounted}
 use Rattle.mount_wire.specs.declared.message.Message.{Message}
 use Rattle.broker_process.specs.Device.{Takes}
 use Rattle.broker_process.specs.Serving.{EndsBy, GoesOn, IsEnd, IsHeard, IsHeardIn, IsHeardToTheEnd, ServesIn, ServesMount}

@@ -1,10 +1,10 @@
 -- What becomes of the messages that are read from a kernel's device, one after another. (This project's own.)
 use Rattle.std.specs.Prelude.{◌≡◌, ⊤, ◌⊎◌, ℕ, zero, suc, List, Option, Result, Ok, Err}
 use Rattle.broker_desk.specs.Desk.{DeskState}
-use Rattle.mount_desk.specs.Hearing.{HearsMessage}
-use Rattle.mount_desk.specs.declared.hearing.Progress.{Progress}
-use Rattle.mount_desk.specs.declared.hearing.Progress.TheVariants.{Done, Answers, Leaves, NotMounted}
-use Rattle.mount_desk.specs.declared.pair.Pair.{Pair}
+use Rattle.broker_desk.specs.Progress.{HearsMessage}
+use Rattle.broker_desk.specs.declared.progress.Progress.{Progress}
+use Rattle.broker_desk.specs.declared.progress.Progress.TheVariants.{Done, Answers, Leaves, NotMounted}
+use Rattle.broker_desk.specs.declared.pair.Pair.{Pair}
 use Rattle.mount_wire.specs.Message.{Reads}
 use Rattle.mount_wire.specs.declared.message.Message.{Message}
 use Rattle.broker_process.specs.Device.{Takes}

@@ -8,9 +8,10 @@ use crate::device::{BUFFER_LEN, Taken, take};
 use crate::fault::MountFault;
 use crate::shared_desk::{Next, SharedDesk};
 use crate::writing::{Texts, Written, write_reply};
+use broker_core::IssueFault;
+use broker_desk::Progress;
 use eden_base::Errno;
 use fuse_wire::{Answer, Reply};
-use mount_desk::{Forgot, Progress};
 use mount_wire::{Message, MountAttributes, read_message, tell_answer, tell_error};
 use std::alloc::Global;
 use std::fs::File;
@@ -180,8 +181,8 @@ fn deliver<R: Wait + Clock>(
 fn take_back<R: Wait + Clock>(rt: &R, shared: &SharedDesk, answer: &Answer) {
     for _ in rt.forever() {
         match shared.take_back(rt, answer) {
-            Forgot::Waits | Forgot::Bad | Forgot::NotMounted => return,
-            Forgot::Full | Forgot::NoMemory => pause(rt),
+            Err(IssueFault::Full | IssueFault::NoMemory) => pause(rt),
+            Ok(()) | Err(_) => return,
         }
     }
     unreachable!()

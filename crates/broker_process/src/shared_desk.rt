@@ -14,12 +14,11 @@ ghost use Rattle.script_lines.specs.BrokerLine.{IsSendableLine};
 mod mounted;
 
 use crate::connections::{Connections, Heard};
-use broker_desk::{Desk, Peer, Response};
+use broker_desk::{Desk, Kernel, Peer, Response};
 use broker_script::{Awaited, Begun, BrokerLine, Came, begin, look, print_begun, print_held};
 use eden_base::NoMemory;
 use links::Frame;
 use monitor::{Condition, Look, Monitor};
-use mount_desk::Kernel;
 pub(crate) use mounted::Next;
 use script_lines::print_numbered;
 use sockets::{Deadline, Left};

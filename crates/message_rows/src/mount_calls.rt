@@ -1,6 +1,5 @@
-//! Calls of `broker_desk` and `mount_desk`. The first one of a case makes the desk, and a kernel at it. C is one of four
-//! connections, 0 to 3, at which nobody is known at first; U is a unique, N a number, K a count; frames are those of
-//! `frame_calls`.
+//! Calls of `broker_desk`. The first one of a case makes the desk, and a kernel at it. C is one of four connections,
+//! 0 to 3, at which nobody is known at first; U is a unique, N a number, K a count; frames are those of `frame_calls`.
 //!
 //! - `desk on C FRAME`: the frame that answers, an ask by its unique and request; or `closes`
 //! - `desk post C G U ANSWER`: the same, for a Post at generation G of the answer to the ask of U
@@ -10,19 +9,19 @@
 //! - `desk running`: how many daemons run; `desk held N`: how often the kernel holds the number
 //! - `desk issue REQUEST`: the unique, or none for a forget, or the fault
 //! - `desk deliver`: unique and answer, or the fault
-//! - `mount ask U REQUEST`: what becomes of the kernel's ask, by a unique of its own
-//! - `mount deliver`: unique and answer; or `unasked` and the answer; or Nothing
-//! - `mount forget N K`, `mount take-back ANSWER`: what becomes of the forget
+//! - `mount ask U REQUEST`: ok, or the fault. The kernel asks by a unique of its own
+//! - `mount deliver`: unique and answer; or `unasked` and the answer; or the fault
+//! - `mount forget N K`, `mount take-back ANSWER`: ok, or the fault
 //! - `mount hear BYTES`: `done`, `answers BYTES`, `leaves ask U`, `leaves K` for K forgets, or NotMounted
-use crate::Called;
 use crate::broker_calls::{tell_delivered, tell_issued, tell_reply};
 use crate::frame_calls::{read_frame, tell_frame};
-use broker_desk::{Desk, Peer, Response};
+use crate::{Called, tell_fault};
+use broker_core::{DeliverFault, IssueFault};
+use broker_desk::{Delivered, Desk, Kernel, Peer, Progress, Response};
 use byte_codec::Bytes;
 use eden_base::Number;
 use frames::Frame;
 use fuse_wire::{Ask, Item, MAX_REPLY_LEN, Reply, write_reply};
-use mount_desk::{Delivered, Forgot, Heard, Kernel, Progress, forget, take_back};
 use mount_wire::{BatchReader, Message, read_message};
 use row_words::{
     Fault, Told, Words, chosen, read_answer, read_request, tell_answer, tell_request,
@@ -214,40 +213,33 @@ pub(crate) fn call_desk(
     words.end()
 }
 
-/// Writes what became of an ask.
-fn tell_heard(told: &mut Told, heard: Heard) -> Called {
-    told.word(match heard {
-        Heard::Waits => "Waits",
-        Heard::Full => "Full",
-        Heard::NoMemory => return Err(Fault::NoMemory),
-        Heard::NotHeld => "NotHeld",
-        Heard::NotMounted => "NotMounted",
-    });
-    Ok(())
-}
-
-/// Writes what became of a forget.
-fn tell_forgot(told: &mut Told, forgot: Forgot) -> Called {
-    told.word(match forgot {
-        Forgot::Waits => "Waits",
-        Forgot::Full => "Full",
-        Forgot::NoMemory => return Err(Fault::NoMemory),
-        Forgot::Bad => "Bad",
-        Forgot::NotMounted => "NotMounted",
-    });
+/// Writes the result of an ask or a forget.
+fn tell_accepted(told: &mut Told, accepted: Result<(), IssueFault>) -> Called {
+    match accepted {
+        Ok(()) => told.word("ok"),
+        Err(IssueFault::NoMemory) => return Err(Fault::NoMemory),
+        Err(fault) => tell_fault(told, fault),
+    }
     Ok(())
 }
 
 /// Writes what was delivered.
-fn tell_brought(told: &mut Told, delivered: Delivered) -> Called {
+fn tell_brought(told: &mut Told, delivered: Delivered) {
     match delivered {
         Delivered::Reply(reply) => tell_reply(told, &reply),
         Delivered::Unasked(answer) => {
             told.word("unasked");
             tell_answer(told, &answer);
         }
-        Delivered::Nothing => told.word("Nothing"),
-        Delivered::NoMemory => return Err(Fault::NoMemory),
+    }
+}
+
+/// Writes the result of a kernel's delivery.
+fn tell_delivery(told: &mut Told, delivered: Result<Delivered, DeliverFault>) -> Called {
+    match delivered {
+        Ok(delivered) => tell_brought(told, delivered),
+        Err(DeliverFault::NoMemory) => return Err(Fault::NoMemory),
+        Err(fault) => tell_fault(told, fault),
     }
     Ok(())
 }
@@ -303,9 +295,9 @@ fn ask(alloc: Global, mount: &mut Mount, words: &mut Words<'_>, told: &mut Told)
         return Err(Fault::BadRow);
     }
     let ask = Ask { unique, what };
-    let heard = mount.kernel.ask(&mut mount.desk, &ask);
+    let accepted = mount.kernel.ask(&mut mount.desk, &ask);
     drop(ask);
-    tell_heard(told, heard)
+    tell_accepted(told, accepted)
 }
 
 /// Makes a call of the kernel in `place`.
@@ -322,12 +314,12 @@ pub(crate) fn call_mount(
         MountCall::Forget => {
             let node = Number(words.number());
             let k = words.number();
-            tell_forgot(told, forget(&mut mount.desk, Item { node, k }))
+            tell_accepted(told, mount.desk.forget(Item { node, k }))
         }
         MountCall::TakeBack => {
             let answer = read_answer(words)?;
-            tell_forgot(told, take_back(&mut mount.desk, &answer))
+            tell_accepted(told, mount.desk.take_back(&answer))
         }
-        MountCall::Deliver => tell_brought(told, mount.kernel.deliver(&mut mount.desk)),
+        MountCall::Deliver => tell_delivery(told, mount.kernel.deliver(&mut mount.desk)),
     }
 }

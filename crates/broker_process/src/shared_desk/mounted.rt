@@ -1,6 +1,6 @@
 //! What a real kernel's mount asks of the shared desk.
 ghost use Rattle.std.specs.Prelude.{◌≡◌, ◌&&◌, is_none, if◌then◌else◌};
-ghost use Rattle.mount_desk.specs.Hearing.{LeavesForDaemons};
+ghost use Rattle.broker_desk.specs.Progress.{LeavesForDaemons};
 ghost use Rattle.mount_wire.specs.Message.{IsForDaemons};
 ghost use Rattle.broker_process.specs.Serving.{IsHeard};
 ghost use Rattle.broker_process.specs.declared.shared_desk.mounted.Next.TheVariants.{Gone, Nothing, Over};
@@ -8,11 +8,11 @@ ghost use Rattle.broker_process.specs.declared.service.MountEnd.TheVariants.{Dea
 
 use super::{Agreed, Granted, PAUSE, SharedDesk, State, Waiting};
 use crate::service::MountEnd;
-use broker_desk::Response;
+use broker_core::{DeliverFault, IssueFault};
+use broker_desk::{Delivered, Progress, Response};
 use fuse_wire::{Answer, Reply};
 use links::Frame;
 use monitor::Look;
-use mount_desk::{Delivered, Forgot, Progress, take_back};
 use mount_wire::Message;
 use std::rt::Clock;
 use std::sync::Wait;
@@ -46,6 +46,14 @@ impl Next {
     }
 }
 
+/// Returns what the kernel is told next where something was delivered.
+fn next_of(delivered: Delivered) -> Next {
+    match delivered {
+        Delivered::Reply(reply) => Next::Reply(reply),
+        Delivered::Unasked(answer) => Next::Unasked(answer),
+    }
+}
+
 impl State {
     /// Notes that a kernel's mount begins, and returns the generation of the daemon that has the seat. Returns none if
     /// none has it.
@@ -60,10 +68,9 @@ impl State {
     /// Returns what the kernel is told next.
     fn next(&mut self) -> Next {
         match self.kernel.deliver(&mut self.desk) {
-            Delivered::Reply(reply) => Next::Reply(reply),
-            Delivered::Unasked(answer) => Next::Unasked(answer),
-            Delivered::Nothing => self.next_of_none(),
-            Delivered::NoMemory => Next::NoMemory,
+            Ok(delivered) => next_of(delivered),
+            Err(DeliverFault::Empty) => self.next_of_none(),
+            Err(DeliverFault::NoMemory) => Next::NoMemory,
         }
     }
 
@@ -163,10 +170,10 @@ impl SharedDesk {
     }
 
     /// Forgets at once the number that `answer` gave out, since the kernel did not take the reply.
-    pub(crate) fn take_back<R: Wait>(&self, rt: &R, answer: &Answer) -> Forgot {
-        let forgot = take_back(&mut self.state.lock(rt).desk, answer);
+    pub(crate) fn take_back<R: Wait>(&self, rt: &R, answer: &Answer) -> Result<(), IssueFault> {
+        let forgotten = self.state.lock(rt).desk.take_back(answer);
         self.asks.notify_one();
-        forgot
+        forgotten
     }
 
     /// Waits until the kernel is to be told something, and returns it.

@@ -1,7 +1,7 @@
 use Rattle.std.proofs.Common.{subst, List, Option, ℕ, ◌≡◌}
 use Rattle.broker_process.specs.Writing.{Writes}
 use Rattle.broker_process.specs.declared.writing.Written.{Written}
-use Rattle.mount_desk.specs.declared.hearing.Progress.TheVariants.{Answers}
+use Rattle.broker_desk.specs.declared.progress.Progress.TheVariants.{Answers}
 use Rattle.broker_process.proofs.ServingSteps.{never_left}
 use Rattle.broker_process.proofs.service.handle.Goals as goal
 

@@ -1,4 +1,4 @@
-use Rattle.mount_desk.specs.declared.hearing.Progress.{Progress}
+use Rattle.broker_desk.specs.declared.progress.Progress.{Progress}
 use Rattle.broker_process.proofs.ServingSteps.{heard_before}
 use Rattle.broker_process.proofs.service.hear.Goals as goal
 

@@ -1,5 +1,5 @@
 -- The rest of the message is for daemons, and what comes of it comes of the whole.
-use Rattle.mount_desk.specs.declared.hearing.Progress.{Progress}
+use Rattle.broker_desk.specs.declared.progress.Progress.{Progress}
 use Rattle.mount_wire.specs.Message.{IsForDaemons}
 use Rattle.broker_process.specs.Serving.{IsHeardToTheEnd}
 use Rattle.broker_process.proofs.service.hear.Given as goal

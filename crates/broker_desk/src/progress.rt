@@ -1,10 +1,10 @@
 //! The messages of a real kernel.
 ghost use Rattle.mount_wire.specs.Message.{IsForDaemons};
 ghost use Rattle.mount_wire.specs.declared.message.Message.TheVariants.{Asked};
-ghost use Rattle.mount_desk.specs.Hearing.{HearsAsk, HearsItem, HearsItems, HearsMessage, LeavesForDaemons};
+ghost use Rattle.broker_desk.specs.Progress.{HearsAsk, HearsItem, HearsItems, HearsMessage, LeavesForDaemons};
 
-use crate::{Forgot, Heard, Kernel, forget};
-use broker_desk::Desk;
+use crate::{Desk, Kernel};
+use broker_core::IssueFault;
 use eden_base::Errno;
 use fuse_wire::{Ask, Item};
 use mount_wire::{BatchReader, Message, ReplyBytes, tell_error};
@@ -45,10 +45,11 @@ impl Kernel {
         ensures for_daemons { LeavesForDaemons result }
     {
         match self.ask(desk, &ask) {
-            Heard::Waits => Progress::Done,
-            Heard::NotHeld => Progress::Answers(tell_error(ask.unique, Errno::ESTALE)),
-            Heard::Full | Heard::NoMemory => Progress::Leaves(Message::Asked(ask)),
-            Heard::NotMounted => Progress::NotMounted,
+            Ok(()) => Progress::Done,
+            Err(IssueFault::NotHeld) => Progress::Answers(tell_error(ask.unique, Errno::ESTALE)),
+            Err(IssueFault::Full | IssueFault::NoMemory) => Progress::Leaves(Message::Asked(ask)),
+            Err(IssueFault::NotMounted) => Progress::NotMounted,
+            Err(IssueFault::BadForget) => unreachable!(),
         }
     }
 }
@@ -58,10 +59,11 @@ fn hear_item<'a>(desk: &mut Desk, item: Item) -> Progress<'a>
     ensures hears { HearsItem desk.old item result desk.new }
     ensures for_daemons { LeavesForDaemons result }
 {
-    match forget(desk, item) {
-        Forgot::Waits | Forgot::Bad => Progress::Done,
-        Forgot::Full | Forgot::NoMemory => Progress::Leaves(Message::Forgot(item)),
-        Forgot::NotMounted => Progress::NotMounted,
+    match desk.forget(item) {
+        Ok(()) | Err(IssueFault::BadForget) => Progress::Done,
+        Err(IssueFault::Full | IssueFault::NoMemory) => Progress::Leaves(Message::Forgot(item)),
+        Err(IssueFault::NotMounted) => Progress::NotMounted,
+        Err(IssueFault::NotHeld) => unreachable!(),
     }
 }
 
@@ -72,10 +74,11 @@ fn hear_items<'a>(desk: &mut Desk, items: BatchReader<'a>) -> Progress<'a>
 {
     let mut items = items;
     while let Some(item) = items.first() {
-        match forget(desk, item) {
-            Forgot::Waits | Forgot::Bad => items.skip_first(),
-            Forgot::Full | Forgot::NoMemory => return Progress::Leaves(Message::ForgotMany(items)),
-            Forgot::NotMounted => return Progress::NotMounted,
+        match hear_item(desk, item) {
+            Progress::Done => items.skip_first(),
+            Progress::Leaves(_item) => return Progress::Leaves(Message::ForgotMany(items)),
+            Progress::NotMounted => return Progress::NotMounted,
+            Progress::Answers(_) => unreachable!(),
         }
     }
     Progress::Done

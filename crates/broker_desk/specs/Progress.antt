@@ -4,42 +4,43 @@ use Rattle.std.specs.Prelude.{◌≡◌, ⊤, ◌⊎◌, List, [], ◌∷◌}
 use Rattle.eden_base.specs.declared.errno.Errno.TheVariants.{ESTALE}
 use Rattle.fuse_wire.specs.declared.item.Item.{Item}
 use Rattle.fuse_wire.specs.declared.request.Ask.{Ask}
+use Rattle.fuse_wire.specs.declared.request.Request.TheVariants.{Forget}
 use Rattle.broker_desk.specs.Desk.{DeskState}
 use Rattle.mount_wire.specs.Message.{IsForDaemons}
 use Rattle.mount_wire.specs.Told.{error_text}
 use Rattle.mount_wire.specs.declared.message.Message.{Message}
 use Rattle.mount_wire.specs.declared.message.Message.TheVariants.{Answered, Asked, Forgot, ForgotMany, Ignored}
-use Rattle.mount_desk.specs.Forgetting.{IsRefusal as IsForgetRefusal, IsTaken as IsForgotten}
-use Rattle.mount_desk.specs.Kernel.{IsKept, IsRefused, IsTaken}
-use Rattle.mount_desk.specs.declared.forgetting.Forgot.TheVariants as forgot
-use Rattle.mount_desk.specs.declared.hearing.Progress.{Progress}
-use Rattle.mount_desk.specs.declared.hearing.Progress.TheVariants.{Done, Answers, Leaves, NotMounted}
-use Rattle.mount_desk.specs.declared.kernel.Heard.TheVariants as heard
-use Rattle.mount_desk.specs.declared.pair.Pair.{Pair}
+use Rattle.broker_core.specs.Broker.{IsIssueRefusal}
+use Rattle.broker_core.specs.declared.broker.IssueFault.TheVariants as issue
+use Rattle.broker_desk.specs.Forgets.{IsForgotten}
+use Rattle.broker_desk.specs.Kernel.{IsAsked, IsAskRefused, IsKept}
+use Rattle.broker_desk.specs.declared.progress.Progress.{Progress}
+use Rattle.broker_desk.specs.declared.progress.Progress.TheVariants.{Done, Answers, Leaves, NotMounted}
+use Rattle.broker_desk.specs.declared.pair.Pair.{Pair}
 
 -- ---- asks
 
 -- an ask is issued; or it goes to a number that the kernel doesn't hold, and is answered ESTALE here; or it is left
 -- whole; or the mount is over
 abbrev pub HearsAsk : DeskState → List Pair → Ask → Progress → DeskState → List Pair → Type 0
-HearsAsk old pairs ask Done new after = IsTaken old pairs ask new after
+HearsAsk old pairs ask Done new after = IsAsked old pairs ask new after
 HearsAsk old pairs ask (Answers text) new after =
-    (text ≡ error_text ask.unique ESTALE) × IsRefused old pairs ask heard.NotHeld new after
+    (text ≡ error_text ask.unique ESTALE) × IsAskRefused old pairs ask issue.NotHeld new after
 HearsAsk old pairs ask (Leaves message) new after =
-    (message ≡ Asked ask) × (IsRefused old pairs ask heard.Full new after ⊎ IsRefused old pairs ask heard.NoMemory new after)
-HearsAsk old pairs ask NotMounted new after = IsRefused old pairs ask heard.NotMounted new after
+    (message ≡ Asked ask) × (IsAskRefused old pairs ask issue.Full new after ⊎ IsAskRefused old pairs ask issue.NoMemory new after)
+HearsAsk old pairs ask NotMounted new after = IsAskRefused old pairs ask issue.NotMounted new after
 
 -- ---- forgets
 
 -- a forget is issued, or is bad and changes nothing
 abbrev pub IsHeard : DeskState → Item → DeskState → Type 0
-IsHeard old item new = IsForgotten old item new ⊎ (IsForgetRefusal old item forgot.Bad × (new ≡ old))
+IsHeard old item new = IsForgotten old item new ⊎ (IsIssueRefusal old.broker (Forget item) issue.BadForget × (new ≡ old))
 
 -- a forget can't be issued now: as many wait as may, or memory was refused; or the mount is over
 abbrev pub IsPutOff : DeskState → Item → Message → Progress → Type 0
 IsPutOff desk item left (Leaves message) =
-    (message ≡ left) × (IsForgetRefusal desk item forgot.Full ⊎ IsForgetRefusal desk item forgot.NoMemory)
-IsPutOff desk item left NotMounted = IsForgetRefusal desk item forgot.NotMounted
+    (message ≡ left) × (IsIssueRefusal desk.broker (Forget item) issue.Full ⊎ IsIssueRefusal desk.broker (Forget item) issue.NoMemory)
+IsPutOff desk item left NotMounted = IsIssueRefusal desk.broker (Forget item) issue.NotMounted
 IsPutOff desk item left progress = ⊥
 
 -- one forget

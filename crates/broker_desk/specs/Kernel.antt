@@ -1,20 +1,19 @@
 -- The asks of a real kernel at the broker's desk. The kernel numbers its requests itself (linux/fuse.h: unique), and the
 -- desk numbers asks anew, so each ask under way has a pair of uniques. (The pairs are this project's own.)
-use Rattle.std.specs.Prelude.{◌≡◌, ℕ, ◌≤◌, ◌⊎◌, Bool, false, ◌==◌, List, [], ◌∷◌, ◌++◌, length, remove, slice_get, Some, None, is_none}
+use Rattle.std.specs.Prelude.{◌≡◌, ℕ, ◌≤◌, ◌⊎◌, Bool, false, ◌==◌, List, [], ◌∷◌, ◌++◌, length, remove, slice_get, Result, Ok, Err, Some, None, is_none}
 use Rattle.std.specs.List.{position_from}
 use Rattle.fuse_wire.specs.declared.reply.Answer.{Answer}
 use Rattle.fuse_wire.specs.declared.reply.Reply.{Reply}
 use Rattle.fuse_wire.specs.declared.request.Ask.{Ask}
 use Rattle.broker_core.specs.Broker.{delivered, issue_fault, issued, IsDeliverRefusal, IsIssueRefusal}
 use Rattle.broker_core.specs.Traffic.{front}
-use Rattle.broker_core.specs.declared.broker.IssueFault.TheVariants as issue
-use Rattle.broker_core.specs.declared.fault.DeliverFault.TheVariants as fault
+use Rattle.broker_core.specs.declared.broker.IssueFault.{IssueFault}
+use Rattle.broker_core.specs.declared.broker.IssueFault.TheVariants.{Full}
+use Rattle.broker_core.specs.declared.fault.DeliverFault.{DeliverFault}
 use Rattle.broker_desk.specs.Desk.{DeskState}
-use Rattle.mount_desk.specs.declared.kernel.Delivered.{Delivered}
-use Rattle.mount_desk.specs.declared.kernel.Delivered.TheVariants as delivers
-use Rattle.mount_desk.specs.declared.kernel.Heard.{Heard}
-use Rattle.mount_desk.specs.declared.kernel.Heard.TheVariants as heard
-use Rattle.mount_desk.specs.declared.pair.Pair.{Pair}
+use Rattle.broker_desk.specs.declared.kernel.Delivered.{Delivered}
+use Rattle.broker_desk.specs.declared.kernel.Delivered.TheVariants.{Reply as AReply, Unasked}
+use Rattle.broker_desk.specs.declared.pair.Pair.{Pair}
 
 -- ---- asks
 
@@ -23,31 +22,28 @@ abbrev pub pair_of : DeskState → ℕ → Pair
 pair_of desk unique = record { kernel = unique; desk = desk.broker.next_unique }
 
 -- the ask is issued at the desk, and noted behind those that are under way
-pub record IsTaken (old : DeskState) (pairs : List Pair) (ask : Ask) (new : DeskState) (after : List Pair) : Type 0 where
+pub record IsAsked (old : DeskState) (pairs : List Pair) (ask : Ask) (new : DeskState) (after : List Pair) : Type 0 where
   pub accepted : issue_fault old.broker ask.what ≡ None
   pub desk : new ≡ record old { broker = issued old.broker ask.what }
   pub noted : after ≡ pairs ++ pair_of old ask.unique ∷ []
 
 -- why an ask is refused: the desk refuses it, or a daemon has the seat and all pairs are in use. Without a daemon that is
 -- told first: no pair ever comes free then.
-abbrev pub IsRefusal : DeskState → List Pair → Ask → Heard → Type 0
-IsRefusal desk pairs ask heard.Waits = ⊥
-IsRefusal desk pairs ask heard.Full =
-    ((is_none desk.broker.seat ≡ false) × (1024 ≤ length pairs)) ⊎ IsIssueRefusal desk.broker ask.what issue.Full
-IsRefusal desk pairs ask heard.NoMemory = IsIssueRefusal desk.broker ask.what issue.NoMemory
-IsRefusal desk pairs ask heard.NotHeld = IsIssueRefusal desk.broker ask.what issue.NotHeld
-IsRefusal desk pairs ask heard.NotMounted = IsIssueRefusal desk.broker ask.what issue.NotMounted
+abbrev pub IsAskRefusal : DeskState → List Pair → Ask → IssueFault → Type 0
+IsAskRefusal desk pairs ask Full =
+    ((is_none desk.broker.seat ≡ false) × (1024 ≤ length pairs)) ⊎ IsIssueRefusal desk.broker ask.what Full
+IsAskRefusal desk pairs ask fault = IsIssueRefusal desk.broker ask.what fault
 
--- the ask is refused, and nothing changes
-pub record IsRefused (old : DeskState) (pairs : List Pair) (ask : Ask) (result : Heard) (new : DeskState) (after : List Pair) : Type 0 where
-  pub cause : IsRefusal old pairs ask result
+-- the ask is refused for this cause, and nothing changes
+pub record IsAskRefused (old : DeskState) (pairs : List Pair) (ask : Ask) (fault : IssueFault) (new : DeskState) (after : List Pair) : Type 0 where
+  pub cause : IsAskRefusal old pairs ask fault
   pub unchanged : new ≡ old
   pub unnoted : after ≡ pairs
 
 -- what becomes of an ask of the kernel
-abbrev pub Hears : DeskState → List Pair → Ask → Heard → DeskState → List Pair → Type 0
-Hears old pairs ask heard.Waits new after = IsTaken old pairs ask new after
-Hears old pairs ask result new after = IsRefused old pairs ask result new after
+abbrev pub Asks : DeskState → List Pair → Ask → Result (Unit {0}) IssueFault → DeskState → List Pair → Type 0
+Asks old pairs ask (Ok done) new after = IsAsked old pairs ask new after
+Asks old pairs ask (Err fault) new after = IsAskRefused old pairs ask fault new after
 
 -- ---- replies
 
@@ -82,8 +78,7 @@ pub record IsKept (old : DeskState) (pairs : List Pair) (new : DeskState) (after
   pub unchanged : after ≡ pairs
 
 -- what there is to deliver
-abbrev pub Delivers : DeskState → List Pair → Delivered → DeskState → List Pair → Type 0
-Delivers old pairs (delivers.Reply told) new after = IsReply old pairs told new after
-Delivers old pairs (delivers.Unasked answer) new after = IsUnasked old pairs answer new after
-Delivers old pairs delivers.Nothing new after = IsDeliverRefusal old.broker fault.Empty × IsKept old pairs new after
-Delivers old pairs delivers.NoMemory new after = IsDeliverRefusal old.broker fault.NoMemory × IsKept old pairs new after
+abbrev pub Delivers : DeskState → List Pair → Result Delivered DeliverFault → DeskState → List Pair → Type 0
+Delivers old pairs (Ok (AReply told)) new after = IsReply old pairs told new after
+Delivers old pairs (Ok (Unasked answer)) new after = IsUnasked old pairs answer new after
+Delivers old pairs (Err fault) new after = IsDeliverRefusal old.broker fault × IsKept old pairs new after

@@ -1,8 +1,8 @@
 use Rattle.std.proofs.Common.{length}
 use Rattle.broker_desk.specs.Desk.{DeskState}
-use Rattle.mount_desk.specs.Hearing.{HearsItems}
-use Rattle.mount_desk.specs.declared.hearing.Progress.{Progress}
-use Rattle.mount_desk.proofs.hearing.hear_items.Given as goal
+use Rattle.broker_desk.specs.Progress.{HearsItems}
+use Rattle.broker_desk.specs.declared.progress.Progress.{Progress}
+use Rattle.broker_desk.proofs.progress.hear_items.Given as goal
 
 abbrev pub invariant-loop-item : goal.invariant-loop-item
 invariant-loop-item l =

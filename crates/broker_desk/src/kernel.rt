@@ -2,11 +2,10 @@
 ghost use Rattle.std.specs.Prelude.{◌≡◌, ◌<◌, [], length, true, IfOk, IfSome};
 ghost use Rattle.std.specs.List.{position_from};
 ghost use Rattle.fuse_wire.specs.Request.{is_ask, IsSendable};
-ghost use Rattle.mount_desk.specs.Kernel.{has_desk, Delivers, Hears};
+ghost use Rattle.broker_desk.specs.Kernel.{has_desk, Asks, Delivers};
 
-use crate::Pair;
+use crate::{Desk, Pair};
 use broker_core::{DeliverFault, IssueFault};
-use broker_desk::Desk;
 use eden_base::NoMemory;
 use fuse_wire::{Answer, Ask, Reply};
 use std::alloc::Global;
@@ -28,28 +27,13 @@ impl Drop for Kernel {
 
 impl Model for Kernel {
     ghost use Rattle.std.specs.Prelude.{◌≤◌, List, vec_capacity};
-    ghost use Rattle.mount_desk.specs.declared.pair.Pair.{Pair};
+    ghost use Rattle.broker_desk.specs.declared.pair.Pair.{Pair};
 
     ghost Value = { List Pair };
 
     ghost view = { λ kernel. kernel.pairs.items };
 
     ghost invariant = { λ kernel. 1024 ≤ vec_capacity kernel.pairs };
-}
-
-/// What becomes of an ask of the kernel.
-#[derive(Clone, Copy, PartialEq, Eq)]
-pub enum Heard {
-    /// It waits for a daemon.
-    Waits,
-    /// As many asks are under way as may be, and the ask is to be made again.
-    Full,
-    /// Memory was refused, and the ask is to be made again.
-    NoMemory,
-    /// It goes to a number that the kernel doesn't hold, and the kernel is to be answered ESTALE.
-    NotHeld,
-    /// No daemon has the seat: the mount is over.
-    NotMounted,
 }
 
 /// What there is to deliver to the kernel.
@@ -59,10 +43,6 @@ pub enum Delivered {
     Reply(Reply),
     /// An answer to an ask that the kernel didn't make.
     Unasked(Answer),
-    /// No reply was posted.
-    Nothing,
-    /// Memory was refused, and the call is to be made again.
-    NoMemory,
 }
 
 impl Kernel {
@@ -81,50 +61,41 @@ impl Kernel {
         self.pairs.clear();
     }
 
-    /// Issues an ask of the kernel at the desk, and notes the unique that the desk gave it.
-    pub fn ask(&mut self, desk: &mut Desk, ask: &Ask) -> Heard
+    /// Issues an `ask` of the kernel at the `desk`, and notes the unique that the desk gave it. One that is refused as full
+    /// or out of memory may be made again.
+    pub fn ask(&mut self, desk: &mut Desk, ask: &Ask) -> Result<(), IssueFault>
         requires asks { is_ask ask.now.what ≡ true }
         requires sendable { IsSendable ask.now.what }
-        ensures hears { Hears desk.old self.old ask.now result desk.new self.new }
+        ensures asks { Asks desk.old self.old ask.now result desk.new self.new }
     {
         if desk.broker().seat().is_none() {
-            return Heard::NotMounted;
+            return Err(IssueFault::NotMounted);
         }
         if self.pairs.len() >= MAX_ASKS {
-            return Heard::Full;
+            return Err(IssueFault::Full);
         }
-        match desk.issue(&ask.what) {
-            Ok(Some(unique)) => {
-                self.pairs.push_reserved(Pair {
-                    kernel: ask.unique,
-                    desk: unique,
-                });
-                Heard::Waits
-            }
-            Ok(None) => unreachable!(),
-            Err(IssueFault::Full) => Heard::Full,
-            Err(IssueFault::NoMemory) => Heard::NoMemory,
-            Err(IssueFault::NotHeld) => Heard::NotHeld,
-            Err(IssueFault::NotMounted | IssueFault::BadForget) => unreachable!(),
-        }
+        let Some(unique) = desk.issue(&ask.what)? else {
+            unreachable!()
+        };
+        self.pairs.push_reserved(Pair {
+            kernel: ask.unique,
+            desk: unique,
+        });
+        Ok(())
     }
 
-    /// Takes the first posted reply from the desk, and gives it the unique of the kernel's ask.
-    pub fn deliver(&mut self, desk: &mut Desk) -> Delivered
+    /// Takes the first posted reply from the `desk`, and gives it the unique of the kernel's ask.
+    pub fn deliver(&mut self, desk: &mut Desk) -> Result<Delivered, DeliverFault>
         ensures delivers { Delivers desk.old self.old result desk.new self.new }
     {
-        let reply = match desk.deliver() {
-            Ok(reply) => reply,
-            Err(DeliverFault::Empty) => return Delivered::Nothing,
-            Err(DeliverFault::NoMemory) => return Delivered::NoMemory,
-        };
-        match self.index_of(reply.unique) {
+        let reply = desk.deliver()?;
+        Ok(match self.index_of(reply.unique) {
             Some(index) => Delivered::Reply(Reply {
                 unique: self.pairs.remove(index).kernel,
                 answer: reply.answer,
             }),
             None => Delivered::Unasked(reply.answer),
-        }
+        })
     }
 
     /// Returns the index of the ask to which the desk gave `unique`. Most replies come in the order of the asks, so it

@@ -1,3 +1,0 @@
-pub mod Forgetting
-pub mod Hearing
-pub mod Kernel
