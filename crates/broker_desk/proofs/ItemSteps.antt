@@ -2,8 +2,8 @@
 use Rattle.std.proofs.Common.{◌≡◌, List, [], ◌∷◌, drop, slice_get, Some, None, inl, inr, refl, subst}
 use Rattle.fuse_wire.specs.declared.item.Item.{Item}
 use Rattle.broker_desk.specs.Desk.{DeskState}
-use Rattle.mount_wire.specs.declared.message.Message.{Message}
-use Rattle.mount_wire.specs.declared.message.Message.TheVariants.{ForgotMany}
+use Rattle.mount_wire.specs.declared.message.KernelMessage.{KernelMessage}
+use Rattle.mount_wire.specs.declared.message.KernelMessage.TheVariants.{ForgotMany}
 use Rattle.broker_desk.specs.Progress.{HearsItem, HearsItems, IsHeard, IsPutOff}
 use Rattle.broker_desk.specs.declared.progress.Progress.{Progress}
 use Rattle.broker_desk.specs.declared.progress.Progress.TheVariants.{Done, Leaves, NotMounted}
@@ -31,9 +31,9 @@ pub heard_so : (old new : DeskState) (item : Item) → HearsItem old item Done n
 heard_so old new item hears = elim hears [ inl heard ↦ heard.1 | inr off ↦ absurd off.0 ]
 
 -- an item that is left was put off, and all that begins with it is left too
-pub put_off_so : (old new : DeskState) (item : Item) (message left : Message) → HearsItem old item (Leaves message) new → IsPutOff old item left (Leaves left) × (new ≡ old)
+pub put_off_so : (old new : DeskState) (item : Item) (message left : KernelMessage) → HearsItem old item (Leaves message) new → IsPutOff old item left (Leaves left) × (new ≡ old)
 put_off_so old new item message left hears = elim hears [ inl heard ↦ absurd cc | inr off ↦ ((refl, off.0.1), off.1) ]
 
 -- an item of a mount that is over was put off
-pub over_so : (old new : DeskState) (item : Item) (left : Message) → HearsItem old item NotMounted new → IsPutOff old item left NotMounted × (new ≡ old)
+pub over_so : (old new : DeskState) (item : Item) (left : KernelMessage) → HearsItem old item NotMounted new → IsPutOff old item left NotMounted × (new ≡ old)
 over_so old new item left hears = elim hears [ inl heard ↦ absurd cc | inr off ↦ off ]

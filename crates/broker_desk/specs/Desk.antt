@@ -24,7 +24,7 @@ use Rattle.frames.specs.declared.frame.Frame.{Frame}
 use Rattle.frames.specs.declared.frame.Frame.TheVariants.{Take, Ask, Empty, Post, Posted, Ended, Stale, NotAsked, Claim, Claimed, Unanswered, LastGeneration, Mount, Mounted, Seated, Attach, Attached, Takeover}
 use Rattle.takeover_core.specs.declared.message.Message.TheVariants.{Busy}
 use Rattle.broker_desk.specs.declared.peer.Peer.{Peer}
-use Rattle.broker_desk.specs.declared.peer.Peer.TheVariants.{Stranger, Daemon, Worker}
+use Rattle.broker_desk.specs.declared.peer.Peer.TheVariants.{Unattached, Daemon, Worker}
 use Rattle.broker_desk.specs.declared.peer.Response.{Response}
 use Rattle.broker_desk.specs.declared.peer.Response.TheVariants.{Tells, Closes}
 
@@ -180,21 +180,21 @@ enrolls desk =
       desk = record desk { daemons = desk.daemons ++ next_daemon desk ∷ []; last = desk.last + 1 };
     }
 
--- the result of a stranger's Attach; 0 is a new daemon's, any other number that of a daemon which got it before
+-- the result of an unattached peer's Attach; 0 is a new daemon's, any other number that of a daemon which got it before
 abbrev pub attaches : DeskState → DaemonId → Turn
 attaches desk daemon =
     if daemon.0 == 0 then enrolls desk
     else if is_over_for desk daemon then tells desk Ended
     else tells desk (Attached daemon)
 
--- the result of a stranger's frame; any other than an Attach closes the connection
+-- the result of an unattached peer's frame; any other than an Attach closes the connection
 abbrev pub meets : DeskState → Frame → Turn
 meets desk (Attach daemon) = attaches desk daemon
 meets desk frame = closes desk
 
 -- the result of a frame of a peer
 abbrev pub turn : DeskState → Peer → Frame → Turn
-turn desk Stranger frame = meets desk frame
+turn desk Unattached frame = meets desk frame
 turn desk (Daemon daemon) frame = hears desk daemon frame
 turn desk (Worker daemon) frame = hears desk daemon frame
 
@@ -202,20 +202,21 @@ turn desk (Worker daemon) frame = hears desk daemon frame
 
 -- the daemon at the other end, if it attached
 abbrev pub daemon_at : Peer → Option DaemonId
-daemon_at Stranger = None
+daemon_at Unattached = None
 daemon_at (Daemon daemon) = Some daemon
 daemon_at (Worker daemon) = Some daemon
 
--- who a stranger is after an Attach: a new daemon, a worker of a daemon that got its number before, or still a stranger
+-- who an unattached peer is after an Attach: a new daemon, a worker of a daemon that got its number before, or still
+-- unattached
 abbrev pub attached_as : DeskState → DaemonId → Peer
 attached_as desk daemon =
-    if daemon.0 == 0 then (if is_full desk then Stranger else Daemon (next_daemon desk))
-    else if is_over_for desk daemon then Stranger
+    if daemon.0 == 0 then (if is_full desk then Unattached else Daemon (next_daemon desk))
+    else if is_over_for desk daemon then Unattached
     else Worker daemon
 
 -- who a peer is after a frame
 abbrev pub peer_after : DeskState → Peer → Frame → Peer
-peer_after desk Stranger (Attach daemon) = attached_as desk daemon
+peer_after desk Unattached (Attach daemon) = attached_as desk daemon
 peer_after desk peer frame = peer
 
 -- ---- how a frame is answered
@@ -261,7 +262,7 @@ without desk daemon =
 
 -- the desk after a connection ended; if it was the first one of a daemon, that daemon is gone
 abbrev pub left_by : DeskState → Peer → DeskState
-left_by desk Stranger = desk
+left_by desk Unattached = desk
 left_by desk (Daemon daemon) = without desk daemon
 left_by desk (Worker daemon) = desk
 

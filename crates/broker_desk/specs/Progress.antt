@@ -8,8 +8,8 @@ use Rattle.fuse_wire.specs.declared.request.Request.TheVariants.{Forget}
 use Rattle.broker_desk.specs.Desk.{DeskState}
 use Rattle.mount_wire.specs.Message.{IsForDaemons}
 use Rattle.mount_wire.specs.Told.{error_text}
-use Rattle.mount_wire.specs.declared.message.Message.{Message}
-use Rattle.mount_wire.specs.declared.message.Message.TheVariants.{Answered, Asked, Forgot, ForgotMany, Ignored}
+use Rattle.mount_wire.specs.declared.message.KernelMessage.{KernelMessage}
+use Rattle.mount_wire.specs.declared.message.KernelMessage.TheVariants.{Answered, Asked, Forgot, ForgotMany, Ignored}
 use Rattle.broker_core.specs.Broker.{IsIssueRefusal}
 use Rattle.broker_core.specs.declared.broker.IssueFault.TheVariants as issue
 use Rattle.broker_desk.specs.Forgets.{IsForgotten}
@@ -37,7 +37,7 @@ abbrev pub IsHeard : DeskState → Item → DeskState → Type 0
 IsHeard old item new = IsForgotten old item new ⊎ (IsIssueRefusal old.broker (Forget item) issue.BadForget × (new ≡ old))
 
 -- a forget can't be issued now: as many wait as may, or memory was refused; or the mount is over
-abbrev pub IsPutOff : DeskState → Item → Message → Progress → Type 0
+abbrev pub IsPutOff : DeskState → Item → KernelMessage → Progress → Type 0
 IsPutOff desk item left (Leaves message) =
     (message ≡ left) × (IsIssueRefusal desk.broker (Forget item) issue.Full ⊎ IsIssueRefusal desk.broker (Forget item) issue.NoMemory)
 IsPutOff desk item left NotMounted = IsIssueRefusal desk.broker (Forget item) issue.NotMounted
@@ -59,7 +59,7 @@ HearsItems (item ∷ items) old progress new =
 -- ---- whole messages
 
 -- a message; one that no daemon hears of changes nothing, and its answer is what it came with
-abbrev pub HearsMessage : DeskState → List Pair → Message → Progress → DeskState → List Pair → Type 0
+abbrev pub HearsMessage : DeskState → List Pair → KernelMessage → Progress → DeskState → List Pair → Type 0
 HearsMessage old pairs (Answered text) progress new after = (progress ≡ Answers text) × IsKept old pairs new after
 HearsMessage old pairs (Asked ask) progress new after = HearsAsk old pairs ask progress new after
 HearsMessage old pairs (Forgot item) progress new after = HearsItem old item progress new × (after ≡ pairs)

@@ -7,7 +7,7 @@ ghost use Rattle.fuse_wire.specs.Request.{IsSendable};
 ghost use Rattle.broker_core.specs.Broker.{claim_fault, delivered, issued, issue_fault, mount_fault, take_fault, unique_of, IsDeliverRefusal, IsIssueRefusal};
 ghost use Rattle.broker_core.specs.Traffic.{front};
 ghost use Rattle.broker_desk.specs.Desk.{new_desk, mount_desk, desk_of, closed, left_by, is_present, is_over_for, is_full, next_daemon, place_of, struck, peer_after, enrolls, meets, hears, takes, posts, claims, mounts, is_sent_by_daemons, Answers, Makes, TakesLater};
-ghost use Rattle.broker_desk.specs.declared.peer.Peer.TheVariants.{Stranger, Daemon as ADaemon};
+ghost use Rattle.broker_desk.specs.declared.peer.Peer.TheVariants.{Unattached, Daemon as ADaemon};
 
 use crate::peer::{Peer, Response};
 use broker_core::{Broker, DeliverFault, IssueFault, MountFault, PostFault, TakeFault};
@@ -145,7 +145,7 @@ impl Desk {
         ensures peer { peer.new ≡ peer_after self.old peer.old frame.now }
     {
         match *peer {
-            Peer::Stranger => self.meet(peer, frame),
+            Peer::Unattached => self.meet(peer, frame),
             Peer::Daemon(daemon) | Peer::Worker(daemon) => self.hear(daemon, frame),
         }
     }
@@ -171,11 +171,11 @@ impl Desk {
         self.is_closed = true;
     }
 
-    /// Answers a frame of a stranger. Any other frame than an Attach closes the connection.
+    /// Answers a frame of an unattached peer. Any other frame than an Attach closes the connection.
     fn meet(&mut self, peer: &mut Peer, frame: &Frame) -> Response
-        requires stranger { peer.old ≡ Stranger }
+        requires unattached { peer.old ≡ Unattached }
         ensures meets { Makes (meets self.old frame.now) result self.new }
-        ensures peer { peer.new ≡ peer_after self.old Stranger frame.now }
+        ensures peer { peer.new ≡ peer_after self.old Unattached frame.now }
     {
         let Frame::Attach(daemon) = frame else {
             return Response::Closes;
@@ -193,9 +193,9 @@ impl Desk {
     /// Gives a new daemon its number. Answers Ended if the desk is closed or no number is left, and Busy if as many daemons
     /// run as may.
     fn enroll(&mut self, peer: &mut Peer) -> Response
-        requires stranger { peer.old ≡ Stranger }
+        requires unattached { peer.old ≡ Unattached }
         ensures enrolls { Makes (enrolls self.old) result self.new }
-        ensures peer { peer.new ≡ (if is_full self.old then Stranger else ADaemon (next_daemon self.old)) }
+        ensures peer { peer.new ≡ (if is_full self.old then Unattached else ADaemon (next_daemon self.old)) }
     {
         if self.is_closed || self.last >= self.most {
             return Response::Tells(Frame::Ended);

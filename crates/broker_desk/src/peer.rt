@@ -6,7 +6,7 @@ use frames::Frame;
 #[derive(Clone, Copy, PartialEq, Eq)]
 pub enum Peer {
     /// Nobody yet: no Attach of this peer was granted.
-    Stranger,
+    Unattached,
     /// A daemon, at its first connection. When that connection ends, the daemon is gone.
     Daemon(DaemonId),
     /// A daemon, at the connection of one of its workers.

@@ -1,13 +1,13 @@
 //! The messages of a real kernel.
 ghost use Rattle.mount_wire.specs.Message.{IsForDaemons};
-ghost use Rattle.mount_wire.specs.declared.message.Message.TheVariants.{Asked};
+ghost use Rattle.mount_wire.specs.declared.message.KernelMessage.TheVariants.{Asked};
 ghost use Rattle.broker_desk.specs.Progress.{HearsAsk, HearsItem, HearsItems, HearsMessage, LeavesForDaemons};
 
 use crate::{Desk, Kernel};
 use broker_core::IssueFault;
 use eden_base::Errno;
 use fuse_wire::{Ask, Item};
-use mount_wire::{BatchReader, Message, ReplyBytes, tell_error};
+use mount_wire::{BatchReader, KernelMessage, ReplyBytes, tell_error};
 
 /// How far a message of the kernel came at the desk.
 #[derive(Drop)]
@@ -17,24 +17,24 @@ pub enum Progress<'a> {
     /// The kernel is to be answered with these bytes, and nothing else is left to do.
     Answers(ReplyBytes),
     /// This is left, and is to be heard again: as much waits as may, or memory was refused.
-    Leaves(Message<'a>),
+    Leaves(KernelMessage<'a>),
     /// No daemon has the seat: the mount is over.
     NotMounted,
 }
 
 impl Kernel {
     /// Hears a `message` of the kernel: issues its asks and its forgets at the `desk`, as far as they can be now.
-    pub fn hear<'a>(&mut self, desk: &mut Desk, message: Message<'a>) -> Progress<'a>
+    pub fn hear<'a>(&mut self, desk: &mut Desk, message: KernelMessage<'a>) -> Progress<'a>
         requires for_daemons { IsForDaemons message }
         ensures hears { HearsMessage desk.old self.old message.entry result desk.new self.new }
         ensures for_daemons { LeavesForDaemons result }
     {
         match message {
-            Message::Answered(reply) => Progress::Answers(reply),
-            Message::Asked(ask) => self.hear_ask(desk, ask),
-            Message::Forgot(item) => hear_item(desk, item),
-            Message::ForgotMany(items) => hear_items(desk, items),
-            Message::Ignored => Progress::Done,
+            KernelMessage::Answered(reply) => Progress::Answers(reply),
+            KernelMessage::Asked(ask) => self.hear_ask(desk, ask),
+            KernelMessage::Forgot(item) => hear_item(desk, item),
+            KernelMessage::ForgotMany(items) => hear_items(desk, items),
+            KernelMessage::Ignored => Progress::Done,
         }
     }
 
@@ -47,7 +47,9 @@ impl Kernel {
         match self.ask(desk, &ask) {
             Ok(()) => Progress::Done,
             Err(IssueFault::NotHeld) => Progress::Answers(tell_error(ask.unique, Errno::ESTALE)),
-            Err(IssueFault::Full | IssueFault::NoMemory) => Progress::Leaves(Message::Asked(ask)),
+            Err(IssueFault::Full | IssueFault::NoMemory) => {
+                Progress::Leaves(KernelMessage::Asked(ask))
+            }
             Err(IssueFault::NotMounted) => Progress::NotMounted,
             Err(IssueFault::BadForget) => unreachable!(),
         }
@@ -61,7 +63,9 @@ fn hear_item<'a>(desk: &mut Desk, item: Item) -> Progress<'a>
 {
     match desk.forget(item) {
         Ok(()) | Err(IssueFault::BadForget) => Progress::Done,
-        Err(IssueFault::Full | IssueFault::NoMemory) => Progress::Leaves(Message::Forgot(item)),
+        Err(IssueFault::Full | IssueFault::NoMemory) => {
+            Progress::Leaves(KernelMessage::Forgot(item))
+        }
         Err(IssueFault::NotMounted) => Progress::NotMounted,
         Err(IssueFault::NotHeld) => unreachable!(),
     }
@@ -76,7 +80,7 @@ fn hear_items<'a>(desk: &mut Desk, items: BatchReader<'a>) -> Progress<'a>
     while let Some(item) = items.first() {
         match hear_item(desk, item) {
             Progress::Done => items.skip_first(),
-            Progress::Leaves(_item) => return Progress::Leaves(Message::ForgotMany(items)),
+            Progress::Leaves(_item) => return Progress::Leaves(KernelMessage::ForgotMany(items)),
             Progress::NotMounted => return Progress::NotMounted,
             Progress::Answers(_) => unreachable!(),
         }

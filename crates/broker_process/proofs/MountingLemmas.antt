@@ -7,7 +7,7 @@ use Rattle.std.proofs.KnownBytes.{Appends-nil, Appends-trans}
 use Rattle.std.proofs.lemmas.List.{append-nil, map-append}
 use Rattle.std.proofs.lemmas.List.Folds.{concat-append}
 use Rattle.broker_process.specs.Mounting.{PrintsDead, PrintsMount, PrintsThen, RunsMount, end_line, lines_by, mounted_line}
-use Rattle.broker_process.specs.declared.fault.MountFault.{MountFault}
+use Rattle.broker_process.specs.declared.fault.MountRunFault.{MountRunFault}
 use Rattle.broker_process.specs.declared.service.MountEnd.{MountEnd}
 use Rattle.broker_process.specs.declared.service.MountEnd.TheVariants.{Unmounted, Dead}
 
@@ -19,7 +19,7 @@ abbrev Left : Option (List ℕ) → Option (List ℕ) → Type 0
 Left old new = PrintsDead old new ⊎ PrintsThen mounted_line old new
 
 -- a mount that began, whatever becomes of it
-pub mount-began : (generation : ℕ) (result : Result MountEnd MountFault) (old new : Option (List ℕ)) → Appends old new (mounted_line generation) → PrintsMount generation result old new
+pub mount-began : (generation : ℕ) (result : Result MountEnd MountRunFault) (old new : Option (List ℕ)) → Appends old new (mounted_line generation) → PrintsMount generation result old new
 mount-began generation (Ok end) old new line = line
 mount-began generation (Err fault) old new line = inr line
 
@@ -34,7 +34,7 @@ left-by generation old mid new was (inl nothing) = inl (dead-same old mid new wa
 left-by generation old mid new was (inr line) = inr (mid, was, (generation, line))
 
 -- one more mount fails
-pub then-fails : (generation : ℕ) (fault : MountFault) (old mid new : Option (List ℕ)) → PrintsDead old mid → PrintsMount generation (Err fault) mid new → RunsMount (Err fault) old new
+pub then-fails : (generation : ℕ) (fault : MountRunFault) (old mid new : Option (List ℕ)) → PrintsDead old mid → PrintsMount generation (Err fault) mid new → RunsMount (Err fault) old new
 then-fails generation fault old mid new was prints = left-by generation old mid new was prints
 
 -- both lines of a mount

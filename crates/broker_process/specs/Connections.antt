@@ -2,7 +2,7 @@
 use Rattle.std.specs.Prelude.{ℕ, Bool, true, false, ◌&&◌, ◌||◌, ◌==◌, List, Option, Some, None, is_some, count_by, nat_lt, position, remove, if◌then◌else◌}
 use Rattle.eden_base.specs.declared.number.DaemonId.{DaemonId}
 use Rattle.broker_desk.specs.declared.peer.Peer.{Peer}
-use Rattle.broker_desk.specs.declared.peer.Peer.TheVariants.{Stranger, Daemon, Worker}
+use Rattle.broker_desk.specs.declared.peer.Peer.TheVariants.{Unattached, Daemon, Worker}
 use Rattle.std.specs.declared.net.unix.UnixStream.{UnixStream}
 use Rattle.broker_process.specs.declared.connections.Heard.{Heard}
 use Rattle.broker_process.specs.declared.connections.Heard.TheVariants.{Unknown, Silence, Something}
@@ -10,13 +10,13 @@ use Rattle.broker_process.specs.declared.connections.OpenConnection.{OpenConnect
 
 -- whether nobody attached by a connection of this peer
 abbrev pub has_not_attached : Peer → Bool
-has_not_attached Stranger = true
+has_not_attached Unattached = true
 has_not_attached (Daemon daemon) = false
 has_not_attached (Worker daemon) = false
 
 -- whether a worker of the daemon attached by a connection of this peer
 abbrev pub is_worker_of : DaemonId → Peer → Bool
-is_worker_of daemon Stranger = false
+is_worker_of daemon Unattached = false
 is_worker_of daemon (Daemon other) = false
 is_worker_of daemon (Worker served) = served.0 == daemon.0
 
@@ -82,4 +82,4 @@ with_room connections = if are_few connections then connections else without_at 
 
 -- a connection that just came: it is unattached
 abbrev pub entered : ℕ → UnixStream → OpenConnection
-entered number stream = record { number = number; peer = Stranger; heard = Unknown; stream = stream }
+entered number stream = record { number = number; peer = Unattached; heard = Unknown; stream = stream }

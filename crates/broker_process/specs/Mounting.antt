@@ -3,7 +3,7 @@ use Rattle.std.specs.Prelude.{⊤, ℕ, ◌⊎◌, List, [], ◌++◌, map, Resu
 use Rattle.std.specs.Fmt.{decimal}
 use Rattle.std.specs.Io.KnownBytes.{Appends}
 use Rattle.std.specs.List.{concat}
-use Rattle.broker_process.specs.declared.fault.MountFault.{MountFault}
+use Rattle.broker_process.specs.declared.fault.MountRunFault.{MountRunFault}
 use Rattle.broker_process.specs.declared.service.MountEnd.{MountEnd}
 use Rattle.broker_process.specs.declared.service.MountEnd.TheVariants.{Unmounted, Dead}
 
@@ -29,11 +29,11 @@ abbrev pub PrintsThen : (ℕ → List ℕ) → Option (List ℕ) → Option (Lis
 PrintsThen lines old new = (mid : Option (List ℕ)) × PrintsDead old mid × ((generation : ℕ) × Appends mid new (lines generation))
 
 -- one mount of a generation prints its line, if it begins
-abbrev pub PrintsMount : ℕ → Result MountEnd MountFault → Option (List ℕ) → Option (List ℕ) → Type 0
+abbrev pub PrintsMount : ℕ → Result MountEnd MountRunFault → Option (List ℕ) → Option (List ℕ) → Type 0
 PrintsMount generation (Ok end) old new = Appends old new (mounted_line generation)
 PrintsMount generation (Err fault) old new = Appends old new [] ⊎ Appends old new (mounted_line generation)
 
 -- A broker over a mount ends well once somebody unmounted. If it fails, its last mount never began, or did not end.
-abbrev pub RunsMount : Result (Unit {0}) MountFault → Option (List ℕ) → Option (List ℕ) → Type 0
+abbrev pub RunsMount : Result (Unit {0}) MountRunFault → Option (List ℕ) → Option (List ℕ) → Type 0
 RunsMount (Ok done) old new = PrintsThen (lines_by Unmounted) old new
 RunsMount (Err fault) old new = PrintsDead old new ⊎ PrintsThen mounted_line old new

@@ -6,13 +6,13 @@ use Rattle.broker_desk.specs.declared.progress.Progress.{Progress}
 use Rattle.broker_desk.specs.declared.progress.Progress.TheVariants.{Done, Answers, Leaves, NotMounted}
 use Rattle.broker_desk.specs.declared.pair.Pair.{Pair}
 use Rattle.mount_wire.specs.Message.{Reads}
-use Rattle.mount_wire.specs.declared.message.Message.{Message}
+use Rattle.mount_wire.specs.declared.message.KernelMessage.{KernelMessage}
 use Rattle.broker_process.specs.Device.{Takes}
 use Rattle.broker_process.specs.Writing.{Writes}
 use Rattle.broker_process.specs.declared.device.Taken.{Taken}
 use Rattle.broker_process.specs.declared.device.Taken.TheVariants as taken
-use Rattle.broker_process.specs.declared.fault.MountFault.{MountFault}
-use Rattle.broker_process.specs.declared.fault.MountFault.TheVariants.{Broken, NoMemory}
+use Rattle.broker_process.specs.declared.fault.MountRunFault.{MountRunFault}
+use Rattle.broker_process.specs.declared.fault.MountRunFault.TheVariants.{Broken, NoMemory}
 use Rattle.broker_process.specs.declared.service.Handled.{Handled}
 use Rattle.broker_process.specs.declared.service.Handled.TheVariants as handled
 use Rattle.broker_process.specs.declared.service.MountEnd.{MountEnd}
@@ -25,7 +25,7 @@ use Rattle.broker_process.specs.declared.writing.Written.TheVariants as written
 -- Daemons change the desk between turns, so each turn speaks of the desk and of the asks under way as it found them.
 
 -- a message was heard as far as it could be, over some state of the desk
-abbrev pub IsHeard : Message → Progress → Type 0
+abbrev pub IsHeard : KernelMessage → Progress → Type 0
 IsHeard message progress =
     (old : DeskState) × (pairs : List Pair) × (new : DeskState) × (after : List Pair)
     × HearsMessage old pairs message progress new after
@@ -36,12 +36,12 @@ IsEnd (Leaves message) = ⊥
 IsEnd progress = ⊤
 
 -- a message was heard in one turn and as many more as the number says: each turn heard what the one before it left
-abbrev pub IsHeardIn : ℕ → Message → Progress → Type 0
+abbrev pub IsHeardIn : ℕ → KernelMessage → Progress → Type 0
 IsHeardIn zero message end = IsHeard message end × IsEnd end
-IsHeardIn (suc turns) message end = (left : Message) × IsHeard message (Leaves left) × IsHeardIn turns left end
+IsHeardIn (suc turns) message end = (left : KernelMessage) × IsHeard message (Leaves left) × IsHeardIn turns left end
 
 -- a message was heard until nothing was left of it
-abbrev pub IsHeardToTheEnd : Message → Progress → Type 0
+abbrev pub IsHeardToTheEnd : KernelMessage → Progress → Type 0
 IsHeardToTheEnd message end = (turns : ℕ) × IsHeardIn turns message end
 
 -- what becomes of a mount whose program wrote an answer of its own: it goes on, unless the device refused each write
@@ -59,7 +59,7 @@ Tells (Leaves message) becomes old new = ⊥
 -- the bytes of one message were read as a message, which was heard to its end; an answer of the program's own was written
 -- until the kernel took it, six times at most
 pub record Handles (bytes : List ℕ) (becomes : Handled) (old new : Option (List ℕ)) : Type 0 where
-  pub message : Message
+  pub message : KernelMessage
   pub reads : Reads bytes message
   pub end : Progress
   pub heard : IsHeardToTheEnd message end
@@ -75,7 +75,7 @@ GoesOn taken old new = ⊥
 
 -- what a read gave ended the mount: no daemon had the seat when it was handled, the device refused an answer, somebody
 -- unmounted, or the device broke
-abbrev pub EndsBy : Taken → Result MountEnd MountFault → Option (List ℕ) → Option (List ℕ) → Type 0
+abbrev pub EndsBy : Taken → Result MountEnd MountRunFault → Option (List ℕ) → Option (List ℕ) → Type 0
 EndsBy (taken.Message bytes) (Ok Dead) old new = Handles bytes.now handled.NotMounted old new
 EndsBy (taken.Message bytes) (Err (Broken error)) old new = Handles bytes.now handled.Refused old new
 EndsBy taken.Unmounted (Ok Unmounted) old new = new ≡ old
@@ -84,7 +84,7 @@ EndsBy taken ended old new = ⊥
 
 -- a mount ended by a read, behind as many others as the number says: what each of them gave was handled before the next
 -- one. `left` is what was still to be read, and `told` what the program wrote of its own, where those are known.
-abbrev pub ServesIn : ℕ → Result MountEnd MountFault → Option (List ℕ) → Option (List ℕ) → Option (List ℕ) → Option (List ℕ) → Type 0
+abbrev pub ServesIn : ℕ → Result MountEnd MountRunFault → Option (List ℕ) → Option (List ℕ) → Option (List ℕ) → Option (List ℕ) → Type 0
 ServesIn zero ended left told left_then told_then =
     (taken : Taken) × Takes left left_then taken × EndsBy taken ended told told_then
 ServesIn (suc reads) ended left told left_then told_then =
@@ -93,7 +93,7 @@ ServesIn (suc reads) ended left told left_then told_then =
     × ServesIn reads ended left_mid told_mid left_then told_then
 
 -- a mount was served to its end; or memory for the first read was refused, and nothing was read or written
-abbrev pub ServesMount : Result MountEnd MountFault → Option (List ℕ) → Option (List ℕ) → Option (List ℕ) → Option (List ℕ) → Type 0
+abbrev pub ServesMount : Result MountEnd MountRunFault → Option (List ℕ) → Option (List ℕ) → Option (List ℕ) → Option (List ℕ) → Type 0
 ServesMount ended left told left_then told_then =
     ((reads : ℕ) × ServesIn reads ended left told left_then told_then)
     ⊎ ((ended ≡ Err NoMemory) × (left_then ≡ left) × (told_then ≡ told))

@@ -40,7 +40,7 @@ impl OpenConnection {
     fn is_unattached(&self) -> bool
         ensures unattached { result ≡ is_unattached self.now }
     {
-        matches!(self.peer, Peer::Stranger)
+        matches!(self.peer, Peer::Unattached)
     }
 
     /// Returns whether the connection is unattached, and nothing came by it for a moment.
@@ -63,7 +63,7 @@ impl OpenConnection {
     {
         match self.peer {
             Peer::Worker(served) => served.0 == daemon.0,
-            Peer::Stranger | Peer::Daemon(_) => false,
+            Peer::Unattached | Peer::Daemon(_) => false,
         }
     }
 }
@@ -99,7 +99,7 @@ impl Connections {
         let number = self.next;
         self.list.push_reserved(OpenConnection {
             number,
-            peer: Peer::Stranger,
+            peer: Peer::Unattached,
             heard: Heard::Unknown,
             stream,
         });

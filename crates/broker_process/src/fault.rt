@@ -1,6 +1,6 @@
 //! Why a broker ended before its script or its mount did.
 ghost use Rattle.std.specs.Prelude.{◌≡◌};
-ghost use Rattle.broker_process.specs.declared.fault.MountFault.TheVariants.{NoMemory as OutOfMemory};
+ghost use Rattle.broker_process.specs.declared.fault.MountRunFault.TheVariants.{NoMemory as OutOfMemory};
 
 use std::alloc::AllocError;
 use std::io;
@@ -19,7 +19,7 @@ pub enum BrokerFault {
 
 /// Why a broker over a real mount ended before somebody unmounted, with the system's error that caused it.
 #[derive(Clone, Copy)]
-pub enum MountFault {
+pub enum MountRunFault {
     /// The socket can't be listened at.
     CannotListen(io::Error),
     NoMemory,
@@ -35,10 +35,10 @@ pub enum MountFault {
     Broken(io::Error),
 }
 
-impl From<AllocError> for MountFault {
+impl From<AllocError> for MountRunFault {
     ghost from_gives = { λ _ fault. fault ≡ OutOfMemory };
 
-    fn from(_refused: AllocError) -> MountFault {
-        MountFault::NoMemory
+    fn from(_refused: AllocError) -> MountRunFault {
+        MountRunFault::NoMemory
     }
 }

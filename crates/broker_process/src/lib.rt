@@ -16,5 +16,5 @@ mod writing;
 
 pub use device::DEVICE;
 pub use ending::{BrokerRun, run_broker};
-pub use fault::{BrokerFault, MountFault};
-pub use mount::{MountRun, Place, run_mount};
+pub use fault::{BrokerFault, MountRunFault};
+pub use mount::{MountOptions, MountRun, run_mount};

@@ -6,7 +6,7 @@ ghost use Rattle.broker_process.specs.Mounting.{PrintsMount, RunsMount, end_line
 use crate::accept_loop::accept_all;
 use crate::control::Control;
 use crate::device::{check_place, clear_dead_mount, mount, open_device, own_user};
-use crate::fault::MountFault;
+use crate::fault::MountRunFault;
 use crate::service::{MountEnd, Mounted, serve};
 use crate::shared_desk::SharedDesk;
 use crate::unmounter::{MountPoint, Unmounter};
@@ -29,12 +29,12 @@ use std::time::{Duration, SystemTime, UNIX_EPOCH};
 #[derive(Drop)]
 pub struct MountRun<W> {
     pub out: W,
-    pub ended: Result<(), MountFault>,
+    pub ended: Result<(), MountRunFault>,
 }
 
 /// Where a mount is made, and for which daemons.
 #[derive(Clone, Copy)]
-pub struct Place<'a> {
+pub struct MountOptions<'a> {
     /// The path of the directory at which it is mounted.
     pub mountpoint: &'a str,
     /// The path of the socket at which daemons reach the broker.
@@ -51,7 +51,7 @@ pub struct Place<'a> {
 pub fn run_mount<
     R: Threads + Wait + Clock + Files<File = File> + Net + Processes + Copy + Send + Sync + 'static,
     W: Unblock + Drop,
->(rt: &R, alloc: Global, place: &Place<'_>, out: W) -> MountRun<W>
+>(rt: &R, alloc: Global, place: &MountOptions<'_>, out: W) -> MountRun<W>
     ensures runs { RunsMount result.ended (W.contents out) (W.contents result.out) }
 {
     let mut out = out;
@@ -64,20 +64,20 @@ pub fn run_mount<
     };
     let owner = match owner_at(rt, place) {
         Ok(owner) => owner,
-        Err(error) => return fails(out, MountFault::CannotMount(error)),
+        Err(error) => return fails(out, MountRunFault::CannotMount(error)),
     };
     let unmounter = match Unmounter::start(rt, alloc) {
         Ok(unmounter) => unmounter,
-        Err(error) => return fails(out, MountFault::CannotMount(error)),
+        Err(error) => return fails(out, MountRunFault::CannotMount(error)),
     };
     let listener = match listen_alone_at(rt, alloc, place.socket) {
         Ok(listener) => listener,
-        Err(error) => return fails(out, MountFault::CannotListen(error)),
+        Err(error) => return fails(out, MountRunFault::CannotListen(error)),
     };
     let made = changed_at(rt, place.socket);
     let closer = match Closer::of(&listener) {
         Ok(closer) => closer,
-        Err(error) => return fails(out, MountFault::CannotListen(error)),
+        Err(error) => return fails(out, MountRunFault::CannotListen(error)),
     };
     let point = MountPoint {
         path: place.mountpoint,
@@ -94,19 +94,19 @@ pub fn run_mount<
 fn make_shared_desk<R: Files<File = File> + Processes>(
     rt: &R,
     alloc: Global,
-    place: &Place<'_>,
-) -> Result<SharedDesk, MountFault> {
+    place: &MountOptions<'_>,
+) -> Result<SharedDesk, MountRunFault> {
     let log = open_log(rt, alloc, place.log)?;
-    let _device = open_device(rt).map_err(MountFault::NoDevice)?;
-    check_place(rt, alloc, place.mountpoint).map_err(MountFault::CannotMount)?;
+    let _device = open_device(rt).map_err(MountRunFault::NoDevice)?;
+    check_place(rt, alloc, place.mountpoint).map_err(MountRunFault::CannotMount)?;
     match SharedDesk::of_mount(alloc, log) {
         Ok(shared) => Ok(shared),
-        Err(NoMemory) => Err(MountFault::NoMemory),
+        Err(NoMemory) => Err(MountRunFault::NoMemory),
     }
 }
 
 /// Returns who owns the files of a `place`.
-fn owner_at<R: Files>(rt: &R, place: &Place<'_>) -> io::Result<FileOwner> {
+fn owner_at<R: Files>(rt: &R, place: &MountOptions<'_>) -> io::Result<FileOwner> {
     match place.owner {
         Some(owner) => Ok(owner),
         None => own_user(rt),
@@ -118,27 +118,27 @@ fn open_log<R: Files<File = File>>(
     rt: &R,
     alloc: Global,
     path: &str,
-) -> Result<Option<BufWriter<File>>, MountFault> {
+) -> Result<Option<BufWriter<File>>, MountRunFault> {
     if path.is_empty() {
         return Ok(None);
     }
-    let file = File::create(rt, path).map_err(MountFault::NoLog)?;
+    let file = File::create(rt, path).map_err(MountRunFault::NoLog)?;
     match BufWriter::new(alloc, file) {
         Ok(log) => Ok(Some(log)),
-        Err(_refused) => Err(MountFault::NoMemory),
+        Err(_refused) => Err(MountRunFault::NoMemory),
     }
 }
 
 /// Returns the fault of a broker whose thread for its lines was not made for this error.
-fn unmade(error: &io::Error) -> MountFault {
+fn unmade(error: &io::Error) -> MountRunFault {
     match error.kind() {
-        ErrorKind::OutOfMemory => MountFault::NoMemory,
-        _ => MountFault::NoThread,
+        ErrorKind::OutOfMemory => MountRunFault::NoMemory,
+        _ => MountRunFault::NoThread,
     }
 }
 
 /// Returns how a broker ran that printed nothing, and ends by `fault`.
-fn fails<W: Unblock + Drop>(out: W, fault: MountFault) -> MountRun<W>
+fn fails<W: Unblock + Drop>(out: W, fault: MountRunFault) -> MountRun<W>
     ensures runs { RunsMount result.ended (W.contents out) (W.contents result.out) }
 {
     MountRun {
@@ -190,7 +190,7 @@ fn open_within<
         .spawn(move || accept_all(rt, alloc, shared, listener))
         .is_err()
     {
-        return fails(out, MountFault::NoThread);
+        return fails(out, MountRunFault::NoThread);
     }
     let mut out = out;
     let ended = serve_mounts(rt, alloc, shared, point, &mut out);
@@ -210,7 +210,7 @@ fn serve_mounts<R: Threads + Wait + Clock + Files<File = File> + Processes + Syn
     shared: &SharedDesk,
     point: &MountPoint<'_>,
     out: &mut W,
-) -> Result<(), MountFault>
+) -> Result<(), MountRunFault>
     ensures runs { RunsMount result (W.contents out.old) (W.contents out.new) }
 {
     for _ in rt.forever() {
@@ -238,7 +238,7 @@ fn serve_mount<R: Threads + Wait + Clock + Files<File = File> + Processes + Sync
     point: &MountPoint<'_>,
     generation: u64,
     out: &mut W,
-) -> Result<MountEnd, MountFault>
+) -> Result<MountEnd, MountRunFault>
     ensures prints { PrintsMount generation result (W.contents out.old) (W.contents out.new) }
 {
     let mounted = match make_mount(rt, alloc, point, generation) {
@@ -260,11 +260,11 @@ fn make_mount<R: Files<File = File> + Processes>(
     alloc: Global,
     point: &MountPoint<'_>,
     generation: u64,
-) -> Result<Mounted, MountFault> {
-    clear_dead_mount(rt, alloc, point.path).map_err(MountFault::CannotMount)?;
+) -> Result<Mounted, MountRunFault> {
+    clear_dead_mount(rt, alloc, point.path).map_err(MountRunFault::CannotMount)?;
     let source = point.source(alloc, generation)?;
-    let device = open_device(rt).map_err(MountFault::NoDevice)?;
-    mount(rt, alloc, &device, source.as_str(), point.path).map_err(MountFault::CannotMount)?;
+    let device = open_device(rt).map_err(MountRunFault::NoDevice)?;
+    mount(rt, alloc, &device, source.as_str(), point.path).map_err(MountRunFault::CannotMount)?;
     let control = Control::open(rt, alloc, source.as_str());
     Ok(Mounted { device, control })
 }

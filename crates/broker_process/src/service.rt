@@ -5,14 +5,14 @@ ghost use Rattle.broker_process.specs.Serving.{Handles, IsHeardToTheEnd, ServesM
 
 use crate::control::Control;
 use crate::device::{BUFFER_LEN, Taken, take};
-use crate::fault::MountFault;
+use crate::fault::MountRunFault;
 use crate::shared_desk::{Next, SharedDesk};
 use crate::writing::{Texts, Written, write_reply};
 use broker_core::IssueFault;
 use broker_desk::Progress;
 use eden_base::Errno;
 use fuse_wire::{Answer, Reply};
-use mount_wire::{Message, MountAttributes, read_message, tell_answer, tell_error};
+use mount_wire::{KernelMessage, MountAttributes, read_message, tell_answer, tell_error};
 use std::alloc::Global;
 use std::fs::File;
 use std::io::{self, Read, Write};
@@ -53,7 +53,7 @@ pub(crate) fn serve<R: Threads + Wait + Clock + Processes + Sync>(
     mounted: Mounted,
     mountpoint: &str,
     own: &MountAttributes,
-) -> Result<MountEnd, MountFault> {
+) -> Result<MountEnd, MountRunFault> {
     thread::scope(thread::scope_env(), rt, move |scope| {
         serve_within(scope, rt, alloc, shared, mounted, mountpoint, own)
     })
@@ -68,16 +68,16 @@ fn serve_within<'s, 'e: 's, R: Threads + Wait + Clock + Processes + Sync + 's>(
     mounted: Mounted,
     mountpoint: &str,
     own: &MountAttributes,
-) -> Result<MountEnd, MountFault> {
+) -> Result<MountEnd, MountRunFault> {
     let Mounted {
         device,
         mut control,
     } = mounted;
-    let writer = device.try_clone().map_err(MountFault::Broken)?;
-    let answers = device.try_clone().map_err(MountFault::Broken)?;
+    let writer = device.try_clone().map_err(MountRunFault::Broken)?;
+    let answers = device.try_clone().map_err(MountRunFault::Broken)?;
     let Ok(reading) = scope.spawn(move || read_to_the_end(rt, alloc, shared, device, answers))
     else {
-        return Err(MountFault::NoThread);
+        return Err(MountRunFault::NoThread);
     };
     let delivery = deliver_all(rt, shared, writer, own);
     if delivery != Delivery::Over {
@@ -85,7 +85,7 @@ fn serve_within<'s, 'e: 's, R: Threads + Wait + Clock + Processes + Sync + 's>(
     }
     let ended = reading.join(rt);
     match delivery {
-        Delivery::Refused => Err(MountFault::Broken(refused())),
+        Delivery::Refused => Err(MountRunFault::Broken(refused())),
         Delivery::Over | Delivery::Gone => ended,
     }
 }
@@ -104,7 +104,7 @@ fn read_to_the_end<R: Wait + Clock>(
     shared: &SharedDesk,
     device: File,
     answers: File,
-) -> Result<MountEnd, MountFault> {
+) -> Result<MountEnd, MountRunFault> {
     let (mut device, mut answers) = (device, answers);
     let ended = read_all(rt, alloc, shared, &mut device, &mut answers);
     drop(device);
@@ -200,12 +200,12 @@ fn read_all<R: Wait + Clock, I: Read, O: Write>(
     shared: &SharedDesk,
     device: &mut I,
     answers: &mut O,
-) -> Result<MountEnd, MountFault>
+) -> Result<MountEnd, MountRunFault>
     ensures served { ServesMount result (I.remaining device.old) (O.contents answers.old)
         (I.remaining device.new) (O.contents answers.new) }
 {
     let Ok(mut buffer) = vec![in alloc; 0u8; BUFFER_LEN] else {
-        return Err(MountFault::NoMemory);
+        return Err(MountRunFault::NoMemory);
     };
     for _ in rt.forever() {
         match take(device, buffer.as_mut_slice()) {
@@ -213,12 +213,12 @@ fn read_all<R: Wait + Clock, I: Read, O: Write>(
                 match handle(rt, alloc, shared, answers, message) {
                     Handled::GoesOn => {}
                     Handled::NotMounted => return Ok(MountEnd::Dead),
-                    Handled::Refused => return Err(MountFault::Broken(refused())),
+                    Handled::Refused => return Err(MountRunFault::Broken(refused())),
                 }
             }
             Taken::Again => {}
             Taken::Unmounted => return Ok(MountEnd::Unmounted),
-            Taken::Broken(error) => return Err(MountFault::Broken(error)),
+            Taken::Broken(error) => return Err(MountRunFault::Broken(error)),
         }
     }
     unreachable!()
@@ -269,7 +269,11 @@ fn handled_by(told: Written) -> Handled
 }
 
 /// Hears a message of the kernel to its end, in as many turns as it takes.
-fn hear<'a, R: Wait + Clock>(rt: &R, shared: &SharedDesk, message: Message<'a>) -> Progress<'a>
+fn hear<'a, R: Wait + Clock>(
+    rt: &R,
+    shared: &SharedDesk,
+    message: KernelMessage<'a>,
+) -> Progress<'a>
     requires for_daemons { IsForDaemons message }
     ensures heard { IsHeardToTheEnd message.entry result }
 {

@@ -105,7 +105,7 @@ pub(crate) struct AcceptedConnection {
 impl AcceptedConnection {
     /// Returns whether nobody attached by this connection.
     pub(crate) fn is_unattached(&self) -> bool {
-        self.peer == Peer::Stranger
+        self.peer == Peer::Unattached
     }
 }
 
@@ -311,7 +311,7 @@ impl SharedDesk {
         let number = state.connections.enter(stream)?;
         Some(AcceptedConnection {
             number,
-            peer: Peer::Stranger,
+            peer: Peer::Unattached,
         })
     }
 

@@ -4,7 +4,7 @@ use Rattle.std.specs.Option.{IfSome}
 use Rattle.std.specs.Io.KnownBytes.{Keeps}
 use Rattle.std.proofs.KnownBytes.{Appends-kept, Appends-nil}
 use Rattle.broker_process.specs.Mounting.{PrintsDead}
-use Rattle.broker_process.specs.declared.fault.MountFault.TheVariants as mount
+use Rattle.broker_process.specs.declared.fault.MountRunFault.TheVariants as mount
 use Rattle.broker_script.specs.Reading.{IsRefusal}
 use Rattle.broker_script.specs.declared.fault.BrokerScriptFault.{BrokerScriptFault}
 use Rattle.command_line.specs.declared.errand.BrokerWords.{BrokerWords}

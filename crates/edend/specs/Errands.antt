@@ -13,8 +13,8 @@ use Rattle.broker_process.specs.Mounting.{PrintsDead, PrintsThen, RunsMount, mou
 use Rattle.broker_process.specs.Playing.{PlaysScript, RunsBroker}
 use Rattle.broker_process.specs.declared.fault.BrokerFault.{BrokerFault}
 use Rattle.broker_process.specs.declared.fault.BrokerFault.TheVariants as broker
-use Rattle.broker_process.specs.declared.fault.MountFault.{MountFault}
-use Rattle.broker_process.specs.declared.fault.MountFault.TheVariants as mount
+use Rattle.broker_process.specs.declared.fault.MountRunFault.{MountRunFault}
+use Rattle.broker_process.specs.declared.fault.MountRunFault.TheVariants as mount
 use Rattle.broker_script.specs.Reading.{IsRefusal, Says}
 use Rattle.broker_script.specs.declared.fault.BrokerScriptFault.{BrokerScriptFault}
 use Rattle.broker_script.specs.declared.fault.BrokerScriptFault.TheVariants as script
@@ -88,7 +88,7 @@ fault_of_daemon daemon.NoThread = NoThread
 fault_of_daemon daemon.Broken = Broken
 
 -- the fault that is told where a mount ended so
-abbrev pub fault_of_mount : MountFault → Fault
+abbrev pub fault_of_mount : MountRunFault → Fault
 fault_of_mount (mount.CannotListen error) = CannotListen
 fault_of_mount mount.NoMemory = NoMemory
 fault_of_mount mount.NoThread = NoThread
@@ -125,7 +125,7 @@ pub record EndsDaemon (before after : Option (List ℕ)) (told : Fault) : Type 0
 
 -- a broker over a mount ended by a fault, which is told
 pub record EndsMount (before after : Option (List ℕ)) (told : Fault) : Type 0 where
-  pub fault : MountFault
+  pub fault : MountRunFault
   pub ran : RunsMount (Err fault) before after
   pub is_told : told ≡ fault_of_mount fault
 

@@ -12,7 +12,7 @@ ghost use Rattle.edend.specs.Errands.{Names, PrintsFirst, RunsOver, RunsTo, faul
 ghost use Rattle.edend.specs.Note.{IsNoted};
 
 use crate::note::{Note, Noted};
-use broker_process::{BrokerFault, DEVICE, MountFault, Place, run_broker, run_mount};
+use broker_process::{BrokerFault, DEVICE, MountOptions, MountRunFault, run_broker, run_mount};
 use broker_script::{BrokerScriptFault, read_broker_script};
 use daemon_process::{DaemonFault, Orders, Start, run_daemon};
 use mount_wire::FileOwner;
@@ -334,7 +334,7 @@ fn mount<
     ensures { (input : Option (List ℕ)) (file : List ℕ → Option (List ℕ)) → RunsTo input file
         (MountErrand words.now) result.ended (W.contents out) (W.contents result.out) }
 {
-    let run = run_mount(host, alloc, &place_of(words), out);
+    let run = run_mount(host, alloc, &options_of(words), out);
     match run.ended {
         Ok(()) => ErrandRun {
             out: run.out,
@@ -348,13 +348,13 @@ fn mount<
 }
 
 /// Returns where a mount is made, as `words` say.
-fn place_of<'a>(words: &MountWords<'a>) -> Place<'a>
+fn options_of<'a>(words: &MountWords<'a>) -> MountOptions<'a>
     ensures mountpoint { result.mountpoint.now ≡ words.now.mountpoint.now }
     ensures socket { result.socket.now ≡ words.now.socket.now }
     ensures log { result.log.now ≡ words.now.held.now }
     ensures owner { result.owner ≡ option_map owner_of words.now.owner }
 {
-    Place {
+    MountOptions {
         mountpoint: words.mountpoint,
         socket: words.socket,
         log: words.held,
@@ -373,17 +373,17 @@ fn owner_of(owner: Owner) -> FileOwner
 }
 
 /// Returns the failure of a mount that ended by `fault`, run with these words.
-fn failure_of_mount<'a>(fault: MountFault, words: &MountWords<'a>) -> Failure<'a>
+fn failure_of_mount<'a>(fault: MountRunFault, words: &MountWords<'a>) -> Failure<'a>
     ensures names { Names (MountErrand words.now) result }
     ensures told { result.fault ≡ fault_of_mount fault }
 {
     match fault {
-        MountFault::CannotListen(error) => caused(Fault::CannotListen, words.socket, error),
-        MountFault::NoMemory => Failure::plain(Fault::NoMemory),
-        MountFault::NoThread => Failure::plain(Fault::NoThread),
-        MountFault::NoLog(error) => caused(Fault::NoLog, words.held, error),
-        MountFault::NoDevice(error) => caused(Fault::NoDevice, DEVICE, error),
-        MountFault::CannotMount(error) => caused(Fault::CannotMount, words.mountpoint, error),
-        MountFault::Broken(error) => caused(Fault::Broken, DEVICE, error),
+        MountRunFault::CannotListen(error) => caused(Fault::CannotListen, words.socket, error),
+        MountRunFault::NoMemory => Failure::plain(Fault::NoMemory),
+        MountRunFault::NoThread => Failure::plain(Fault::NoThread),
+        MountRunFault::NoLog(error) => caused(Fault::NoLog, words.held, error),
+        MountRunFault::NoDevice(error) => caused(Fault::NoDevice, DEVICE, error),
+        MountRunFault::CannotMount(error) => caused(Fault::CannotMount, words.mountpoint, error),
+        MountRunFault::Broken(error) => caused(Fault::Broken, DEVICE, error),
     }
 }

@@ -4,7 +4,7 @@ use Rattle.std.specs.Prelude.{is_ok, slice_index}
 use Rattle.byte_codec.specs.Field.{AreBytes}
 use Rattle.byte_codec.proofs.FieldLaws.{eight}
 use Rattle.byte_codec.proofs.YieldLemmas.{yielded}
-use Rattle.frames.specs.declared.answer.Answer.TheVariants as answers
+use Rattle.frames.specs.declared.answer.BrokerAnswer.TheVariants as answers
 use Rattle.frames.specs.declared.fault.FrameFault.{FrameFault}
 use Rattle.frames.specs.declared.fault.FrameFault.TheVariants.{BadBody}
 use Rattle.frames.specs.declared.frame.Frame.{Frame}

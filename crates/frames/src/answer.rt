@@ -13,7 +13,7 @@ use byte_codec::u64_in;
 
 /// What the broker answers to a Take or a Post. It holds no memory: the request of an `Ask` is the body of the frame.
 #[derive(Clone, Copy)]
-pub enum Answer {
+pub enum BrokerAnswer {
     /// The FUSE request that was taken.
     Ask,
     /// No FUSE request is handed out now.
@@ -30,26 +30,26 @@ pub enum Answer {
 
 /// Returns the answer that a frame of this kind and with this body is.
 #[tactic(auto, unfolding(crate::specs::Reading::frame_of, crate::specs::Reading::alone))]
-fn answer_by(kind: Kind, body: &[u8]) -> Answer
+fn answer_by(kind: Kind, body: &[u8]) -> BrokerAnswer
     requires whole { is_ok (frame_of kind body.now) ≡ true }
     ensures answer { result ≡ answer_by kind body.now }
     ensures bytes { AreBytes body.now }
 {
     match kind {
-        Kind::Ask => Answer::Ask,
-        Kind::Empty => Answer::Empty,
-        Kind::Posted => Answer::Posted,
-        Kind::Ended => Answer::Ended,
-        Kind::Stale => Answer::Stale { now: u64_in(body) },
-        _ => Answer::Other,
+        Kind::Ask => BrokerAnswer::Ask,
+        Kind::Empty => BrokerAnswer::Empty,
+        Kind::Posted => BrokerAnswer::Posted,
+        Kind::Ended => BrokerAnswer::Ended,
+        Kind::Stale => BrokerAnswer::Stale { now: u64_in(body) },
+        _ => BrokerAnswer::Other,
     }
 }
 
-impl Answer {
+impl BrokerAnswer {
     /// Reads the answer from a head of five bytes and a body, whose length is what `missing` returns for the head. Takes
     /// no memory.
     #[tactic(auto, using(crate::proofs::AnswerLaws::bad_answer, crate::proofs::AnswerLaws::is_answer, crate::proofs::LackingLaws::kind_there))]
-    pub fn of_parts(head: &[u8], body: &[u8]) -> Result<Answer, FrameFault>
+    pub fn of_parts(head: &[u8], body: &[u8]) -> Result<BrokerAnswer, FrameFault>
         requires head { length head.now ≡ 5 }
         requires body { lacking head.now ≡ Ok (length body.now) }
         ensures answer { IfOk result (IsAnswer (head.now ++ body.now) body.now) }

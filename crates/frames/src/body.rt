@@ -158,7 +158,7 @@ fn bare(frame: Frame, body: &[u8]) -> Result<Frame, FrameFault>
 
 /// Reads a frame of this kind from its body.
 #[tactic(auto, unfolding(crate::specs::Reading::frame_of))]
-pub(crate) fn read_frame(alloc: Global, kind: Kind, body: &[u8]) -> Result<Frame, FrameFault>
+pub(crate) fn read_body(alloc: Global, kind: Kind, body: &[u8]) -> Result<Frame, FrameFault>
     ensures { Gives HasBytes result (frame_of kind body.now) }
 {
     match kind {

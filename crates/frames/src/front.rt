@@ -4,7 +4,7 @@ ghost use Rattle.frames.specs.declared.fault.FrameFault.TheVariants.{BadBody};
 ghost use Rattle.frames.specs.Reading.{Finds, Measures, Reads, frame_of, message_of};
 ghost use Rattle.frames.specs.Stream.{Ends, ReadsText, fault_of};
 
-use crate::body::read_frame;
+use crate::body::read_body;
 use crate::kind::{Kind, MessageKind};
 use crate::{Frame, FrameFault};
 use byte_codec::u32_in;
@@ -56,7 +56,7 @@ pub(crate) fn read_first(alloc: Global, bytes: &[u8]) -> Result<Option<(Frame, u
         Ok(None) => Ok(None),
         Ok(Some((kind, len))) => {
             let used = BEFORE_BODY + len;
-            match read_frame(alloc, kind, &bytes[BEFORE_BODY..used]) {
+            match read_body(alloc, kind, &bytes[BEFORE_BODY..used]) {
                 Ok(frame) => Ok(Some((frame, used))),
                 Err(fault) => Err(fault),
             }

@@ -13,7 +13,7 @@ mod parts;
 mod reader;
 mod writer;
 
-pub use answer::Answer;
+pub use answer::BrokerAnswer;
 pub use fault::FrameFault;
 pub use frame::Frame;
 pub use parts::missing;

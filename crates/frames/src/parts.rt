@@ -10,7 +10,7 @@ ghost use Rattle.frames.specs.Lacking.{IsHeadFault, lacking};
 ghost use Rattle.frames.specs.Reading.{Faulty, Is, NotYet, frame_of, message_of, said, said_frame};
 ghost use Rattle.frames.specs.Says.{IsFirst};
 
-use crate::body::read_frame;
+use crate::body::read_body;
 use crate::front::{BEFORE_BODY, LENGTH, LONGEST_BODY, is_body};
 use crate::kind::{Kind, MessageKind};
 use crate::{Frame, FrameFault};
@@ -144,7 +144,7 @@ fn frame_of(kind: Kind, body: &mut Vec<u8>) -> Result<Frame, FrameFault>
             Ok(message) => Ok(Frame::Takeover(message)),
             Err(fault) => Err(fault),
         },
-        other => read_frame(*body.allocator(), other, body.as_slice()),
+        other => read_body(*body.allocator(), other, body.as_slice()),
     }
 }
 

@@ -1,7 +1,7 @@
 -- A frame that was written and one that was read are an exchange.
 use Rattle.std.proofs.Common.{◌≡◌, ℕ, Bool, true, false, cond, ltb, List, length, Option, Some, None, Ok, Err, sym, subst, ◌∙◌, append-nil}
 use Rattle.std.specs.Io.KnownBytes.{Appends, Consumes}
-use Rattle.frames.specs.declared.answer.Answer.{Answer}
+use Rattle.frames.specs.declared.answer.BrokerAnswer.{BrokerAnswer}
 use Rattle.frames.specs.declared.fault.FrameFault.{FrameFault}
 use Rattle.frames.specs.declared.frame.Frame.{Frame}
 use Rattle.frames.specs.Answer.{IsAnswer, answer_of}
@@ -23,13 +23,13 @@ pub sent : (old new : Option (List ℕ)) (frame : Frame) → Sends old new frame
 sent old new frame is = subst (Appends old new) (its_text frame is.text is.is_text) is.written
 
 -- the text of a frame that was read as an answer
-heard : (old new : Option (List ℕ)) (bytes body : List ℕ) (answer : Answer) → Consumes old new bytes → (is : IsAnswer bytes body answer) → Consumes old new (text_of is.frame)
+heard : (old new : Option (List ℕ)) (bytes body : List ℕ) (answer : BrokerAnswer) → Consumes old new bytes → (is : IsAnswer bytes body answer) → Consumes old new (text_of is.frame)
 heard old new bytes body answer taken is =
     let first = is.is_first in
     subst (Consumes old new) (first.in_front ∙ append-nil first.text ∙ its_text is.frame first.text first.is_text) taken
 
 -- what was written and then read is an exchange
-pub answered : (old new : ConnectionState) (said : Frame) (answer : Answer) (body : List ℕ) → new.generation ≡ old.generation → new.ended ≡ old.ended → Sends old.outgoing new.outgoing said → Took old.incoming new.incoming (λ bytes. IsAnswer bytes body answer) → IsAnswered old new said answer body
+pub answered : (old new : ConnectionState) (said : Frame) (answer : BrokerAnswer) (body : List ℕ) → new.generation ≡ old.generation → new.ended ≡ old.ended → Sends old.outgoing new.outgoing said → Took old.incoming new.incoming (λ bytes. IsAnswer bytes body answer) → IsAnswered old new said answer body
 answered old new said answer body generation ended sends took = record {
   heard = took.holds.frame;
   exchanged = record {
@@ -43,7 +43,7 @@ answered old new said answer body generation ended sends took = record {
 }
 
 -- what reading gives behind what was written
-pub answered_by : (old new : ConnectionState) (said : Frame) (answer : Option Answer) (body : List ℕ) → new.generation ≡ old.generation → new.ended ≡ old.ended → Sends old.outgoing new.outgoing said → Took old.incoming new.incoming (λ bytes. GivesAnswer bytes new.incoming body (Ok answer)) → Answers old said answer body new
+pub answered_by : (old new : ConnectionState) (said : Frame) (answer : Option BrokerAnswer) (body : List ℕ) → new.generation ≡ old.generation → new.ended ≡ old.ended → Sends old.outgoing new.outgoing said → Took old.incoming new.incoming (λ bytes. GivesAnswer bytes new.incoming body (Ok answer)) → Answers old said answer body new
 answered_by old new said (Some answer) body generation ended sends took = answered old new said answer body generation ended sends took
 answered_by old new said None body generation ended sends took = NotHeard (Ok None) sends tt took
 
@@ -52,12 +52,12 @@ unheard old new said fault memory sends took = NotHeard (Err fault) sends memory
 
 -- ---- a look for an ask, from a state that making room left as it was
 
-hears_frame : (mid new : ConnectionState) (answer : Answer) (body : List ℕ) (heard : Frame) (taken : Taken) → answer ≡ answer_of heard → body_of heard ≡ body → Hears mid answer body taken new → Hears mid (answer_of heard) (body_of heard) taken new
+hears_frame : (mid new : ConnectionState) (answer : BrokerAnswer) (body : List ℕ) (heard : Frame) (taken : Taken) → answer ≡ answer_of heard → body_of heard ≡ body → Hears mid answer body taken new → Hears mid (answer_of heard) (body_of heard) taken new
 hears_frame mid new answer body heard taken told its hears =
-    let by_answer = subst (λ (a : Answer). Hears mid a body taken new) told hears in
+    let by_answer = subst (λ (a : BrokerAnswer). Hears mid a body taken new) told hears in
     subst (λ (t : List ℕ). Hears mid (answer_of heard) t taken new) (sym its) by_answer
 
-pub takes_heard : (old start mid new : ConnectionState) (answer : Answer) (body : List ℕ) (taken : Taken) → start ≡ old → IsAnswered start mid (take_of start) answer body → Hears mid answer body taken new → Takes old taken new
+pub takes_heard : (old start mid new : ConnectionState) (answer : BrokerAnswer) (body : List ℕ) (taken : Taken) → start ≡ old → IsAnswered start mid (take_of start) answer body → Hears mid answer body taken new → Takes old taken new
 takes_heard old start mid new answer body taken same is hears =
     let P : ConnectionState → Type 0 = λ state. Takes state taken new in
     subst P same (Heard mid is.heard is.exchanged (hears_frame mid new answer body is.heard taken is.is_told is.has_body hears))

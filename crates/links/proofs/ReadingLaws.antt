@@ -5,7 +5,7 @@ use Rattle.std.proofs.lemmas.List.{take-append-le}
 use borrow.Rule.Slice.PartMut.{put_mid, post_of}
 use Rattle.std.proofs.KnownBytes.{Consumes-nil, Consumes-kept, Consumes-trans}
 use Rattle.std.specs.Io.KnownBytes.{Consumes, IsAtEnd, Keeps}
-use Rattle.frames.specs.declared.answer.Answer.{Answer}
+use Rattle.frames.specs.declared.answer.BrokerAnswer.{BrokerAnswer}
 use Rattle.frames.specs.declared.fault.FrameFault.{FrameFault}
 use Rattle.frames.specs.declared.fault.FrameFault.TheVariants.{TooLong, BadKind, BadBody, Torn, Read, Write, NoMemory}
 use Rattle.frames.specs.declared.frame.Frame.{Frame}
@@ -102,7 +102,7 @@ joined_frame old mid new head frame first then = record {
 }
 
 -- an answer that was read after its head was read as a whole
-pub joined_answer : (old mid new : Option (List ℕ)) (head body : List ℕ) (answer : Answer) → Consumes old mid head → Took mid new (λ bytes. IsAnswer (head ++ bytes) body answer) → Took old new (λ bytes. IsAnswer bytes body answer)
+pub joined_answer : (old mid new : Option (List ℕ)) (head body : List ℕ) (answer : BrokerAnswer) → Consumes old mid head → Took mid new (λ bytes. IsAnswer (head ++ bytes) body answer) → Took old new (λ bytes. IsAnswer bytes body answer)
 joined_answer old mid new head body answer first then = record {
   bytes = head ++ then.bytes;
   taken = Consumes-trans old mid new head then.bytes first then.taken;

@@ -4,8 +4,8 @@ use Rattle.std.specs.Prelude.{◌≡◌, ◌⊎◌, ℕ, List, Option, Some, Non
 use Rattle.std.specs.Io.KnownBytes.{Appends, Consumes, Keeps}
 use Rattle.broker_core.specs.declared.fault.TakeFault.{TakeFault}
 use Rattle.broker_core.specs.declared.fault.TakeFault.TheVariants as refused
-use Rattle.frames.specs.declared.answer.Answer.{Answer}
-use Rattle.frames.specs.declared.answer.Answer.TheVariants as answers
+use Rattle.frames.specs.declared.answer.BrokerAnswer.{BrokerAnswer}
+use Rattle.frames.specs.declared.answer.BrokerAnswer.TheVariants as answers
 use Rattle.frames.specs.declared.fault.FrameFault.{FrameFault}
 use Rattle.frames.specs.declared.frame.Frame.{Frame}
 use Rattle.frames.specs.declared.frame.Frame.TheVariants as frames
@@ -69,14 +69,14 @@ pub data Unanswered : ConnectionState → Frame → ConnectionState → Type 0 w
       Took old.incoming new.incoming (λ bytes. Gives bytes new.incoming result) → Unanswered old said new
 
 -- a frame was answered by a frame with this body, which is this answer
-pub record IsAnswered (old new : ConnectionState) (said : Frame) (answer : Answer) (body : List ℕ) : Type 0 where
+pub record IsAnswered (old new : ConnectionState) (said : Frame) (answer : BrokerAnswer) (body : List ℕ) : Type 0 where
   pub heard : Frame
   pub exchanged : Exchanged old new said heard
   pub has_body : body_of heard ≡ body
   pub is_told : answer ≡ answer_of heard
 
 -- the answer to a frame, if there is one
-abbrev pub Answers : ConnectionState → Frame → Option Answer → List ℕ → ConnectionState → Type 0
+abbrev pub Answers : ConnectionState → Frame → Option BrokerAnswer → List ℕ → ConnectionState → Type 0
 Answers old said (Some answer) body new = IsAnswered old new said answer body
 Answers old said None body new = Unanswered old said new
 
@@ -87,12 +87,12 @@ abbrev pub post_of : ConnectionState → Reply → Frame
 post_of channel reply = frames.Post channel.generation (reply_text reply)
 
 -- what the answer to a Post says of the reply
-abbrev pub posted_of : Answer → Posted
+abbrev pub posted_of : BrokerAnswer → Posted
 posted_of answers.Posted = post.Done
 posted_of answer = post.Broken
 
 -- why the broker has no more for a channel, if the answer to a Post says so; else what was noted before
-abbrev pub ended_by : Answer → Option TakeFault → Option TakeFault
+abbrev pub ended_by : BrokerAnswer → Option TakeFault → Option TakeFault
 ended_by answers.Ended noted = Some refused.Ended
 ended_by (answers.Stale now) noted = Some (refused.Stale now)
 ended_by answer noted = noted
@@ -130,7 +130,7 @@ abbrev pub Stops : ConnectionState → TakeFault → Taken → ConnectionState �
 Stops old why taken new = (taken ≡ took.Stopped) × (new ≡ record old { ended = Some why })
 
 -- the outcome of the answer to a Take, whose frame has this body
-abbrev pub Hears : ConnectionState → Answer → List ℕ → Taken → ConnectionState → Type 0
+abbrev pub Hears : ConnectionState → BrokerAnswer → List ℕ → Taken → ConnectionState → Type 0
 Hears old answers.Ask body taken new = Serves old body (request_of body) taken new
 Hears old answers.Empty body taken new = (taken ≡ took.Empty) × (new ≡ old)
 Hears old answers.Ended body taken new = Stops old refused.Ended taken new

@@ -1,7 +1,7 @@
 -- What reading a frame takes from a reader, and what it gives. (This project's own.)
 use Rattle.std.specs.Prelude.{◌≡◌, ◌<◌, ℕ, List, [], ◌++◌, length, Option, Some, None, Result, Ok, Err, ⊤}
 use Rattle.std.specs.Io.KnownBytes.{Consumes, IsAtEnd}
-use Rattle.frames.specs.declared.answer.Answer.{Answer}
+use Rattle.frames.specs.declared.answer.BrokerAnswer.{BrokerAnswer}
 use Rattle.frames.specs.declared.fault.FrameFault.{FrameFault}
 use Rattle.frames.specs.declared.fault.FrameFault.TheVariants.{Torn, Read, Write, NoMemory}
 use Rattle.frames.specs.declared.frame.Frame.{Frame}
@@ -54,7 +54,7 @@ GivesKnown (Some all) (Some left) result = GivesFirst all left result
 
 -- What the bytes that were read give as the answer to a Take or a Post: the answer that their frame is, which has this
 -- body; or none or a fault, as for a frame.
-abbrev pub GivesAnswer : List ℕ → Option (List ℕ) → List ℕ → Result (Option Answer) FrameFault → Type 0
+abbrev pub GivesAnswer : List ℕ → Option (List ℕ) → List ℕ → Result (Option BrokerAnswer) FrameFault → Type 0
 GivesAnswer bytes left body (Ok (Some answer)) = IsAnswer bytes body answer
 GivesAnswer bytes left body (Ok None) = (bytes ≡ []) × IsAtEnd left
 GivesAnswer bytes left body (Err fault) = IsFault bytes left fault
@@ -79,6 +79,6 @@ GivesBehind front old new (Ok frame) = Took old new (λ bytes. IsFirst (front ++
 GivesBehind front old new (Err fault) = Took old new (λ bytes. IsFault (front ++ bytes) new fault)
 
 -- the same of an answer whose frame has this body
-abbrev pub AnswersBehind : List ℕ → Option (List ℕ) → Option (List ℕ) → List ℕ → Result Answer FrameFault → Type 0
+abbrev pub AnswersBehind : List ℕ → Option (List ℕ) → Option (List ℕ) → List ℕ → Result BrokerAnswer FrameFault → Type 0
 AnswersBehind front old new body (Ok answer) = Took old new (λ bytes. IsAnswer (front ++ bytes) body answer)
 AnswersBehind front old new body (Err fault) = Took old new (λ bytes. IsFault (front ++ bytes) new fault)

@@ -10,7 +10,7 @@ use crate::reading::read_answer;
 use crate::writing::{write_frame_to, write_post};
 use crate::{Frame, FrameFault};
 use eden_base::NoMemory;
-use frames::Answer;
+use frames::BrokerAnswer;
 use fuse_wire::{MAX_REPLY_LEN, MAX_REQUEST_LEN, Reply, write_reply};
 use std::alloc::Global;
 use std::io::{Read, Write};
@@ -88,7 +88,10 @@ impl FrameRoom {
     }
 
     /// Reads the answer to a Take or a Post, with its body into this room. Returns none if the input has ended.
-    pub(crate) fn read<R: Read>(&mut self, reader: &mut R) -> Result<Option<Answer>, FrameFault>
+    pub(crate) fn read<R: Read>(
+        &mut self,
+        reader: &mut R,
+    ) -> Result<Option<BrokerAnswer>, FrameFault>
         ensures gives { Took (R.remaining reader.old) (R.remaining reader.new)
             (λ bytes. GivesAnswer bytes (R.remaining reader.new) self.new result) }
         ensures memory { IfErr result IsNotMemory }

@@ -7,7 +7,7 @@ ghost use Rattle.frames.specs.Lacking.{lacking};
 ghost use Rattle.links.specs.Reading.{AnswersBehind, Gives, GivesAnswer, GivesBehind, GivesHead, GivesKind, GivesKnown, IsFault, Took};
 
 use crate::{Frame, FrameFault};
-use frames::{Answer, missing};
+use frames::{BrokerAnswer, missing};
 use std::alloc::Global;
 use std::io::{ErrorKind, Read};
 
@@ -213,7 +213,7 @@ fn read_answer_body<R: Read>(
     len: usize,
     left: &mut usize,
     body: &mut Vec<u8>,
-) -> Result<Answer, FrameFault>
+) -> Result<BrokerAnswer, FrameFault>
     requires five { length head.now ≡ 5 }
     requires len { lacking head.now ≡ Ok len }
     requires room { len ≤ vec_capacity body.old }
@@ -222,7 +222,7 @@ fn read_answer_body<R: Read>(
     ensures capacity { vec_capacity body.old ≤ vec_capacity body.new }
 {
     match fill_body(reader, head, len, left, body) {
-        Ok(()) => Answer::of_parts(head, body.as_slice()),
+        Ok(()) => BrokerAnswer::of_parts(head, body.as_slice()),
         Err(fault) => Err(fault),
     }
 }
@@ -233,7 +233,7 @@ fn read_answer_body<R: Read>(
 pub(crate) fn read_answer<R: Read>(
     reader: &mut R,
     body: &mut Vec<u8>,
-) -> Result<Option<Answer>, FrameFault>
+) -> Result<Option<BrokerAnswer>, FrameFault>
     requires room { 65536 ≤ vec_capacity body.old }
     ensures gives { Took (R.remaining reader.old) (R.remaining reader.new)
         (λ bytes. GivesAnswer bytes (R.remaining reader.new) body.new.items result) }

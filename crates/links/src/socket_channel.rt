@@ -6,7 +6,7 @@ ghost use Rattle.links.specs.Channel.{Answers, Hears, Posts, Refuses, Serves, St
 use crate::frame_room::FrameRoom;
 use broker_core::TakeFault;
 use eden_base::{NameRoom, NoMemory};
-use frames::Answer;
+use frames::BrokerAnswer;
 use fuse_wire::{Ask, BatchRoom, Reply, WireFault, fault_reply, read_request, read_request_to};
 use std::alloc::Global;
 use std::io::{Read, Write};
@@ -95,7 +95,7 @@ impl<R: Read, W: Write> SocketChannel<R, W> {
     }
 
     /// Writes a Take and reads the answer. Returns none if either fails.
-    fn ask_next(&mut self) -> Option<Answer>
+    fn ask_next(&mut self) -> Option<BrokerAnswer>
         ensures answers { Answers (state_of R.remaining W.contents self.old)
             (take_of (state_of R.remaining W.contents self.old)) result self.new.frame_room
             (state_of R.remaining W.contents self.new) }
@@ -114,7 +114,7 @@ impl<R: Read, W: Write> SocketChannel<R, W> {
     }
 
     /// Writes the Post of a reply and reads the answer. Returns none if either fails.
-    fn ask_posted(&mut self, reply: &Reply) -> Option<Answer>
+    fn ask_posted(&mut self, reply: &Reply) -> Option<BrokerAnswer>
         ensures answers { Answers (state_of R.remaining W.contents self.old)
             (post_of (state_of R.remaining W.contents self.old) reply.now) result self.new.frame_room
             (state_of R.remaining W.contents self.new) }
@@ -204,16 +204,16 @@ impl<R: Read, W: Write> SocketChannel<R, W> {
     }
 
     /// Takes in the broker's answer to a Take, and returns the result of the `take`.
-    fn hear(&mut self, answer: Answer) -> Taken
+    fn hear(&mut self, answer: BrokerAnswer) -> Taken
         requires rooms { IsSome self.old.rooms }
         ensures hears { Hears (state_of R.remaining W.contents self.old) answer self.old.frame_room result
             (state_of R.remaining W.contents self.new) }
     {
         match answer {
-            Answer::Ask => self.serve(),
-            Answer::Empty => Taken::Empty,
-            Answer::Ended => self.stop(TakeFault::Ended),
-            Answer::Stale { now } => self.stop(TakeFault::Stale(now)),
+            BrokerAnswer::Ask => self.serve(),
+            BrokerAnswer::Empty => Taken::Empty,
+            BrokerAnswer::Ended => self.stop(TakeFault::Ended),
+            BrokerAnswer::Stale { now } => self.stop(TakeFault::Stale(now)),
             _ => Taken::Broken,
         }
     }
@@ -251,22 +251,22 @@ impl<R: Read, W: Write> SocketChannel<R, W> {
 }
 
 /// Returns the result of a `post`, by the broker's answer.
-fn posted_of(answer: Answer) -> Posted
+fn posted_of(answer: BrokerAnswer) -> Posted
     ensures { result ≡ posted_of answer }
 {
     match answer {
-        Answer::Posted => Posted::Done,
+        BrokerAnswer::Posted => Posted::Done,
         _ => Posted::Broken,
     }
 }
 
 /// Returns why the broker has no more for a channel, if its answer to a Post says so; else returns `noted`.
-fn ended_by(answer: Answer, noted: Option<TakeFault>) -> Option<TakeFault>
+fn ended_by(answer: BrokerAnswer, noted: Option<TakeFault>) -> Option<TakeFault>
     ensures { result ≡ ended_by answer noted }
 {
     match answer {
-        Answer::Ended => Some(TakeFault::Ended),
-        Answer::Stale { now } => Some(TakeFault::Stale(now)),
+        BrokerAnswer::Ended => Some(TakeFault::Ended),
+        BrokerAnswer::Stale { now } => Some(TakeFault::Stale(now)),
         _ => noted,
     }
 }

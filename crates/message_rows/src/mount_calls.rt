@@ -22,7 +22,7 @@ use byte_codec::Bytes;
 use eden_base::Number;
 use frames::Frame;
 use fuse_wire::{Ask, Item, MAX_REPLY_LEN, Reply, write_reply};
-use mount_wire::{BatchReader, Message, read_message};
+use mount_wire::{BatchReader, KernelMessage, read_message};
 use row_words::{
     Fault, Told, Words, chosen, read_answer, read_request, tell_answer, tell_request,
     tell_wire_fault,
@@ -97,7 +97,7 @@ fn mount_in(alloc: Global, place: &mut Option<Mount>) -> Result<&mut Mount, Faul
         *place = Some(Mount {
             desk: Desk::new(alloc)?,
             kernel: Kernel::new(alloc)?,
-            peers: [Peer::Stranger; 4],
+            peers: [Peer::Unattached; 4],
         });
     }
     place.as_mut().ok_or(Fault::BadRow)
@@ -174,7 +174,7 @@ fn call_peer(
     match call {
         PeerCall::On => return answer_next(alloc, desk, peer, false, words, told),
         PeerCall::Post => return answer_next(alloc, desk, peer, true, words, told),
-        PeerCall::Connect => *peer = Peer::Stranger,
+        PeerCall::Connect => *peer = Peer::Unattached,
         PeerCall::Leave => desk.leave(*peer),
     }
     told.word("ok");
@@ -257,15 +257,15 @@ fn count(items: BatchReader<'_>) -> u64 {
 }
 
 /// Writes what is left of a message.
-fn tell_left(told: &mut Told, message: Message<'_>) {
+fn tell_left(told: &mut Told, message: KernelMessage<'_>) {
     told.word("leaves");
     match message {
-        Message::Asked(ask) => {
+        KernelMessage::Asked(ask) => {
             told.word("ask");
             told.number(ask.unique);
         }
-        Message::Forgot(_item) => told.number(1),
-        Message::ForgotMany(items) => told.number(count(items)),
+        KernelMessage::Forgot(_item) => told.number(1),
+        KernelMessage::ForgotMany(items) => told.number(count(items)),
         _ => told.word("nothing"),
     }
 }

@@ -7,15 +7,15 @@ use Rattle.fuse_wire.specs.Field.{u32_at, u32_bytes, zeros}
 use Rattle.fuse_wire.specs.ReplyText.{reply_header}
 use Rattle.mount_wire.specs.declared.agreement.Agreement.{Agreement}
 use Rattle.mount_wire.specs.declared.agreement.Agreement.TheVariants.{Version, MajorAlone}
-use Rattle.mount_wire.specs.declared.fault.MountFault.{MountFault}
-use Rattle.mount_wire.specs.declared.fault.MountFault.TheVariants.{BadBody, TooOld}
+use Rattle.mount_wire.specs.declared.fault.KernelMessageFault.{KernelMessageFault}
+use Rattle.mount_wire.specs.declared.fault.KernelMessageFault.TheVariants.{BadBody, TooOld}
 use Rattle.mount_wire.specs.declared.offer.Offer.{Offer}
 use Rattle.mount_wire.specs.Header.{behind_header, unique_of}
 
 -- ---- what a kernel offers
 
 -- the offer in the body of an INIT with this unique: major, minor, max_readahead and flags, in four bytes each
-unfoldable pub offer_in : ℕ → List ℕ → Result Offer MountFault
+unfoldable pub offer_in : ℕ → List ℕ → Result Offer KernelMessageFault
 offer_in unique body =
     if nat_lt (length body) 16 then Err BadBody
     else Ok (record {
@@ -27,7 +27,7 @@ offer_in unique body =
     })
 
 -- the offer of the INIT that the bytes are, or their first fault; 26 is the opcode of INIT
-unfoldable pub offer_of : List ℕ → Result Offer MountFault
+unfoldable pub offer_of : List ℕ → Result Offer KernelMessageFault
 offer_of bytes = unique_of 26 bytes >>= λ unique. offer_in unique (behind_header bytes)
 
 -- ---- what is agreed to
@@ -41,7 +41,7 @@ abbrev pub version_of : Offer → Agreement
 version_of offer = Version (min offer.minor 31) offer.max_readahead (bit_and offer.flags PARALLEL_DIROPS)
 
 -- what is agreed to: major version 7 alone if the kernel's is later, nothing if its version is below 7.12
-unfoldable pub agreement_of : Offer → Result Agreement MountFault
+unfoldable pub agreement_of : Offer → Result Agreement KernelMessageFault
 agreement_of offer =
     if nat_lt 7 offer.major then Ok MajorAlone
     else if nat_lt offer.major 7 || nat_lt offer.minor 12 then Err TooOld
@@ -61,6 +61,6 @@ init_out (Version minor max_readahead flags) =
 init_out MajorAlone = u32_bytes 7 ++ zeros 60
 
 -- the reply with this unique: what was agreed to, or else the error EPROTO, which is 71
-abbrev pub init_reply_text : ℕ → Result Agreement MountFault → List ℕ
+abbrev pub init_reply_text : ℕ → Result Agreement KernelMessageFault → List ℕ
 init_reply_text unique (Ok agreement) = reply_header (16 + length (init_out agreement)) (pos 0) unique ++ init_out agreement
 init_reply_text unique (Err fault) = reply_header 16 (neg_ℤ (pos 71)) unique

@@ -2,6 +2,6 @@ pub mod Batches
 pub mod Header
 pub mod Init
 pub mod Message
-pub mod Owner
+pub mod Responder
 pub mod Statfs
 pub mod Told

@@ -2,7 +2,7 @@
 ghost use Rattle.std.specs.Prelude.{◌≡◌};
 ghost use Rattle.mount_wire.specs.Init.{agreement_of};
 
-use crate::{MountFault, Offer};
+use crate::{KernelMessageFault, Offer};
 
 /// What the program that mounts answers to an offer that it takes.
 #[derive(Clone, Copy, PartialEq, Eq)]
@@ -31,14 +31,14 @@ const PARALLEL_DIROPS: u32 = 1 << 18;
 
 /// Returns what is agreed to where a kernel makes this `offer`, or `TooOld` if its version is below 7.12.
 #[tactic(auto, unfolding(crate::specs::Init::agreement_of))]
-pub fn agree(offer: &Offer) -> Result<Agreement, MountFault>
+pub fn agree(offer: &Offer) -> Result<Agreement, KernelMessageFault>
     ensures agreement { result ≡ agreement_of offer.now }
 {
     if offer.major > MAJOR {
         return Ok(Agreement::MajorAlone);
     }
     if offer.major < MAJOR || offer.minor < LEAST_MINOR {
-        return Err(MountFault::TooOld);
+        return Err(KernelMessageFault::TooOld);
     }
     Ok(Agreement::Version {
         minor: offer.minor.min(GREATEST_MINOR),

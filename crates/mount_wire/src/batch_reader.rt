@@ -3,7 +3,7 @@ ghost use Rattle.std.specs.Prelude.{◌≡◌, ◌≤◌, ◌+◌, drop, length,
 ghost use Rattle.fuse_wire.specs.RequestBody.{item_at};
 ghost use Rattle.mount_wire.specs.Batches.{forgotten_of, items_in};
 
-use crate::MountFault;
+use crate::KernelMessageFault;
 use crate::field::{u32_at, u64_at};
 use crate::header::{RequestHeader, read_unique};
 use crate::opcode::BATCH_FORGET;
@@ -41,7 +41,7 @@ impl<'a> BatchReader<'a> {
     /// Makes a reader before the first item of the BATCH_FORGET that `bytes` are. Returns the first fault of the header,
     /// `BadBody` if the count is cut, or `BadCount` if the length isn't that of the count.
     #[tactic(auto, unfolding(crate::specs::Batches::forgotten_of))]
-    pub fn of(bytes: &'a [u8]) -> Result<BatchReader<'a>, MountFault>
+    pub fn of(bytes: &'a [u8]) -> Result<BatchReader<'a>, KernelMessageFault>
         ensures exact { result ≡ forgotten_of bytes.now }
     {
         read_unique(BATCH_FORGET, bytes)?;
@@ -51,15 +51,15 @@ impl<'a> BatchReader<'a> {
 
     /// Makes a reader before the first item in the `body` of a BATCH_FORGET.
     #[tactic(auto, unfolding(crate::specs::Batches::items_in))]
-    fn in_body(body: &'a [u8]) -> Result<BatchReader<'a>, MountFault>
+    fn in_body(body: &'a [u8]) -> Result<BatchReader<'a>, KernelMessageFault>
         ensures { result ≡ items_in body.now }
     {
         if body.len() < BatchReader::FIXED_LEN {
-            return Err(MountFault::BadBody);
+            return Err(KernelMessageFault::BadBody);
         }
         let count = u32_at(body, 0) as usize;
         if body.len() != BatchReader::FIXED_LEN + BatchReader::ITEM_LEN * count {
-            return Err(MountFault::BadCount);
+            return Err(KernelMessageFault::BadCount);
         }
         let (_, bytes) = body.split_at(BatchReader::FIXED_LEN);
         Ok(BatchReader { count, bytes })

@@ -3,7 +3,7 @@ use thiserror::Error;
 
 /// Why a kernel's message isn't taken. If several variants apply, the first in this order is the fault.
 #[derive(Clone, Copy, Debug, PartialEq, Eq, Error)]
-pub enum MountFault {
+pub enum KernelMessageFault {
     #[error("the header is cut")]
     Short,
     #[error("the length in the header is another")]

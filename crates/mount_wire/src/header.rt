@@ -2,7 +2,7 @@
 ghost use Rattle.std.specs.Prelude.{◌≡◌, ◌≤◌, length, OnOk};
 ghost use Rattle.mount_wire.specs.Header.{header_of, unique_of};
 
-use crate::MountFault;
+use crate::KernelMessageFault;
 use crate::field::{u32_at, u64_at};
 
 /// The opcode of a request, and the `unique` that its reply has (`struct fuse_in_header` of `linux/fuse.h`).
@@ -26,15 +26,15 @@ impl RequestHeader {
 /// Reads the header of the whole request `bytes`. Returns `Short` if `bytes` have no whole header, and `BadLength` if
 /// the length in the header is not that of `bytes`.
 #[tactic(auto, unfolding(crate::specs::Header::header_of))]
-pub fn read_header(bytes: &[u8]) -> Result<RequestHeader, MountFault>
+pub fn read_header(bytes: &[u8]) -> Result<RequestHeader, KernelMessageFault>
     ensures exact { result ≡ header_of bytes.now }
     ensures whole { OnOk result (40 ≤ length bytes.now) }
 {
     if bytes.len() < RequestHeader::LEN {
-        return Err(MountFault::Short);
+        return Err(KernelMessageFault::Short);
     }
     if u32_at(bytes, 0) as usize != bytes.len() {
-        return Err(MountFault::BadLength);
+        return Err(KernelMessageFault::BadLength);
     }
     Ok(RequestHeader {
         opcode: u32_at(bytes, RequestHeader::OPCODE),
@@ -44,13 +44,13 @@ pub fn read_header(bytes: &[u8]) -> Result<RequestHeader, MountFault>
 
 /// Returns the unique of the request `bytes`, which must have this `opcode`. Returns `BadOpcode` if it has another.
 #[tactic(auto, unfolding(crate::specs::Header::unique_of))]
-pub(crate) fn read_unique(opcode: u32, bytes: &[u8]) -> Result<u64, MountFault>
+pub(crate) fn read_unique(opcode: u32, bytes: &[u8]) -> Result<u64, KernelMessageFault>
     ensures exact { result ≡ unique_of opcode bytes.now }
     ensures whole { OnOk result (40 ≤ length bytes.now) }
 {
     let header = read_header(bytes)?;
     if header.opcode != opcode {
-        return Err(MountFault::BadOpcode);
+        return Err(KernelMessageFault::BadOpcode);
     }
     Ok(header.unique)
 }

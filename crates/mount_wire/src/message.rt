@@ -9,8 +9,8 @@ ghost use Rattle.mount_wire.specs.Message.{init_message, many_message, read_mess
 use crate::opcode::BATCH_FORGET;
 use crate::told_answer::tell_reply;
 use crate::{
-    BatchReader, Owner, ReplyBytes, answer_init, answer_statfs, owner_of, read_header, read_offer,
-    tell_error,
+    BatchReader, ReplyBytes, Responder, answer_init, answer_statfs, read_header, read_offer,
+    responder_of, tell_error,
 };
 use eden_base::Errno;
 use fuse_wire::{Ask, Item, WireFault, fault_reply, read_request};
@@ -18,7 +18,7 @@ use std::alloc::Global;
 
 /// What a kernel's message comes to.
 #[derive(Drop)]
-pub enum Message<'a> {
+pub enum KernelMessage<'a> {
     /// The program that mounts answers with these bytes, and asks no daemon.
     Answered(ReplyBytes),
     /// A daemon is asked. The reply has the unique of this ask.
@@ -33,48 +33,48 @@ pub enum Message<'a> {
 
 /// Reads the kernel's message `bytes`. Takes memory for an ask's names, and answers ENOMEM if that is refused.
 #[tactic(auto, unfolding(crate::specs::Message::message_of))]
-pub fn read_message(alloc: Global, bytes: &[u8]) -> Message<'_>
+pub fn read_message(alloc: Global, bytes: &[u8]) -> KernelMessage<'_>
     ensures reads { Reads bytes.now result }
     ensures for_daemons { IsForDaemons result }
 {
     let Ok(header) = read_header(bytes) else {
-        return Message::Ignored;
+        return KernelMessage::Ignored;
     };
-    match owner_of(header.opcode) {
-        Owner::Init => init_message(header.unique, bytes),
-        Owner::Statfs => Message::Answered(answer_statfs(header.unique)),
-        Owner::Allowed | Owner::Refused => Message::Answered(tell_error(
+    match responder_of(header.opcode) {
+        Responder::Init => init_message(header.unique, bytes),
+        Responder::Statfs => KernelMessage::Answered(answer_statfs(header.unique)),
+        Responder::Allowed | Responder::Refused => KernelMessage::Answered(tell_error(
             header.unique,
             Errno::ENOSYS,
         )),
-        Owner::Nobody => Message::Ignored,
-        Owner::Daemon if header.opcode == BATCH_FORGET => many_message(bytes),
-        Owner::Daemon => daemon_message(alloc, bytes),
+        Responder::Nobody => KernelMessage::Ignored,
+        Responder::Daemon if header.opcode == BATCH_FORGET => many_message(bytes),
+        Responder::Daemon => daemon_message(alloc, bytes),
     }
 }
 
 /// Answers the INIT that `bytes` are, whose header has this `unique`.
-fn init_message<'a>(unique: u64, bytes: &'a [u8]) -> Message<'a>
+fn init_message<'a>(unique: u64, bytes: &'a [u8]) -> KernelMessage<'a>
     ensures init { result ≡ init_message unique (offer_of bytes.now) }
 {
     match read_offer(bytes) {
-        Ok(offer) => Message::Answered(answer_init(&offer)),
-        Err(_fault) => Message::Answered(tell_error(unique, Errno::EINVAL)),
+        Ok(offer) => KernelMessage::Answered(answer_init(&offer)),
+        Err(_fault) => KernelMessage::Answered(tell_error(unique, Errno::EINVAL)),
     }
 }
 
 /// Reads the BATCH_FORGET that `bytes` are.
-fn many_message(bytes: &[u8]) -> Message<'_>
+fn many_message(bytes: &[u8]) -> KernelMessage<'_>
     ensures many { result ≡ many_message (forgotten_of bytes.now) }
 {
     match BatchReader::of(bytes) {
-        Ok(items) => Message::ForgotMany(items),
-        Err(_fault) => Message::Ignored,
+        Ok(items) => KernelMessage::ForgotMany(items),
+        Err(_fault) => KernelMessage::Ignored,
     }
 }
 
 /// Reads a request of an opcode that daemons answer, but for a BATCH_FORGET.
-fn daemon_message<'a>(alloc: Global, bytes: &'a [u8]) -> Message<'a>
+fn daemon_message<'a>(alloc: Global, bytes: &'a [u8]) -> KernelMessage<'a>
     requires no_batch { IsNoBatch bytes.now }
     ensures reads { ReadsFor bytes.now result }
     ensures for_daemons { IsForDaemons result }
@@ -86,26 +86,26 @@ fn daemon_message<'a>(alloc: Global, bytes: &'a [u8]) -> Message<'a>
 }
 
 /// Returns the message of a request that was read.
-fn asked_message<'a>(ask: Ask) -> Message<'a>
+fn asked_message<'a>(ask: Ask) -> KernelMessage<'a>
     requires sendable { IsSendable ask.what }
     ensures read { result ≡ read_message ask }
     ensures for_daemons { IsForDaemons result }
 {
     if ask.what.is_ask() {
-        return Message::Asked(ask);
+        return KernelMessage::Asked(ask);
     }
     match ask.what.item() {
-        Some(item) => Message::Forgot(item),
-        None => Message::Ignored,
+        Some(item) => KernelMessage::Forgot(item),
+        None => KernelMessage::Ignored,
     }
 }
 
 /// Answers the request `bytes` that was refused by `fault`, unless it is a forget.
-fn refused_message<'a>(bytes: &'a [u8], fault: &WireFault) -> Message<'a>
+fn refused_message<'a>(bytes: &'a [u8], fault: &WireFault) -> KernelMessage<'a>
     ensures refused { result ≡ refused_message (fault_reply_of bytes.now fault.now) }
 {
     match fault_reply(bytes, fault) {
-        Some(reply) => Message::Answered(tell_reply(&reply)),
-        None => Message::Ignored,
+        Some(reply) => KernelMessage::Answered(tell_reply(&reply)),
+        None => KernelMessage::Ignored,
     }
 }

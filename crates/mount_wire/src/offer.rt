@@ -2,7 +2,7 @@
 ghost use Rattle.std.specs.Prelude.{◌≡◌};
 ghost use Rattle.mount_wire.specs.Init.{offer_in, offer_of};
 
-use crate::MountFault;
+use crate::KernelMessageFault;
 use crate::field::u32_at;
 use crate::header::{RequestHeader, read_unique};
 use crate::opcode::INIT;
@@ -38,7 +38,7 @@ impl Offer {
 /// Reads the INIT that `bytes` are. Returns the first fault of the header, or `BadBody` if fewer than 16 bytes follow
 /// it. Later fields are ignored: a kernel since 7.36 sends `flags2` and 44 unused bytes.
 #[tactic(auto, unfolding(crate::specs::Init::offer_of))]
-pub fn read_offer(bytes: &[u8]) -> Result<Offer, MountFault>
+pub fn read_offer(bytes: &[u8]) -> Result<Offer, KernelMessageFault>
     ensures exact { result ≡ offer_of bytes.now }
 {
     let unique = read_unique(INIT, bytes)?;
@@ -48,11 +48,11 @@ pub fn read_offer(bytes: &[u8]) -> Result<Offer, MountFault>
 
 /// Reads the fields of the INIT with this `unique` from its `body`.
 #[tactic(auto, unfolding(crate::specs::Init::offer_in))]
-fn offer_in(unique: u64, body: &[u8]) -> Result<Offer, MountFault>
+fn offer_in(unique: u64, body: &[u8]) -> Result<Offer, KernelMessageFault>
     ensures { result ≡ offer_in unique body.now }
 {
     if body.len() < Offer::LEN {
-        return Err(MountFault::BadBody);
+        return Err(KernelMessageFault::BadBody);
     }
     Ok(Offer {
         unique,

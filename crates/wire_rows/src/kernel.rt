@@ -1,16 +1,16 @@
 //! Messages of a kernel, and what it is told.
 //!
-//! `kernel header BYTES`: OPCODE UNIQUE; `kernel owner OPCODE`; `kernel offer BYTES`: UNIQUE MAJOR MINOR READAHEAD FLAGS;
-//! `kernel agree BYTES`: MINOR READAHEAD FLAGS of what is agreed to that offer, or `MajorAlone`;
+//! `kernel header BYTES`: OPCODE UNIQUE; `kernel responder OPCODE`; `kernel agree BYTES`: MINOR READAHEAD FLAGS of what
+//! is agreed to that offer, or `MajorAlone`; `kernel offer BYTES`: UNIQUE MAJOR MINOR READAHEAD FLAGS;
 //! `kernel init BYTES`: the bytes of the reply to it; `kernel statfs UNIQUE`: the bytes of the reply;
 //! `kernel items BYTES`: the items of a batch of forgets, each as the 16 bytes that it has there;
 //! `kernel read BYTES`: what becomes of a message: `asked UNIQUE REQUEST`, `forgot N K`, `forgot_many`, `ignored`, or the
 //! bytes of a reply; `kernel error UNIQUE ERRNO`, `kernel tell UNIQUE SECONDS NANOSECONDS USER GROUP ANSWER`: the bytes of
 //! that reply.
 use mount_wire::{
-    Agreement, BatchReader, FileOwner, Message, MountAttributes, MountFault, MountTime, Offer,
-    Owner, RequestHeader, agree, answer_init, answer_statfs, owner_of, read_header, read_message,
-    read_offer, tell_answer, tell_error,
+    Agreement, BatchReader, FileOwner, KernelMessage, KernelMessageFault, MountAttributes,
+    MountTime, Offer, RequestHeader, Responder, agree, answer_init, answer_statfs, read_header,
+    read_message, read_offer, responder_of, tell_answer, tell_error,
 };
 use row_words::{
     Fault, Told, Words, chosen, read_answer, read_errno, read_u32, tell_items, tell_request,
@@ -20,14 +20,14 @@ use std::alloc::Global;
 /// The calls that have numbers.
 #[derive(Clone, Copy)]
 enum KernelCall {
-    Owner,
+    Responder,
     Statfs,
     Error,
     Tell,
 }
 
 static KERNEL_CALLS: [(&str, KernelCall); 4] = [
-    ("owner", KernelCall::Owner),
+    ("responder", KernelCall::Responder),
     ("statfs", KernelCall::Statfs),
     ("error", KernelCall::Error),
     ("tell", KernelCall::Tell),
@@ -40,26 +40,26 @@ const MOST_ITEMS: usize = 1 << 16;
 const NO_MEMORY: [u8; 4] = [0xf4, 0xff, 0xff, 0xff];
 
 /// Returns how a fault is spelled.
-fn fault_name(fault: MountFault) -> &'static str {
+fn fault_name(fault: KernelMessageFault) -> &'static str {
     match fault {
-        MountFault::Short => "Short",
-        MountFault::BadLength => "BadLength",
-        MountFault::BadOpcode => "BadOpcode",
-        MountFault::BadBody => "BadBody",
-        MountFault::BadCount => "BadCount",
-        MountFault::TooOld => "TooOld",
+        KernelMessageFault::Short => "Short",
+        KernelMessageFault::BadLength => "BadLength",
+        KernelMessageFault::BadOpcode => "BadOpcode",
+        KernelMessageFault::BadBody => "BadBody",
+        KernelMessageFault::BadCount => "BadCount",
+        KernelMessageFault::TooOld => "TooOld",
     }
 }
 
-/// Returns how an owner is spelled.
-fn owner_name(owner: Owner) -> &'static str {
-    match owner {
-        Owner::Init => "Init",
-        Owner::Statfs => "Statfs",
-        Owner::Allowed => "Allowed",
-        Owner::Refused => "Refused",
-        Owner::Nobody => "Nobody",
-        Owner::Daemon => "Daemon",
+/// Returns how a responder is spelled.
+fn responder_name(responder: Responder) -> &'static str {
+    match responder {
+        Responder::Init => "Init",
+        Responder::Statfs => "Statfs",
+        Responder::Allowed => "Allowed",
+        Responder::Refused => "Refused",
+        Responder::Nobody => "Nobody",
+        Responder::Daemon => "Daemon",
     }
 }
 
@@ -147,23 +147,23 @@ fn call_items(alloc: Global, bytes: &[u8], told: &mut Told) -> Result<(), Fault>
 /// Reads the message in `bytes`. A message that is answered ENOMEM was refused memory.
 fn call_read(alloc: Global, bytes: &[u8], told: &mut Told) -> Result<(), Fault> {
     match read_message(alloc, bytes) {
-        Message::Answered(reply) => {
+        KernelMessage::Answered(reply) => {
             if reply.as_slice().get(4..8) == Some(NO_MEMORY.as_slice()) {
                 return Err(Fault::NoMemory);
             }
             told.bytes(reply.as_slice());
         }
-        Message::Asked(ask) => {
+        KernelMessage::Asked(ask) => {
             told.word("asked");
             told.number(ask.unique);
             tell_request(told, &ask.what);
         }
-        Message::Forgot(item) => {
+        KernelMessage::Forgot(item) => {
             told.word("forgot");
             tell_items(told, &[item]);
         }
-        Message::ForgotMany(_) => told.word("forgot_many"),
-        Message::Ignored => told.word("ignored"),
+        KernelMessage::ForgotMany(_) => told.word("forgot_many"),
+        KernelMessage::Ignored => told.word("ignored"),
     }
     Ok(())
 }
@@ -214,7 +214,7 @@ fn call_tell(words: &mut Words<'_>, told: &mut Told) -> Result<(), Fault> {
 pub(crate) fn call_kernel(words: &mut Words<'_>, told: &mut Told) -> Result<(), Fault> {
     let word = words.word();
     match chosen(&KERNEL_CALLS, word) {
-        Some(KernelCall::Owner) => told.word(owner_name(owner_of(read_u32(words)))),
+        Some(KernelCall::Responder) => told.word(responder_name(responder_of(read_u32(words)))),
         Some(KernelCall::Statfs) => told.bytes(answer_statfs(words.number()).as_slice()),
         Some(KernelCall::Error) => {
             let unique = words.number();

@@ -13,7 +13,7 @@ use broker_desk::{Delivered, Progress, Response};
 use fuse_wire::{Answer, Reply};
 use links::Frame;
 use monitor::Look;
-use mount_wire::Message;
+use mount_wire::KernelMessage;
 use std::rt::Clock;
 use std::sync::Wait;
 use std::time::{Duration, Instant};
@@ -150,14 +150,14 @@ impl SharedDesk {
     pub(crate) fn hear_kernel<'a, R: Wait + Clock>(
         &self,
         rt: &R,
-        message: Message<'a>,
+        message: KernelMessage<'a>,
     ) -> Progress<'a>
         requires for_daemons { IsForDaemons message }
         ensures heard { IsHeard message.entry result }
         ensures for_daemons { LeavesForDaemons result }
     {
         let now = Instant::now(rt).ok();
-        let is_ask = matches!(message, Message::Asked(_));
+        let is_ask = matches!(message, KernelMessage::Asked(_));
         let mut state = self.state.lock(rt);
         let State { desk, kernel, .. } = &mut *state;
         let progress = kernel.hear(desk, message);

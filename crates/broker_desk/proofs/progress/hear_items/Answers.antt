@@ -1,7 +1,7 @@
 use Rattle.std.proofs.Common.{◌≡◌, List, Some, slice_get, refl, sym, subst, ◌∙◌}
 use Rattle.fuse_wire.specs.declared.item.Item.{Item}
 use Rattle.broker_desk.specs.Desk.{DeskState}
-use Rattle.mount_wire.specs.declared.message.Message.TheVariants.{ForgotMany}
+use Rattle.mount_wire.specs.declared.message.KernelMessage.TheVariants.{ForgotMany}
 use Rattle.broker_desk.specs.Progress.{HearsItems}
 use Rattle.broker_desk.specs.declared.progress.Progress.{Progress}
 use Rattle.broker_desk.specs.declared.progress.Progress.TheVariants.{Done, Leaves, NotMounted}

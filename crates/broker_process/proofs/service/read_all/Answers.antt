@@ -1,7 +1,7 @@
 use Rattle.std.proofs.Common.{List, ℕ, Option, Result, Ok, Err, inl, refl}
 use Rattle.broker_process.specs.declared.device.Taken.TheVariants as taken
-use Rattle.broker_process.specs.declared.fault.MountFault.{MountFault}
-use Rattle.broker_process.specs.declared.fault.MountFault.TheVariants.{Broken}
+use Rattle.broker_process.specs.declared.fault.MountRunFault.{MountRunFault}
+use Rattle.broker_process.specs.declared.fault.MountRunFault.TheVariants.{Broken}
 use Rattle.broker_process.specs.declared.service.MountEnd.{MountEnd}
 use Rattle.broker_process.specs.declared.service.MountEnd.TheVariants.{Unmounted, Dead}
 use Rattle.broker_process.proofs.ServingSteps.{read_before, read_last}
@@ -19,12 +19,12 @@ returns-in-Refused g c = record {
 
 pub loop-preserved-in-GoesOn : goal.loop-preserved-in-GoesOn
 loop-preserved-in-GoesOn g c =
-    λ (ended : Result MountEnd MountFault). λ (left_then : Option (List ℕ)). λ (told_then : Option (List ℕ)). λ rest.
+    λ (ended : Result MountEnd MountRunFault). λ (left_then : Option (List ℕ)). λ (told_then : Option (List ℕ)). λ rest.
     c.loop.invariant ended left_then told_then (read_before (taken.Message c.in-Message.message) ended _ _ _ _ left_then told_then c.in-Message.ensures.takes c.in-GoesOn.ensures.handles rest)
 
 pub loop-preserved : goal.loop-preserved
 loop-preserved g c =
-    λ (ended : Result MountEnd MountFault). λ (left_then : Option (List ℕ)). λ (told_then : Option (List ℕ)). λ rest.
+    λ (ended : Result MountEnd MountRunFault). λ (left_then : Option (List ℕ)). λ (told_then : Option (List ℕ)). λ rest.
     c.loop.invariant ended left_then told_then (read_before taken.Again ended _ _ _ _ left_then told_then c.in-Again.ensures.takes refl rest)
 
 pub returns-in-Unmounted : goal.returns-in-Unmounted

@@ -1,6 +1,6 @@
 //! Who answers a kernel's request.
 ghost use Rattle.std.specs.Prelude.{◌≡◌};
-ghost use Rattle.mount_wire.specs.Owner.{is_kind, owner_of};
+ghost use Rattle.mount_wire.specs.Responder.{is_kind, responder_of};
 
 use crate::opcode::{
     ACCESS, DESTROY, FLUSH, FSYNC, FSYNCDIR, INIT, INTERRUPT, OPEN, OPENDIR, RELEASE, RELEASEDIR,
@@ -11,7 +11,7 @@ use fuse_wire::Request;
 
 /// Who answers a request of a kernel. All but `Daemon` are the program that mounts.
 #[derive(Clone, Copy, PartialEq, Eq)]
-pub enum Owner {
+pub enum Responder {
     /// The program, by `answer_init`.
     Init,
     /// The program, by `answer_statfs`.
@@ -34,16 +34,17 @@ fn is_kind(opcode: u32) -> bool
 }
 
 /// Returns who answers a request with this `opcode`.
-#[tactic(auto, unfolding(crate::specs::Owner::owner_of))]
-pub fn owner_of(opcode: u32) -> Owner
-    ensures owner { result ≡ owner_of opcode }
+#[tactic(auto, unfolding(crate::specs::Responder::responder_of))]
+pub fn responder_of(opcode: u32) -> Responder
+    ensures responder { result ≡ responder_of opcode }
 {
     match opcode {
-        _ if is_kind(opcode) => Owner::Daemon,
-        INIT => Owner::Init,
-        STATFS => Owner::Statfs,
-        OPEN | RELEASE | FSYNC | FLUSH | OPENDIR | RELEASEDIR | FSYNCDIR | ACCESS => Owner::Allowed,
-        INTERRUPT | DESTROY => Owner::Nobody,
-        _ => Owner::Refused,
+        _ if is_kind(opcode) => Responder::Daemon,
+        INIT => Responder::Init,
+        STATFS => Responder::Statfs,
+        OPEN | RELEASE | FSYNC | FLUSH | OPENDIR | RELEASEDIR | FSYNCDIR | ACCESS =>
+            Responder::Allowed,
+        INTERRUPT | DESTROY => Responder::Nobody,
+        _ => Responder::Refused,
     }
 }

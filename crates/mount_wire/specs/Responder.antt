@@ -2,8 +2,8 @@
 -- only tells a file system: it then opens and syncs by itself, and doesn't tell again (fs/fuse/file.c, dir.c of Linux).
 use Rattle.std.specs.Prelude.{ℕ, ◌==◌, ◌||◌, Bool, is_none, if◌then◌else◌}
 use Rattle.fuse_wire.specs.Request.{other_of}
-use Rattle.mount_wire.specs.declared.owner.Owner.{Owner}
-use Rattle.mount_wire.specs.declared.owner.Owner.TheVariants.{Init, Statfs, Allowed, Refused, Nobody, Daemon}
+use Rattle.mount_wire.specs.declared.responder.Responder.{Responder}
+use Rattle.mount_wire.specs.declared.responder.Responder.TheVariants.{Init, Statfs, Allowed, Refused, Nobody, Daemon}
 
 -- OPEN, RELEASE, FSYNC, FLUSH, OPENDIR, RELEASEDIR, FSYNCDIR, ACCESS
 abbrev pub is_allowed : ℕ → Bool
@@ -19,8 +19,8 @@ is_kind n = is_none (other_of n (record { 0 = 1 }))
 
 -- Who answers a request with this opcode: a daemon exactly where it is that of a kind. Of the others 26 is INIT and 17
 -- is STATFS, and every opcode that isn't named is refused.
-unfoldable pub owner_of : ℕ → Owner
-owner_of n =
+unfoldable pub responder_of : ℕ → Responder
+responder_of n =
     if is_kind n then Daemon
     else if n == 26 then Init
     else if n == 17 then Statfs
