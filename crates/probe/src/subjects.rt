@@ -55,7 +55,9 @@ impl Subjects {
             b"broker" | b"desk" | b"frames" | b"mount" | b"node" => {
                 self.messages.call(alloc, subject, words, told)
             }
-            b"keys" | b"manifest" | b"tree" | b"map" => self.trees.call(subject, words, told),
+            b"keys" | b"index" | b"manifest" | b"tree" | b"map" => {
+                self.trees.call(subject, words, told)
+            }
             b"served" | b"backing" | b"image" => self.served.call(subject, words, told),
             _ => Err(Fault::BadRow),
         }

@@ -3,9 +3,8 @@
 //! Tells how many numbers it put. `keys remove_odd COUNT STEP`: removes those of odd I, and tells how many.
 //! `keys right COUNT STEP`: how many keys have their number.
 //! `keys right_even COUNT STEP`: how many keys have their number if I is even, and none if I is odd.
-//! `keys key NUMBER BYTES`: the key of a number and of bytes, in hexadecimal digits.
 use crate::{Done, Trees};
-use key_map::{KeyMap, key_of};
+use key_map::KeyMap;
 use row_words::{Fault, Told, Words};
 use std::alloc::Global;
 
@@ -45,15 +44,6 @@ fn gone_over(alloc: Global, map: &mut KeyMap, word: &[u8], count: u64, step: u64
     found
 }
 
-/// Tells the key of a number and bytes.
-fn key(words: &mut Words<'_>, told: &mut Told) -> Done {
-    let number = words.number();
-    let bytes = words.bytes();
-    words.end()?;
-    told.hex(&key_of(number, bytes.as_slice()).to_be_bytes());
-    Ok(())
-}
-
 /// Makes a call with a count and a step.
 fn go_over(trees: &mut Trees, word: &[u8], words: &mut Words<'_>, told: &mut Told) -> Done {
     let count = words.number();
@@ -68,7 +58,6 @@ fn go_over(trees: &mut Trees, word: &[u8], words: &mut Words<'_>, told: &mut Tol
 pub(crate) fn call(trees: &mut Trees, words: &mut Words<'_>, told: &mut Told) -> Done {
     match words.word() {
         b"new" => new(trees, words, told),
-        b"key" => key(words, told),
         word => go_over(trees, word, words, told),
     }
 }

@@ -1,14 +1,17 @@
-//! Calls of `keys`, `manifest`, `tree` and `map`: the values that a case keeps of them, and the words that they share.
+//! Calls of `keys`, `index`, `manifest`, `tree` and `map`: the values that a case keeps of them, and the words that they share.
 #![tactic(auto)]
 
 mod changes;
+mod index;
 mod keys;
+mod known;
 mod manifests;
 mod map;
 mod moves;
 mod numbers;
 mod tree;
 
+use crate::known::KnownIndex;
 use checkout::Tree;
 use eden_base::{Attr, FileId, Kind, Name, Perm};
 use inode_map::InodeMap;
@@ -21,13 +24,15 @@ use std::alloc::Global;
 #[derive(Clone, Copy)]
 enum Subject {
     Keys,
+    Index,
     Manifest,
     Tree,
     Map,
 }
 
-static SUBJECTS: [(&str, Subject); 4] = [
+static SUBJECTS: [(&str, Subject); 5] = [
     ("keys", Subject::Keys),
+    ("index", Subject::Index),
     ("manifest", Subject::Manifest),
     ("tree", Subject::Tree),
     ("map", Subject::Map),
@@ -40,6 +45,7 @@ pub type Done = Result<(), Fault>;
 pub struct Trees {
     alloc: Global,
     keys: Option<KeyMap>,
+    index: Option<KnownIndex>,
     manifest: Option<Manifest>,
     tree: Option<Tree>,
     map: Option<InodeMap>,
@@ -50,6 +56,7 @@ impl Drop for Trees {
         let Trees {
             alloc: _,
             keys: _,
+            index: _,
             manifest: _,
             tree: _,
             map: _,
@@ -63,6 +70,7 @@ impl Trees {
         Trees {
             alloc,
             keys: None,
+            index: None,
             manifest: None,
             tree: None,
             map: None,
@@ -73,6 +81,7 @@ impl Trees {
     pub fn call(&mut self, subject: &[u8], words: &mut Words<'_>, told: &mut Told) -> Done {
         match chosen(&SUBJECTS, subject).ok_or(Fault::BadRow)? {
             Subject::Keys => keys::call(self, words, told),
+            Subject::Index => index::call(self, words, told),
             Subject::Manifest => manifests::call(self, words, told),
             Subject::Tree => tree::call(self, words, told),
             Subject::Map => map::call(self, words, told),
