@@ -1,8 +1,9 @@
 //! The end of a mount's connection, which the kernel does at once, wherever the mount stands by then.
+use crate::system_command::SystemCommand;
 use std::alloc::Global;
 use std::fs::{File, OpenOptions};
 use std::io::{self, Write};
-use std::process::{Command, Processes, Stdio};
+use std::process::{Processes, Stdio};
 use std::rt::Files;
 use std::str;
 
@@ -62,25 +63,32 @@ fn open_abort<R: Files<File = File> + Processes>(
 
 /// Returns the numbers of the device that a mount is, as `findmnt` prints them: `0:53` with spaces round it.
 fn device_of<R: Processes>(rt: &R, alloc: Global, source: &str) -> io::Result<Vec<u8>> {
-    let mut command = Command::new(alloc, "findmnt")?;
-    command.args(["-cno", "MAJ:MIN", "-S", source])?;
-    Ok(command.output(rt)?.stdout)
+    let command = SystemCommand {
+        program: "findmnt",
+        words: &["-cno", "MAJ:MIN", "-S", source],
+        is_quiet: true,
+    };
+    Ok(command.run(rt, alloc, Stdio::null())?.stdout)
 }
 
 /// Mounts the kernel's file system of connections, as some systems do only at need.
 fn show_connections<R: Processes>(rt: &R, alloc: Global) -> io::Result<()> {
-    let mut command = Command::new(alloc, "mount")?;
-    command.args(["-t", "fusectl", "fusectl", CONNECTIONS])?;
-    let _status = command.stderr(Stdio::null()).status(rt)?;
+    let command = SystemCommand {
+        program: "mount",
+        words: &["-t", "fusectl", "fusectl", CONNECTIONS],
+        is_quiet: true,
+    };
+    let _succeeds = command.succeeds(rt, alloc)?;
     Ok(())
 }
 
 /// Starts a child that looks at `mountpoint`. Nobody waits for it, since that look may wait for long.
 fn look_from_a_child<R: Processes>(rt: &R, alloc: Global, mountpoint: &str) -> io::Result<()> {
-    let mut command = Command::new(alloc, "stat")?;
-    command.args(["--", mountpoint])?;
-    command.stdin(Stdio::null());
-    command.stdout(Stdio::null());
-    let _child = command.stderr(Stdio::null()).spawn(rt)?;
+    let command = SystemCommand {
+        program: "stat",
+        words: &["--", mountpoint],
+        is_quiet: true,
+    };
+    let _child = command.start(rt, alloc, Stdio::null())?;
     Ok(())
 }

@@ -2,12 +2,13 @@
 ghost use Rattle.std.specs.Prelude.{◌≡◌};
 ghost use Rattle.broker_process.specs.Device.{Gives, Takes, given_by, refused_by, taken_by};
 
+use crate::system_command::SystemCommand;
 use mount_wire::FileOwner;
 use std::alloc::Global;
 use std::fs::{self, File, OpenOptions};
 use std::io::{self, ErrorKind, Read, Write};
 use std::os::unix::fs::MetadataExt;
-use std::process::{Command, Processes, Stdio};
+use std::process::{Processes, Stdio};
 use std::rt::Files;
 
 /// The file by which a kernel and a file system talk.
@@ -83,11 +84,14 @@ pub(crate) fn mount<R: Processes>(
     source: &str,
     mountpoint: &str,
 ) -> io::Result<()> {
+    let command = SystemCommand {
+        program: "mount",
+        words: &["-i", "-t", "fuse", "-o", OPTIONS, source, mountpoint],
+        is_quiet: false,
+    };
     let input = device.try_clone()?;
-    let mut command = Command::new(alloc, "mount")?;
-    command.args(["-i", "-t", "fuse", "-o", OPTIONS, source, mountpoint])?;
-    let status = command.stdin(input).status(rt)?;
-    if status.success() {
+    let output = command.run(rt, alloc, Stdio::from(input))?;
+    if output.status.success() {
         return Ok(());
     }
     Err(io::Error::from(ErrorKind::Other))
@@ -106,10 +110,12 @@ pub(crate) fn check_place<R: Processes + Files>(
     alloc: Global,
     mountpoint: &str,
 ) -> io::Result<()> {
-    let mut command = Command::new(alloc, "sh")?;
-    command.args(["-c", FIND_LIVING, "sh", mountpoint])?;
-    command.stderr(Stdio::null());
-    if !command.status(rt)?.success() {
+    let find_living = SystemCommand {
+        program: "sh",
+        words: &["-c", FIND_LIVING, "sh", mountpoint],
+        is_quiet: true,
+    };
+    if !find_living.succeeds(rt, alloc)? {
         return Err(io::Error::from(ErrorKind::ResourceBusy));
     }
     clear_dead_mount(rt, alloc, mountpoint)?;
@@ -129,9 +135,12 @@ pub(crate) fn clear_dead_mount<R: Processes + Files>(
         Err(error) if error.raw_os_error() == Some(ENOTCONN) => {}
         _ => return Ok(()),
     }
-    let mut command = Command::new(alloc, "umount")?;
-    command.args(["-i", "-l", mountpoint])?;
-    let _status = command.status(rt)?;
+    let command = SystemCommand {
+        program: "umount",
+        words: &["-i", "-l", mountpoint],
+        is_quiet: false,
+    };
+    let _succeeds = command.succeeds(rt, alloc)?;
     Ok(())
 }
 

@@ -2,19 +2,21 @@
 #![tactic(auto)]
 
 mod accept_loop;
+mod broker;
+mod broker_socket;
 mod connections;
 mod control;
 mod device;
-mod ending;
 mod fault;
 mod mount;
 mod script;
 mod service;
 mod shared_desk;
+mod system_command;
 mod unmounter;
 mod writing;
 
+pub use broker::{BrokerRun, run_broker};
 pub use device::DEVICE;
-pub use ending::{BrokerRun, run_broker};
 pub use fault::{BrokerFault, MountRunFault};
 pub use mount::{MountOptions, MountRun, run_mount};

@@ -4,6 +4,7 @@ ghost use Rattle.std.specs.Io.KnownBytes.{Appends};
 ghost use Rattle.broker_process.specs.Mounting.{PrintsMount, RunsMount, end_line, mounted_line};
 
 use crate::accept_loop::accept_all;
+use crate::broker_socket::BrokerSocket;
 use crate::control::Control;
 use crate::device::{check_place, clear_dead_mount, mount, open_device, own_user};
 use crate::fault::MountRunFault;
@@ -13,13 +14,11 @@ use crate::unmounter::{MountPoint, Unmounter};
 use eden_base::NoMemory;
 use mount_wire::{FileOwner, MountAttributes, MountTime};
 use non_blocking::{Unblock, write_behind};
-use sockets::{Closer, changed_at, listen_alone_at, remove_unchanged};
 use std::alloc::Global;
 use std::fs::File;
 use std::io::{self, BufWriter, ErrorKind};
 use std::net::Net;
-use std::os::unix::net::UnixListener;
-use std::process::Processes;
+use std::process::{OpenProcess, Processes};
 use std::rt::{Clock, Files};
 use std::sync::Wait;
 use std::thread::{self, Scope, Threads};
@@ -45,48 +44,61 @@ pub struct MountOptions<'a> {
     pub owner: Option<FileOwner>,
 }
 
-/// Mounts at a `place` what daemons serve that reach the broker there, and tells `out` when a mount begins and ends: a line
+/// Mounts by these `options` what daemons serve that reach the broker, and tells `out` when a mount begins and ends: a line
 /// that can't be written is dropped, and nobody waits for one. Returns after somebody unmounted and every daemon left, and
 /// removes the socket.
 pub fn run_mount<
     R: Threads + Wait + Clock + Files<File = File> + Net + Processes + Copy + Send + Sync + 'static,
     W: Unblock + Drop,
->(rt: &R, alloc: Global, place: &MountOptions<'_>, out: W) -> MountRun<W>
+>(rt: &R, alloc: Global, options: &MountOptions<'_>, out: W) -> MountRun<W>
     ensures runs { RunsMount result.ended (W.contents out) (W.contents result.out) }
 {
     let mut out = out;
     if let Err(error) = write_behind(rt, alloc, &mut out) {
         return fails(out, unmade(&error));
     }
-    let shared = match make_shared_desk(rt, alloc, place) {
-        Ok(shared) => shared,
+    let prepared = match prepare(rt, alloc, options) {
+        Ok(prepared) => prepared,
         Err(fault) => return fails(out, fault),
     };
-    let owner = match owner_at(rt, place) {
-        Ok(owner) => owner,
-        Err(error) => return fails(out, MountRunFault::CannotMount(error)),
-    };
-    let unmounter = match Unmounter::start(rt, alloc) {
-        Ok(unmounter) => unmounter,
-        Err(error) => return fails(out, MountRunFault::CannotMount(error)),
-    };
-    let listener = match listen_alone_at(rt, alloc, place.socket) {
-        Ok(listener) => listener,
-        Err(error) => return fails(out, MountRunFault::CannotListen(error)),
-    };
-    let made = changed_at(rt, place.socket);
-    let closer = match Closer::of(&listener) {
-        Ok(closer) => closer,
-        Err(error) => return fails(out, MountRunFault::CannotListen(error)),
-    };
     let point = MountPoint {
-        path: place.mountpoint,
-        unmounter: unmounter.number(),
-        owner,
+        path: options.mountpoint,
+        unmounter: prepared.unmounter.number(),
+        owner: prepared.owner,
     };
-    let ran = open(rt, alloc, &shared, &listener, &closer, &point, out);
-    remove_unchanged(rt, place.socket, made);
+    let ran = open(rt, alloc, &prepared.shared, &prepared.socket, &point, out);
+    prepared.socket.remove(rt, options.socket);
     ran
+}
+
+/// What is made before a daemon comes.
+#[derive(Drop)]
+struct Prepared<P: OpenProcess + Drop> {
+    shared: SharedDesk,
+    owner: FileOwner,
+    unmounter: Unmounter<P>,
+    socket: BrokerSocket,
+}
+
+/// Makes what a mount with these `options` wants before a daemon comes. The socket is the last of it, so that no daemon
+/// comes to a broker that can't mount.
+fn prepare<R: Clock + Files<File = File> + Net + Processes>(
+    rt: &R,
+    alloc: Global,
+    options: &MountOptions<'_>,
+) -> Result<Prepared<R::Started>, MountRunFault> {
+    let shared = make_shared_desk(rt, alloc, options)?;
+    let owner = owner_by(rt, options).map_err(MountRunFault::CannotMount)?;
+    let unmounter = Unmounter::start(rt, alloc).map_err(MountRunFault::CannotMount)?;
+    let socket = BrokerSocket::listen(rt, alloc, options.socket).map_err(
+        MountRunFault::CannotListen,
+    )?;
+    Ok(Prepared {
+        shared,
+        owner,
+        unmounter,
+        socket,
+    })
 }
 
 /// Makes the shared desk, once the file of what the kernel holds is made, and device and mountpoint are as a mount wants
@@ -94,20 +106,20 @@ pub fn run_mount<
 fn make_shared_desk<R: Files<File = File> + Processes>(
     rt: &R,
     alloc: Global,
-    place: &MountOptions<'_>,
+    options: &MountOptions<'_>,
 ) -> Result<SharedDesk, MountRunFault> {
-    let log = open_log(rt, alloc, place.log)?;
+    let log = open_log(rt, alloc, options.log)?;
     let _device = open_device(rt).map_err(MountRunFault::NoDevice)?;
-    check_place(rt, alloc, place.mountpoint).map_err(MountRunFault::CannotMount)?;
+    check_place(rt, alloc, options.mountpoint).map_err(MountRunFault::CannotMount)?;
     match SharedDesk::of_mount(alloc, log) {
         Ok(shared) => Ok(shared),
         Err(NoMemory) => Err(MountRunFault::NoMemory),
     }
 }
 
-/// Returns who owns the files of a `place`.
-fn owner_at<R: Files>(rt: &R, place: &MountOptions<'_>) -> io::Result<FileOwner> {
-    match place.owner {
+/// Returns who owns the files of a mount with these `options`.
+fn owner_by<R: Files>(rt: &R, options: &MountOptions<'_>) -> io::Result<FileOwner> {
+    match options.owner {
         Some(owner) => Ok(owner),
         None => own_user(rt),
     }
@@ -152,8 +164,7 @@ fn open<R: Threads + Wait + Clock + Files<File = File> + Processes + Sync, W: Un
     rt: &R,
     alloc: Global,
     shared: &SharedDesk,
-    listener: &UnixListener,
-    closer: &Closer,
+    socket: &BrokerSocket,
     point: &MountPoint<'_>,
     out: W,
 ) -> MountRun<W>
@@ -164,7 +175,7 @@ fn open<R: Threads + Wait + Clock + Files<File = File> + Processes + Sync, W: Un
         rt,
         move |scope| -> MountRun<W>
             ensures { RunsMount result.ended (W.contents out) (W.contents result.out) }
-        { open_within(scope, rt, alloc, shared, listener, closer, point, out) },
+        { open_within(scope, rt, alloc, shared, socket, point, out) },
     )
 }
 
@@ -179,15 +190,14 @@ fn open_within<
     rt: &'e R,
     alloc: Global,
     shared: &'e SharedDesk,
-    listener: &'e UnixListener,
-    closer: &Closer,
+    socket: &'e BrokerSocket,
     point: &MountPoint<'_>,
     out: W,
 ) -> MountRun<W>
     ensures runs { RunsMount result.ended (W.contents out) (W.contents result.out) }
 {
     if scope
-        .spawn(move || accept_all(rt, alloc, shared, listener))
+        .spawn(move || accept_all(rt, alloc, shared, &socket.listener))
         .is_err()
     {
         return fails(out, MountRunFault::NoThread);
@@ -199,7 +209,7 @@ fn open_within<
         shared.wait_for_all(rt);
     }
     shared.end(rt);
-    closer.close();
+    socket.closer.close();
     MountRun { out, ended }
 }
 

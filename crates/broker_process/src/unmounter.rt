@@ -1,8 +1,9 @@
 //! A child that unmounts what a broker left mounted, whatever ended the broker.
+use crate::system_command::SystemCommand;
 use mount_wire::FileOwner;
 use std::alloc::{AllocError, Global};
 use std::io;
-use std::process::{Child, Command, OpenProcess, Processes, Stdio};
+use std::process::{Child, OpenProcess, Processes, Stdio};
 
 /// What the child does. Its input is a pipe whose end comes with the broker's own. Then it unmounts lazily each mount
 /// whose source has its number: `umount` finds a mount by that, wherever it was moved. It ignores the signals that a
@@ -25,11 +26,12 @@ impl<P: OpenProcess + Drop> Unmounter<P> {
         rt: &R,
         alloc: Global,
     ) -> io::Result<Unmounter<P>> {
-        let mut command = Command::new(alloc, "setsid")?;
-        command.args(["sh", "-c", SCRIPT])?;
-        command.stdin(Stdio::piped());
-        command.stdout(Stdio::null());
-        let child = command.stderr(Stdio::null()).spawn(rt)?;
+        let command = SystemCommand {
+            program: "setsid",
+            words: &["sh", "-c", SCRIPT],
+            is_quiet: true,
+        };
+        let child = command.start(rt, alloc, Stdio::piped())?;
         Ok(Unmounter { child })
     }
 

@@ -1,19 +1,18 @@
-//! A broker, from the start of its socket to the end.
+//! A broker whose kernel is a script, from the start of its socket to the end.
 ghost use Rattle.std.specs.Prelude.{◌≡◌, Err, All};
 ghost use Rattle.broker_process.specs.Playing.{RunsBroker};
 ghost use Rattle.script_lines.specs.BrokerLine.{IsSendableLine};
 
 use crate::accept_loop::accept_all;
+use crate::broker_socket::BrokerSocket;
 use crate::fault::BrokerFault;
 use crate::script::play;
 use crate::shared_desk::SharedDesk;
 use broker_script::BrokerLine;
 use eden_base::NoMemory;
-use sockets::{Closer, changed_at, listen_alone_at, remove_unchanged};
 use std::alloc::Global;
 use std::io::Write;
 use std::net::Net;
-use std::os::unix::net::UnixListener;
 use std::rt::{Clock, Files};
 use std::sync::Wait;
 use std::thread;
@@ -42,17 +41,12 @@ pub fn run_broker<R: Threads + Wait + Clock + Files + Net + Sync, W: Write + Dro
         Ok(shared) => shared,
         Err(NoMemory) => return fails(out, BrokerFault::NoMemory),
     };
-    let listener = match listen_alone_at(rt, alloc, socket) {
-        Ok(listener) => listener,
+    let listening = match BrokerSocket::listen(rt, alloc, socket) {
+        Ok(listening) => listening,
         Err(error) => return fails(out, BrokerFault::CannotListen(error)),
     };
-    let made = changed_at(rt, socket);
-    let closer = match Closer::of(&listener) {
-        Ok(closer) => closer,
-        Err(error) => return fails(out, BrokerFault::CannotListen(error)),
-    };
-    let ran = open(rt, alloc, &shared, &listener, &closer, script, out);
-    remove_unchanged(rt, socket, made);
+    let ran = open(rt, alloc, &shared, &listening, script, out);
+    listening.remove(rt, socket);
     ran
 }
 
@@ -72,8 +66,7 @@ fn open<R: Threads + Wait + Clock + Sync, W: Write + Drop>(
     rt: &R,
     alloc: Global,
     shared: &SharedDesk,
-    listener: &UnixListener,
-    closer: &Closer,
+    socket: &BrokerSocket,
     script: &[BrokerLine],
     out: W,
 ) -> BrokerRun<W>
@@ -87,7 +80,7 @@ fn open<R: Threads + Wait + Clock + Sync, W: Write + Drop>(
             requires { All IsSendableLine script.now }
             ensures { RunsBroker script.entry.now result.ended
                 (W.contents out) (W.contents result.out) }
-        { open_within(scope, rt, alloc, shared, listener, closer, script, out) },
+        { open_within(scope, rt, alloc, shared, socket, script, out) },
     )
 }
 
@@ -97,8 +90,7 @@ fn open_within<'s, 'e: 's, R: Threads + Wait + Clock + Sync + 's, W: Write + Dro
     rt: &'e R,
     alloc: Global,
     shared: &'e SharedDesk,
-    listener: &'e UnixListener,
-    closer: &Closer,
+    socket: &'e BrokerSocket,
     script: &[BrokerLine],
     out: W,
 ) -> BrokerRun<W>
@@ -106,7 +98,7 @@ fn open_within<'s, 'e: 's, R: Threads + Wait + Clock + Sync + 's, W: Write + Dro
     ensures runs { RunsBroker script.now result.ended (W.contents out) (W.contents result.out) }
 {
     if scope
-        .spawn(move || accept_all(rt, alloc, shared, listener))
+        .spawn(move || accept_all(rt, alloc, shared, &socket.listener))
         .is_err()
     {
         return fails(out, BrokerFault::NoThread);
@@ -114,7 +106,7 @@ fn open_within<'s, 'e: 's, R: Threads + Wait + Clock + Sync + 's, W: Write + Dro
     let mut out = out;
     let played = play(rt, shared, script, &mut out);
     shared.end(rt);
-    closer.close();
+    socket.closer.close();
     match played {
         Ok(()) => BrokerRun { out, ended: Ok(()) },
         Err(error) => BrokerRun {
