@@ -9,7 +9,7 @@
 //!   calls map ENTRIES [random]            calls on the numbers that a daemon gave
 //!   calls image ENTRIES 0                 an image read, restored, made again and written
 //!   calls journal RECORDS WORKERS ROUNDS  whether a round is settled
-//!   calls frames FORM ROUNDS [behind FRAMES|pieces BYTES]   frames written, fed and taken off
+//!   calls frames FORM ROUNDS                  frames written
 //!   calls wire FORM ROUNDS                requests read
 mod arena;
 mod checkout;

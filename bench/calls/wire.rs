@@ -99,24 +99,9 @@ fn read_request(bytes: &[u8]) -> Result<Ask, Fault> {
     Ok(Ask { unique, what })
 }
 
-/// Reads the items of a forget, one or a batch of them.
-fn read_items(bytes: &[u8]) -> Result<Vec<Item>, Fault> {
-    let (opcode, _, node, body) = parts_of(bytes)?;
-    match opcode {
-        2 if body.len() == 8 => Ok(vec![Item { node, k: u64_at(body, 0) }]),
-        42 => items_in(body),
-        _ => Err(Fault::BadBody),
-    }
-}
-
 #[inline(never)]
 fn read(text: &[u8]) -> Result<Ask, Fault> {
     read_request(text)
-}
-
-#[inline(never)]
-fn items(text: &[u8]) -> Result<Vec<Item>, Fault> {
-    read_items(text)
 }
 
 fn batch(excess: u8) -> Vec<u8> {
@@ -131,8 +116,8 @@ fn batch(excess: u8) -> Vec<u8> {
 fn message(form: &str, unique: u64) -> Vec<u8> {
     let (opcode, body): (u32, Vec<u8>) = match form {
         "getattr" => (3, vec![0; 16]),
-        "forget" | "forget-items" => (2, vec![1, 0, 0, 0, 0, 0, 0, 0]),
-        "batch" | "batch-items" => (42, batch(0)),
+        "forget" => (2, vec![1, 0, 0, 0, 0, 0, 0, 0]),
+        "batch" => (42, batch(0)),
         "bad-count" => (42, batch(1)),
         "bad-body" => (1, b"src".to_vec()),
         "bad-name" => (1, b"a/b\0".to_vec()),
@@ -157,14 +142,6 @@ pub fn measure(words: &[String]) -> String {
     let texts: Vec<Vec<u8>> = (0..MESSAGES).map(|unique| message(form, unique)).collect();
     let (mut count, mut sum, mut asks) = (0, 0, Vec::with_capacity(MESSAGES as usize));
     for _ in 0..rounds {
-        if form.ends_with("-items") {
-            let lists = texts.iter().filter_map(|text| items(text).ok());
-            for list in lists {
-                count += 1;
-                sum += list.len() as u64;
-            }
-            continue;
-        }
         asks.extend(texts.iter().filter_map(|text| read(text).ok()));
         count += asks.len();
         sum += asks.iter().map(|ask: &Ask| ask.unique).sum::<u64>();

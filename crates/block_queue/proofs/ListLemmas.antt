@@ -1,6 +1,6 @@
 -- A list and the rest of it from an index on; two lists one after the other.
 use Rattle.std.proofs.Common.{◌≡◌, ℕ, ◌+◌, ◌-◌, ◌<◌, ◌≤◌, List, [], ◌∷◌, ◌++◌, length, take, drop, remove, slice_get, Option, refl, ◌∙◌, sym, ap, arith, zero, suc, zero-add}
-use Rattle.std.proofs.lemmas.List.Edits.{remove-append_left, remove-append_right, length-remove}
+use Rattle.std.proofs.lemmas.List.Edits.{remove-append_left, remove-append_right}
 use Rattle.std.proofs.lemmas.List.{append_assoc, drop-append-le, length-take}
 use Rattle.std.proofs.Math.Seq.{take-length, drop-append-add, take-append-le}
 
@@ -72,14 +72,6 @@ module _ {A : Type 0} where
       let at : length front + (index - n) ≡ index = omega (arith, len, past) in
       is ∙ sym (get_behind front back (index - n)) ∙ ap (slice_get (front ++ back)) at
 
-  -- a member of the second of three lists
-  pub got_in_the_middle : (front middle back : List A) (n m index : ℕ) {whole : List A} {got : Option A} →
-      front ++ (middle ++ back) ≡ whole → n ≡ length front → m ≡ length middle → n ≤ index → index - n < m →
-      got ≡ slice_get middle (index - n) → got ≡ slice_get whole index
-  got_in_the_middle front middle back n m index all len len-2 past inside is =
-      got_behind front (middle ++ back) n index len past (is ∙ sym (get_in_front middle back (index - n) (omega (arith, len-2, inside))))
-      ∙ ap (λ xs. slice_get xs index) all
-
   -- a member of the third of three lists
   pub got_at_the_back : (front middle back : List A) (n m index : ℕ) {whole : List A} {got : Option A} →
       front ++ (middle ++ back) ≡ whole → n ≡ length front → m ≡ length middle → n ≤ index → m ≤ index - n →
@@ -125,12 +117,6 @@ module _ {A : Type 0} where
   removed_at_the_back front middle back n m index all len len-2 past past-2 is =
       removed_behind front (middle ++ back) n index len past (removed_behind middle back m (index - n) len-2 past-2 is)
       ∙ ap (λ xs. remove xs index) all
-
-  -- a list is no longer without a member
-  pub no_longer : (xs : List A) (m index : ℕ) {left : List A} → m ≡ length xs → index < m → left ≡ remove xs index →
-      length left ≤ length xs
-  no_longer xs m index len inside is =
-      omega (arith, ap length is, length-remove xs index (omega (arith, len, inside)))
 
   -- a member is removed from the first of four lists, and the three lists before the last are cut in another way
   pub removed_before_the_back : (front groups rings back front-2 groups-2 rings-2 : List A) (n index : ℕ) {whole : List A} →

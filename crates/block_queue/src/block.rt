@@ -48,10 +48,12 @@ impl<T: Drop> Block for VecDeque<T> {
 
     ghost IsCounted = { λ _. Unit {0} };
 
+    /// Returns the length of the ring.
     fn len(&self) -> usize {
         self.len()
     }
 
+    /// Returns what follows `index` in that of the two slices of the ring which has the member there.
     fn run_from(&self, index: usize) -> &[T] {
         let (front, back) = self.as_slices();
         if index < front.len() {
@@ -60,10 +62,12 @@ impl<T: Drop> Block for VecDeque<T> {
         behind(back, index - front.len())
     }
 
+    /// Removes the member from the ring.
     fn remove(&mut self, index: usize) -> Option<T> {
         take_out(self, index)
     }
 
+    /// Takes the ring itself, and leaves an empty one.
     fn take_ring(&mut self) -> VecDeque<T> {
         let alloc = *self.allocator();
         replace(self, VecDeque::new(alloc))

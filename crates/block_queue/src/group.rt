@@ -69,10 +69,12 @@ impl<B: Block> Block for Group<B> {
     ghost IsCounted = { λ group. All B.IsCounted group.blocks.items
         × (group.len ≡ length (flat_map B.members group.blocks.items)) };
 
+    /// Returns the length that is kept.
     fn len(&self) -> usize {
         self.len
     }
 
+    /// Returns the run of the block that has the member at `index`, or an empty one if there is no such member.
     fn run_from(&self, index: usize) -> &[B::Member] {
         if index >= self.len {
             return &[];
@@ -81,7 +83,8 @@ impl<B: Block> Block for Group<B> {
         self.blocks[at].run_from(within)
     }
 
-    // Inlined, so that groups of groups take one call for both levels.
+    /// Removes the member from its block, and then the block if it is empty. It is inlined, so that groups of groups
+    /// take one call for both levels.
     #[inline(always)]
     fn remove(&mut self, index: usize) -> Option<B::Member> {
         if index >= self.len {
@@ -94,6 +97,7 @@ impl<B: Block> Block for Group<B> {
         removed
     }
 
+    /// Takes the first ring of the first block, and then removes the block if it is empty.
     fn take_ring(&mut self) -> VecDeque<B::Member> {
         if self.blocks.is_empty() {
             return VecDeque::new(*self.blocks.allocator());

@@ -1,10 +1,8 @@
 -- What the broker keeps of its fields is kept by each call: what is held and what is under way took uniques.
-use Rattle.std.proofs.Common.{◌≡◌, ℕ, ◌+◌, ◌-◌, ◌++◌, ◌<◌, ◌≤◌, Bool, true, false, cond, List, [], ◌∷◌, length, take, drop, map, Option, Some, None, is_some, refl, sym, ap, arith}
+use Rattle.std.proofs.Common.{◌≡◌, ℕ, ◌+◌, ◌++◌, ◌<◌, ◌≤◌, Bool, true, false, cond, List, [], ◌∷◌, length, take, drop, map, Option, Some, None, is_some, refl, sym, ap, arith}
 use Rattle.std.specs.Prelude.{◌==◌, ◌&&◌, Result, Ok, Err, is_ok, OnOk, OnErr}
 use Rattle.std.specs.Option.{option_map_or}
-use Rattle.std.proofs.lemmas.Bool.Decides.{nat_tests}
 use Rattle.std.proofs.lemmas.List.{length-append, length_push}
-use Rattle.std.proofs.lemmas.List.Sums.{sum_by_push, sum_by-take-drop}
 use Rattle.eden_base.specs.First.{first_where}
 use Rattle.eden_base.specs.declared.number.Number.{Number}
 use Rattle.eden_base.proofs.MemberLemmas.{length-without_where}
@@ -16,7 +14,7 @@ use Rattle.broker_core.specs.Broker.{held_with}
 use Rattle.fuse_wire.specs.Form.{belongs}
 use Rattle.broker_core.specs.Held.{HeldMap, held_count, none_held, raised, lowered}
 use Rattle.broker_core.specs.Inside.{IsConsistent}
-use Rattle.broker_core.specs.Traffic.{TrafficState, no_traffic, front, asks_under_way, asked_of, item_issued, items_go_first, ask_taken, left_by_take, is_of, is_asked, may_be_given, reply_posted, reply_delivered, taken_back, forgets_on}
+use Rattle.broker_core.specs.Traffic.{TrafficState, no_traffic, front, asks_under_way, asked_of, item_issued, items_go_first, ask_taken, left_by_take, is_of, is_asked, may_be_given, reply_posted, reply_delivered}
 use Rattle.broker_core.specs.declared.broker.Broker.TheInside.{Inside}
 use Rattle.broker_core.proofs.AskedLaws.{Asked}
 use Rattle.broker_core.proofs.HeldLaws.{held_count-none, held_count-raised, held_count-lowered}
@@ -26,18 +24,14 @@ use Rattle.broker_core.proofs.Moves.{has-ask}
 pub consistent-first : IsConsistent (record { seat = None; last = 0; held = none_held; next_unique = 1; traffic = no_traffic })
 consistent-first = record { generation = omega arith; uniques = omega arith; later = later_none 1; asked_for = λ n. omega (arith, held_count-none n) }
 
--- what is held less is taken back by the item that waits
-pub consistent-item : (b : Inside) (item : Item) → IsConsistent b → item.k ≤ held_count b.held item.node.0 → IsConsistent (record b { held = lowered b.held item.node.0 item.k; traffic = item_issued b.traffic item })
-consistent-item b item kept enough = record {
+-- an item that waits lowers a count
+pub consistent-item : (b : Inside) (item : Item) → IsConsistent b → IsConsistent (record b { held = lowered b.held item.node.0 item.k; traffic = item_issued b.traffic item })
+consistent-item b item kept = record {
   generation = kept.generation;
   uniques = kept.uniques;
   later = later_item b.traffic b.next_unique item kept.later;
-  asked_for = λ n. at n (asks_under_way b.traffic) (item.node.0 == n) refl (held_count-lowered b.held item.node.0 item.k n) (sum_by_push (taken_back n) b.traffic.items item) (kept.asked_for n);
-} where
-  at : (n rest : ℕ) {less more : ℕ} (same : Bool) → (item.node.0 == n) ≡ same → less ≡ held_count b.held n - cond same item.k 0 → more ≡ forgets_on b.traffic n + cond same item.k 0 →
-      held_count b.held n + forgets_on b.traffic n + rest < b.next_unique → less + more + rest < b.next_unique
-  at n rest true is less more before = let here : held_count b.held item.node.0 ≡ held_count b.held n = ap (held_count b.held) (let same : item.node.0 ≡ n = grind (arith, nat_tests) in same) in omega (arith, enough, here, less, more, before)
-  at n rest false is less more before = omega (arith, less, more, before)
+  asked_for = λ n. omega (arith, held_count-lowered b.held item.node.0 item.k n, kept.asked_for n);
+}
 
 under_way-take : (t : TrafficState) → asks_under_way (ask_taken t) ≡ asks_under_way t
 under_way-take t = by_untaken t.untaken where
@@ -52,8 +46,8 @@ consistent-take b kept = record {
   later = later_taken b.traffic b.next_unique kept.later;
   asked_for = λ n. either n (items_go_first b.traffic);
 } where
-  either : (n : ℕ) (items : Bool) → (let t = cond items (record b.traffic { items = drop 256 b.traffic.items }) (ask_taken b.traffic) in held_count b.held n + forgets_on t n + asks_under_way t < b.next_unique)
-  either n true = omega (arith, kept.asked_for n, sum_by-take-drop (taken_back n) b.traffic.items 256)
+  either : (n : ℕ) (items : Bool) → (let t = cond items (record b.traffic { items = drop 256 b.traffic.items }) (ask_taken b.traffic) in held_count b.held n + asks_under_way t < b.next_unique)
+  either n true = omega (arith, kept.asked_for n)
   either n false = omega (arith, kept.asked_for n, under_way-take b.traffic)
 
 under_way-post : (t : TrafficState) (reply : Reply) → is_asked t reply ≡ true → asks_under_way (reply_posted t reply) ≡ asks_under_way t

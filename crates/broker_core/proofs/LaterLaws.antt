@@ -1,13 +1,12 @@
 -- Each call keeps a unique above those of all asks without a reply; an ask takes it, and the next is above again.
-use Rattle.std.proofs.Common.{ℕ, ◌+◌, ◌<◌, Bool, true, false, cond, List, [], ◌∷◌, take, drop, map, arith}
+use Rattle.std.proofs.Common.{ℕ, ◌<◌, Bool, true, false, cond, List, [], ◌∷◌, take, drop, map}
 use Rattle.std.specs.Prelude.{All}
-use Rattle.std.proofs.lemmas.List.Elements.{All-nil, All-cons, All-head, All-tail, All-push, All-append, All-map, All-take, All-drop, All-weaker}
+use Rattle.std.proofs.lemmas.List.Elements.{All-nil, All-cons, All-head, All-tail, All-append, All-map, All-take, All-drop}
 use Rattle.eden_base.specs.First.{without_where}
 use Rattle.fuse_wire.specs.declared.request.Ask.{Ask}
-use Rattle.fuse_wire.specs.declared.request.Request.{Request}
 use Rattle.fuse_wire.specs.declared.item.Item.{Item}
 use Rattle.fuse_wire.specs.declared.reply.Reply.{Reply}
-use Rattle.broker_core.specs.Traffic.{TrafficState, IsLater, no_traffic, ask_issued, item_issued, items_go_first, ask_taken, left_by_take, asked_of, is_of, reply_posted, reply_delivered}
+use Rattle.broker_core.specs.Traffic.{TrafficState, IsLater, no_traffic, item_issued, items_go_first, ask_taken, left_by_take, asked_of, is_of, reply_posted, reply_delivered}
 use Rattle.broker_core.proofs.AskedLaws.{Asked, Below}
 
 abbrev AskBelow : ℕ → Ask → Type 0
@@ -15,12 +14,6 @@ AskBelow k ask = ask.unique < k
 
 pub later_none : (k : ℕ) → IsLater no_traffic k
 later_none k = record { untaken = All-nil (AskBelow k); taken = All-nil (Below k) }
-
-pub later_asked : (t : TrafficState) (k : ℕ) (request : Request) → IsLater t k → IsLater (ask_issued t k request) (k + 1)
-later_asked t k request later = record {
-  untaken = All-push (AskBelow (k + 1)) t.untaken (record { unique = k; what = request }) (All-weaker (AskBelow k) (AskBelow (k + 1)) (λ a l. omega arith) t.untaken later.untaken) (omega arith);
-  taken = All-weaker (Below k) (Below (k + 1)) (λ a l. omega arith) t.taken later.taken;
-}
 
 pub later_item : (t : TrafficState) (k : ℕ) (item : Item) → IsLater t k → IsLater (item_issued t item) k
 later_item t k item later = record { untaken = later.untaken; taken = later.taken }

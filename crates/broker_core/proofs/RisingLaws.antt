@@ -15,16 +15,16 @@ use Rattle.std.proofs.lemmas.Map.Keys.{below_from_sorted}
 use Rattle.eden_base.specs.First.{first_where, IsFirstPlace}
 use Rattle.eden_base.proofs.FirstLemmas.{IsFirstPlace-here, first_where-nowhere}
 use Rattle.broker_core.specs.Places.{asks_at, is_place_of, PlacesRise, EndsFilled}
-use Rattle.broker_core.specs.declared.unanswered.Place.{Place}
+use Rattle.broker_core.specs.declared.unanswered.QueuePlace.{QueuePlace}
 use Rattle.fuse_wire.specs.declared.form.Form.{Form}
 use Rattle.broker_core.proofs.AskedLaws.{Below}
 
 -- the uniques of the places
-abbrev pub uniques : List Place → List ℕ
-uniques ps = map (λ (p : Place). p.unique) ps
+abbrev pub uniques : List QueuePlace → List ℕ
+uniques ps = map (λ (p : QueuePlace). p.unique) ps
 
 -- the place of an ask
-abbrev pub place_of : ℕ → Form → Place
+abbrev pub place_of : ℕ → Form → QueuePlace
 place_of k f = record { unique = k; form = Some f }
 
 lesser : (n m : ℕ) → n < m → nat_cmp n m ≡ Less
@@ -33,19 +33,19 @@ lesser n m low = grind (arith, nat_tests)
 pub less : (n m : ℕ) → nat_cmp n m ≡ Less → n < m
 less n m is = grind (arith, nat_tests)
 
-at-end : (n : ℕ) (ps : List Place) (q : Place) → AllByRecursion (λ m. nat_cmp n m ≡ Less) (uniques ps) → n < q.unique →
+at-end : (n : ℕ) (ps : List QueuePlace) (q : QueuePlace) → AllByRecursion (λ m. nat_cmp n m ≡ Less) (uniques ps) → n < q.unique →
     AllByRecursion (λ m. nat_cmp n m ≡ Less) (uniques (ps ++ q ∷ []))
 at-end n [] q above low = (lesser n q.unique low, tt)
 at-end n (p ∷ ps) q above low = (above.0, at-end n ps q above.1 low)
 
 module _ (k : ℕ) where
-  behind : (p : Place) (ps : List Place) → All (Below k) (asks_at (p ∷ ps)) → All (Below k) (asks_at ps)
+  behind : (p : QueuePlace) (ps : List QueuePlace) → All (Below k) (asks_at (p ∷ ps)) → All (Below k) (asks_at ps)
   behind p ps all = here (p.form) all where
     here : (o : Option Form) → All (Below k) (cons_option (option_map (λ f. (p.unique, f)) o) (asks_at ps)) → All (Below k) (asks_at ps)
     here None all = all
     here (Some f) all = All-tail (Below k) (p.unique, f) (asks_at ps) all
 
-  below : (p : Place) (ps : List Place) → PlacesRise (p ∷ ps) → EndsFilled (p ∷ ps) → All (Below k) (asks_at (p ∷ ps)) → p.unique < k
+  below : (p : QueuePlace) (ps : List QueuePlace) → PlacesRise (p ∷ ps) → EndsFilled (p ∷ ps) → All (Below k) (asks_at (p ∷ ps)) → p.unique < k
   unfolding IsStrictlySortedBy
   below p [] rising last all = here (p.form) last all where
     here : (o : Option Form) → is_some o ≡ true → All (Below k) (cons_option (option_map (λ f. (p.unique, f)) o) []) → p.unique < k
@@ -57,7 +57,7 @@ module _ (k : ℕ) where
       omega arith
 
   -- places rise on with that of an ask above all others
-  pub rising-push : (f : Form) (ps : List Place) → PlacesRise ps → EndsFilled ps → All (Below k) (asks_at ps) → PlacesRise (ps ++ place_of k f ∷ [])
+  pub rising-push : (f : Form) (ps : List QueuePlace) → PlacesRise ps → EndsFilled ps → All (Below k) (asks_at ps) → PlacesRise (ps ++ place_of k f ∷ [])
   unfolding IsStrictlySortedBy
   rising-push f [] rising last all = (tt, tt)
   rising-push f (p ∷ []) rising last all = (at-end p.unique [] (place_of k f) rising.0 (below p [] rising last all), (tt, tt))
@@ -70,15 +70,15 @@ unfolding IsStrictlySortedBy
 rising-none = tt
 
 -- the unique at an index
-abbrev pub unique_at : List Place → ℕ → Place → ℕ
+abbrev pub unique_at : List QueuePlace → ℕ → QueuePlace → ℕ
 unique_at ps i d = (get_or ps i d).unique
 
-uniques-rise : (ps : List Place) (i j : ℕ) (d : Place) → PlacesRise ps → i < j → j < length ps → unique_at ps i d < unique_at ps j d
+uniques-rise : (ps : List QueuePlace) (i j : ℕ) (d : QueuePlace) → PlacesRise ps → i < j → j < length ps → unique_at ps i d < unique_at ps j d
 uniques-rise ps i j d rising before within =
-    let long = length-map ps (λ (p : Place). p.unique) in
+    let long = length-map ps (λ (p : QueuePlace). p.unique) in
     let less = below_from_sorted (uniques ps) i j d.unique rising before (omega (arith, long, within)) in
-    let at_i = get_or-map (λ (p : Place). p.unique) ps i d in
-    let at_j = get_or-map (λ (p : Place). p.unique) ps j d in
+    let at_i = get_or-map (λ (p : QueuePlace). p.unique) ps i d in
+    let at_j = get_or-map (λ (p : QueuePlace). p.unique) ps j d in
     omega (arith, less, at_i, at_j)
 
 module _ (k : ℕ) where
@@ -89,19 +89,19 @@ module _ (k : ℕ) where
   other-unique n e = grind (arith, nat_tests)
 
   -- a place with the unique is the first one with it
-  pub first-here : (ps : List Place) (i : ℕ) (d : Place) → PlacesRise ps → i < length ps → unique_at ps i d ≡ k → IsFirstPlace (is_place_of k) ps i
+  pub first-here : (ps : List QueuePlace) (i : ℕ) (d : QueuePlace) → PlacesRise ps → i < length ps → unique_at ps i d ≡ k → IsFirstPlace (is_place_of k) ps i
   first-here ps i d rising within here =
       IsFirstPlace-here (is_place_of k) ps i d within
       (λ j before. other-unique (unique_at ps j d) (λ same. let less = uniques-rise ps j i d rising before within in omega (arith, less, here, same)))
       (same-unique (unique_at ps i d) here)
 
   -- a place at which a search by halving ends is the first one with the unique
-  pub first-found : (ps : List Place) (i : ℕ) (d : Place) → PlacesRise ps → i < length ps → nat_cmp (unique_at ps i d) k ≡ Equal → IsFirstPlace (is_place_of k) ps i
+  pub first-found : (ps : List QueuePlace) (i : ℕ) (d : QueuePlace) → PlacesRise ps → i < length ps → nat_cmp (unique_at ps i d) k ≡ Equal → IsFirstPlace (is_place_of k) ps i
   first-found ps i d rising within e = first-here ps i d rising within (same (unique_at ps i d) e) where
     same : (n : ℕ) → nat_cmp n k ≡ Equal → n ≡ k
     same n h = grind (arith, nat_tests)
 
-  comparisons-rise : (ps : List Place) → PlacesRise ps → IsNonDecreasingBy (λ (p : Place). ordering_index (nat_cmp p.unique k)) ps
+  comparisons-rise : (ps : List QueuePlace) → PlacesRise ps → IsNonDecreasingBy (λ (p : QueuePlace). ordering_index (nat_cmp p.unique k)) ps
   comparisons-rise ps rising i j d le within = ordered (unique_at ps i d) (unique_at ps j d) rise where
     rise : unique_at ps i d ≤ unique_at ps j d
     rise = grind (arith, uniques-rise ps i j d rising, λ (same : i ≡ j). ap (λ n. unique_at ps n d) same)
@@ -110,7 +110,7 @@ module _ (k : ℕ) where
     ordered a b h = grind (arith, nat_tests)
 
   -- a search by halving that ends between two places finds none with the unique
-  pub first-missing : (ps : List Place) (i : ℕ) (d : Place) → PlacesRise ps → IsBinarySearchResult (λ (p : Place). nat_cmp p.unique k) ps (Err i) → first_where (is_place_of k) ps ≡ None
+  pub first-missing : (ps : List QueuePlace) (i : ℕ) (d : QueuePlace) → PlacesRise ps → IsBinarySearchResult (λ (p : QueuePlace). nat_cmp p.unique k) ps (Err i) → first_where (is_place_of k) ps ≡ None
   first-missing ps i d rising parted =
       let parts = parted (comparisons-rise ps rising) in
       first_where-nowhere (is_place_of k) ps d (λ j within. other-unique (unique_at ps j d) (λ e. elim (cases_order i j) [

@@ -74,19 +74,6 @@ module _ (old new : List (ℕ × ℕ)) (n : ℕ) where
     here q true at = let one : n ≡ q = grind (arith, nat_tests, one_test n q, at) in subst (λ m. count_in old m ≡ None) one none
     here q false at = refl
 
-  module _ (kept : (q : ℕ) → count_in old q ≢ Some 0) where
-    pub kept-some : (c : ℕ) → 1 ≤ c → Sets old new n (Some c) → (q : ℕ) → count_in new q ≢ Some 0
-    kept-some c some sets q none = either (is_at (nat_cmp n) q) (sym (sets q) ∙ none) where
-      either : (b : Bool) → cond b (Some c) (count_in old q) ≡ Some 0 → ⊥
-      either true e = omega (arith, some, ap (λ (o : Option ℕ). unwrap_or o 1) e)
-      either false e = kept q e
-
-    pub kept-none : Sets old new n None → (q : ℕ) → count_in new q ≢ Some 0
-    kept-none sets q none = either (is_at (nat_cmp n) q) (sym (sets q) ∙ none) where
-      either : (b : Bool) → cond b None (count_in old q) ≡ Some 0 → ⊥
-      either true e = cc
-      either false e = kept q e
-
 -- the first that stands above a number is the least held above it
 pub least-first : (m : BTreeMap ℕ ℕ) (n : ℕ) (above rest : List (ℕ × ℕ)) (next c : ℕ) → ((q : ℕ) → get nat_cmp m q ≢ Some 0) → IsRangeOf nat_cmp (Excluded n) Unbounded m above → above ≡ (next, c) ∷ rest →
     (n < next) × (0 < held_count (map_of m.entries) next) × ((q : ℕ) → n < q → q < next → held_count (map_of m.entries) q ≡ 0)

@@ -3,7 +3,7 @@ ghost use Rattle.std.specs.Prelude.{◌≡◌, ◌+◌, ◌≤◌, Bool, true, l
 ghost use Rattle.std.specs.List.{list_all};
 ghost use Rattle.fuse_wire.specs.Request.{is_ask};
 ghost use Rattle.broker_core.specs.Held.{held_count, IsLeastHeldAfter};
-ghost use Rattle.broker_core.specs.Traffic.{front, next_taken, forgets_on, entries_of, is_under_way};
+ghost use Rattle.broker_core.specs.Traffic.{front, next_taken, is_under_way};
 ghost use Rattle.broker_core.specs.Broker.{mount_fault, issue_fault, ask_fault, forget_fault, may_be_asked, seat_fault, take_fault, post_fault, mounted, asked, forgot, issued, unique_of, taken, posted, delivered, claim_fault, claimed, ended, has_seat, without_daemon, last_generation, seated, new_broker, IsIssueRefusal, IsDeliverRefusal};
 
 use crate::Seat;
@@ -407,20 +407,6 @@ impl Broker {
         ensures least { IsLeastHeldAfter self.now.held number.0 result }
     {
         self.held.least_after(number)
-    }
-
-    /// Returns how often the items that wait take `number` back.
-    pub fn forgets_waiting(&self, number: Number) -> u64
-        ensures sum { result ≡ forgets_on self.now.traffic number.0 }
-    {
-        self.traffic.forgets_waiting(number)
-    }
-
-    /// Returns how many posted replies give `number` out.
-    pub fn entries_posted(&self, number: Number) -> u64
-        ensures count { result ≡ entries_of self.now.traffic number.0 }
-    {
-        self.traffic.entries_posted(number)
     }
 
     /// Returns the forget items that wait for a daemon, the oldest first.

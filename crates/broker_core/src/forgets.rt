@@ -1,8 +1,8 @@
 //! The forget items that wait for a daemon.
-ghost use Rattle.std.specs.Prelude.{◌≡◌, ◌≤◌, [], ◌∷◌, ◌++◌, length, take, drop, sum_by, IfOk, OnOk, OnErr};
-ghost use Rattle.broker_core.specs.Traffic.{forget_of, taken_back};
+ghost use Rattle.std.specs.Prelude.{◌≡◌, [], ◌∷◌, ◌++◌, length, take, drop, IfOk, OnOk, OnErr};
+ghost use Rattle.broker_core.specs.Traffic.{forget_of};
 
-use eden_base::{NoMemory, Number};
+use eden_base::NoMemory;
 use fuse_wire::{Batch, BatchRoom, Item, Items, Request};
 use std::alloc::Global;
 use std::collections::VecDeque;
@@ -78,15 +78,6 @@ impl Forgets {
         }
     }
 
-    /// Returns how often the items take `number` back.
-    pub(crate) fn on(&self, number: Number) -> u64
-        requires fits { sum_by (taken_back number.0) self.now ≤ u64.MAX }
-        ensures sum { result ≡ sum_by (taken_back number.0) self.now }
-    {
-        let (first, second) = self.items.as_slices();
-        taken_back(first, number) + taken_back(second, number)
-    }
-
     /// Returns the items, the oldest first.
     pub(crate) fn items(&self) -> &VecDeque<Item>
         ensures items { result.now.items ≡ self.now }
@@ -108,18 +99,4 @@ fn first_items(items: &mut VecDeque<Item>) -> Items
         first.push(item);
     }
     first
-}
-
-/// Returns how often `items` take `number` back.
-fn taken_back(items: &[Item], number: Number) -> u64
-    requires { sum_by (taken_back number.0) items.now ≤ u64.MAX }
-    ensures { result ≡ sum_by (taken_back number.0) items.now }
-{
-    let mut sum = 0;
-    for item in items {
-        if item.node == number {
-            sum += item.k;
-        }
-    }
-    sum
 }

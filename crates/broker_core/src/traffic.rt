@@ -1,13 +1,13 @@
 //! What is under way at the kernel's side of a mount.
-ghost use Rattle.std.specs.Prelude.{◌≡◌, ◌≤◌, length, count_by, is_ok, is_none, OnOk, OnErr};
+ghost use Rattle.std.specs.Prelude.{◌≡◌, length, is_ok, is_none, OnOk, OnErr};
 ghost use Rattle.std.specs.List.{list_any};
 ghost use Rattle.broker_core.specs.Roomy.{is_not_before};
-ghost use Rattle.broker_core.specs.Traffic.{no_traffic, front, asks_under_way, ask_refusal, item_refusal, IsLater, ask_issued, item_issued, next_taken, left_by_take, form_asked, is_asked, may_be_given, reply_posted, reply_delivered, forgets_on, gives, entries_of, is_reply_of, is_unanswered, is_under_way};
+ghost use Rattle.broker_core.specs.Traffic.{no_traffic, front, asks_under_way, ask_refusal, item_refusal, IsLater, ask_issued, item_issued, next_taken, left_by_take, form_asked, is_asked, may_be_given, reply_posted, reply_delivered, is_reply_of, is_unanswered, is_under_way};
 
 use crate::broker::IssueFault;
 use crate::forgets::Forgets;
 use crate::unanswered::Unanswered;
-use eden_base::{NoMemory, Number};
+use eden_base::NoMemory;
 use fuse_wire::{Answer, Ask, Form, Item, Items, Reply, Request};
 use std::alloc::Global;
 use std::collections::VecDeque;
@@ -228,22 +228,6 @@ impl Traffic {
         self.posted.iter().any(|reply| reply.unique == unique)
     }
 
-    /// Returns how often the waiting items take `number` back.
-    pub(crate) fn forgets_waiting(&self, number: Number) -> u64
-        requires fits { forgets_on self.now number.0 ≤ u64.MAX }
-        ensures sum { result ≡ forgets_on self.now number.0 }
-    {
-        self.forgets.on(number)
-    }
-
-    /// Returns how many posted replies give `number` out.
-    pub(crate) fn entries_posted(&self, number: Number) -> u64
-        ensures count { result ≡ entries_of self.now number.0 }
-    {
-        let (first, second) = self.posted.as_slices();
-        entries_of(first, number) + entries_of(second, number)
-    }
-
     /// Returns the forget items that wait, the oldest first.
     pub(crate) fn items(&self) -> &VecDeque<Item>
         ensures items { result.now.items ≡ self.now.items }
@@ -275,30 +259,6 @@ fn is_not_before(untaken: &VecDeque<Ask>, unique: u64) -> bool
 {
     match untaken.front() {
         Some(ask) => ask.unique <= unique,
-        None => false,
-    }
-}
-
-/// Returns how many of `replies` give `number` out.
-fn entries_of(replies: &[Reply], number: Number) -> u64
-    ensures count { result ≡ count_by (gives number.0) replies.now }
-    ensures at_most { result ≤ length replies.now }
-{
-    let mut count = 0;
-    for reply in replies {
-        if gives(reply, number) {
-            count += 1;
-        }
-    }
-    count
-}
-
-/// Returns whether `reply` gives `number` out.
-fn gives(reply: &Reply, number: Number) -> bool
-    ensures { result ≡ gives number.0 reply.now }
-{
-    match reply.answer.given_out() {
-        Some(given) => given == number,
         None => false,
     }
 }

@@ -15,7 +15,7 @@ use std::marker::Model;
 
 /// A place in the queue: that of an ask, or the gap that an answered one left.
 #[derive(Clone, Copy)]
-struct Place {
+struct QueuePlace {
     unique: u64,
     /// The form of the answer. A gap has none.
     form: Option<Form>,
@@ -26,7 +26,7 @@ struct Place {
 #[derive(Drop)]
 pub(crate) struct Unanswered {
     /// The places in the order of their uniques. Neither the first nor the last is a gap.
-    places: VecDeque<Place>,
+    places: VecDeque<QueuePlace>,
     /// How many places are gaps.
     gaps: usize,
 }
@@ -70,7 +70,7 @@ impl Unanswered {
         ensures rising { IsRising self.new }
     {
         let form = Some(form);
-        self.places.push_back(Place { unique, form })?;
+        self.places.push_back(QueuePlace { unique, form })?;
         Ok(())
     }
 
@@ -103,7 +103,7 @@ impl Unanswered {
 
 /// Returns the index of the place with this unique, if there is such a place. Looks first where it stands if no unique
 /// before it is missing, and else searches by halving.
-fn index_of(places: &VecDeque<Place>, unique: u64) -> Option<usize>
+fn index_of(places: &VecDeque<QueuePlace>, unique: u64) -> Option<usize>
     requires rising { PlacesRise places.now.items }
     ensures { MatchOption result (first_where (is_place_of unique) places.now.items ≡ None)
         (IsFirstPlace (is_place_of unique) places.now.items) }
@@ -119,7 +119,7 @@ fn index_of(places: &VecDeque<Place>, unique: u64) -> Option<usize>
 
 /// Returns the index of the place with this unique, if there is one and no unique between the first one and this one
 /// is missing.
-fn dense_index_of(places: &VecDeque<Place>, unique: u64) -> Option<usize>
+fn dense_index_of(places: &VecDeque<QueuePlace>, unique: u64) -> Option<usize>
     requires rising { PlacesRise places.now.items }
     ensures { IfSome result (IsFirstPlace (is_place_of unique) places.now.items) }
 {
@@ -134,7 +134,7 @@ fn dense_index_of(places: &VecDeque<Place>, unique: u64) -> Option<usize>
 
 /// Drops the gaps before the first and behind the last of `asks` asks, and all other gaps if they outnumber the asks.
 /// Takes no memory.
-fn drop_gaps(places: &mut VecDeque<Place>, asks: usize)
+fn drop_gaps(places: &mut VecDeque<QueuePlace>, asks: usize)
     requires counted { asks ≡ length (asks_at places.old.items) }
     ensures dropped { DropsGaps places.old.items places.new.items }
     ensures first { StartsFilled places.new.items }
@@ -149,7 +149,7 @@ fn drop_gaps(places: &mut VecDeque<Place>, asks: usize)
 }
 
 /// Drops the gaps before the first ask.
-fn drop_first_gaps(places: &mut VecDeque<Place>)
+fn drop_first_gaps(places: &mut VecDeque<QueuePlace>)
     ensures dropped { DropsGaps places.old.items places.new.items }
     ensures first { StartsFilled places.new.items }
 {
@@ -162,7 +162,7 @@ fn drop_first_gaps(places: &mut VecDeque<Place>)
 }
 
 /// Drops the gaps behind the last ask.
-fn drop_last_gaps(places: &mut VecDeque<Place>)
+fn drop_last_gaps(places: &mut VecDeque<QueuePlace>)
     ensures dropped { DropsGaps places.old.items places.new.items }
     ensures last { EndsFilled places.new.items }
 {

@@ -6,8 +6,8 @@ use broker_core::IssueFault;
 use fuse_wire::{Answer, Item, Request};
 
 impl Desk {
-    /// Accepts a forget of one `item`, as `issue` does. A forget that is refused as bad or without a mount is of no use
-    /// later; any other one is to be made again.
+    /// Accepts a forget of one `item`, as `issue` does. A forget that is refused as bad or without a mount is never
+    /// made again; any other one is to be.
     pub fn forget(&mut self, item: Item) -> Result<(), IssueFault>
         ensures forgets { Forgets self.old item result self.new }
     {

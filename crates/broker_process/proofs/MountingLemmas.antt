@@ -1,9 +1,9 @@
 -- Lemmas on the lines of mounts, one mount after another.
-use Rattle.std.proofs.Common.{◌≡◌, ◌⊎◌, ℕ, List, [], ◌∷◌, ◌++◌, Option, Result, Ok, Err, inl, inr, refl, sym, ap, subst, ◌∙◌}
+use Rattle.std.proofs.Common.{◌≡◌, ◌⊎◌, ℕ, List, [], ◌∷◌, ◌++◌, Option, Err, inl, inr, refl, sym, ap, subst, ◌∙◌}
 use Rattle.std.specs.Prelude.{map}
 use Rattle.std.specs.Io.KnownBytes.{Appends}
 use Rattle.std.specs.List.{concat}
-use Rattle.std.proofs.KnownBytes.{Appends-nil, Appends-trans}
+use Rattle.std.proofs.KnownBytes.{Appends-trans}
 use Rattle.std.proofs.lemmas.List.{append-nil, map-append}
 use Rattle.std.proofs.lemmas.List.Folds.{concat-append}
 use Rattle.broker_process.specs.Mounting.{PrintsDead, PrintsMount, PrintsThen, RunsMount, end_line, lines_by, mounted_line}
@@ -11,17 +11,9 @@ use Rattle.broker_process.specs.declared.fault.MountRunFault.{MountRunFault}
 use Rattle.broker_process.specs.declared.service.MountEnd.{MountEnd}
 use Rattle.broker_process.specs.declared.service.MountEnd.TheVariants.{Unmounted, Dead}
 
-pub dead-none : (known : Option (List ℕ)) → PrintsDead known known
-dead-none known = ([], Appends-nil known)
-
 -- what a fault leaves printed, whichever it is
 abbrev Left : Option (List ℕ) → Option (List ℕ) → Type 0
 Left old new = PrintsDead old new ⊎ PrintsThen mounted_line old new
-
--- a mount that began, whatever becomes of it
-pub mount-began : (generation : ℕ) (result : Result MountEnd MountRunFault) (old new : Option (List ℕ)) → Appends old new (mounted_line generation) → PrintsMount generation result old new
-mount-began generation (Ok end) old new line = line
-mount-began generation (Err fault) old new line = inr line
 
 -- nothing more, after the lines of dead mounts
 dead-same : (old mid new : Option (List ℕ)) → PrintsDead old mid → Appends mid new [] → PrintsDead old new
@@ -52,18 +44,18 @@ dead-more generation old mid new was lines =
 
 -- the line of a mount's end was printed
 appended : (end known : MountEnd) (between new : Option (List ℕ)) → end ≡ known → Appends between new (end_line end) → Appends between new (end_line known)
-appended end known between new same told = subst (Appends between new) (ap end_line same) told
+appended end known between new same line = subst (Appends between new) (ap end_line same) line
 
 -- somebody unmounted, and that was printed
 pub ends-well : (generation : ℕ) (end : MountEnd) (old mid between new : Option (List ℕ)) →
     PrintsDead old mid → Appends mid between (mounted_line generation) → end ≡ Unmounted → Appends between new (end_line end) →
     PrintsThen (lines_by Unmounted) old new
-ends-well generation end old mid between new was first same told =
-    (mid, was, (generation, both-lines generation Unmounted mid between new first (appended end Unmounted between new same told)))
+ends-well generation end old mid between new was first same line =
+    (mid, was, (generation, both-lines generation Unmounted mid between new first (appended end Unmounted between new same line)))
 
 -- a daemon died, and that was printed
 pub goes-on : (generation : ℕ) (end : MountEnd) (old mid between new : Option (List ℕ)) →
     PrintsDead old mid → Appends mid between (mounted_line generation) → end ≡ Dead → Appends between new (end_line end) →
     PrintsDead old new
-goes-on generation end old mid between new was first same told =
-    dead-more generation old mid new was (both-lines generation Dead mid between new first (appended end Dead between new same told))
+goes-on generation end old mid between new was first same line =
+    dead-more generation old mid new was (both-lines generation Dead mid between new first (appended end Dead between new same line))

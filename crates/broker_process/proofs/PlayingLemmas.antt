@@ -10,39 +10,39 @@ use Rattle.broker_script.specs.Printed.{PrintsBegun, came_lines}
 use Rattle.broker_script.specs.declared.awaited.Awaited.{Awaited}
 use Rattle.broker_script.specs.declared.awaited.Came.{Came}
 use Rattle.broker_script.specs.declared.awaited.Came.TheVariants as came
-use Rattle.broker_script.specs.declared.line.Begun.{Begun}
-use Rattle.broker_script.specs.declared.line.Begun.TheVariants.{Waits, Forgot, Refused, Tells}
+use Rattle.broker_script.specs.declared.line.BegunLine.{BegunLine}
+use Rattle.broker_script.specs.declared.line.BegunLine.TheVariants.{Waits, Forgot, Refused, Tells}
 use Rattle.script_lines.specs.declared.broker_line.BrokerLine.{BrokerLine}
 use Rattle.broker_process.specs.Playing.{Began, HasCome, PlaysLine, PlaysLines, PlaysScript, PrintsCome}
 
 -- it was printed of some broker
-pub told-by_some : {E : Type 0} (told : Result (Unit {0}) E) (broker : BrokerState) (begun : Begun) (old new : Option (List ℕ)) →
-    OnOk told (PrintsBegun broker begun old new) → OnOk told ((some : BrokerState) × PrintsBegun some begun old new)
-told-by_some (Ok done) broker begun old new printed = (broker, printed)
-told-by_some (Err error) broker begun old new printed = tt
+pub printed-by_some : {E : Type 0} (result : Result (Unit {0}) E) (broker : BrokerState) (begun : BegunLine) (old new : Option (List ℕ)) →
+    OnOk result (PrintsBegun broker begun old new) → OnOk result ((some : BrokerState) × PrintsBegun some begun old new)
+printed-by_some (Ok done) broker begun old new printed = (broker, printed)
+printed-by_some (Err error) broker begun old new printed = tt
 
 -- a line was done that waits for what came
-pub plays-waits : {E : Type 0} (told : Result (Unit {0}) E) (line : BrokerLine) (begun : Begun) (awaited : Awaited) (found : Came) (old mid new : Option (List ℕ)) →
+pub plays-waits : {E : Type 0} (result : Result (Unit {0}) E) (line : BrokerLine) (begun : BegunLine) (awaited : Awaited) (found : Came) (old mid new : Option (List ℕ)) →
     Began line begun → (broker : BrokerState) × PrintsBegun broker begun old mid → begun ≡ Waits awaited → HasCome awaited found →
-    OnOk told (Appends mid new (came_lines found)) → OnOk told (PlaysLine line old new)
+    OnOk result (Appends mid new (came_lines found)) → OnOk result (PlaysLine line old new)
 plays-waits (Ok done) line begun awaited found old mid new began printed is has line_printed = record {
   begun = begun;
   began = began;
   broker = printed.0;
   mid = mid;
   begins = printed.1;
-  comes = subst (λ (b : Begun). PrintsCome b mid new) (sym is) (found, has, line_printed);
+  comes = subst (λ (b : BegunLine). PrintsCome b mid new) (sym is) (found, has, line_printed);
 }
 plays-waits (Err error) line begun awaited found old mid new began printed is has line_printed = tt
 
 -- a line that waits for nothing prints nothing more
-pub comes-nothing : (begun : Begun) (known : Option (List ℕ)) → (begun ≡ Forgot) ⊎ (((fault : _) × (begun ≡ Refused fault)) ⊎ (begun ≡ Tells)) → PrintsCome begun known known
-comes-nothing begun known (inl is) = subst (λ (b : Begun). PrintsCome b known known) (sym is) (Appends-nil known)
-comes-nothing begun known (inr (inl (fault, is))) = subst (λ (b : Begun). PrintsCome b known known) (sym is) (Appends-nil known)
-comes-nothing begun known (inr (inr is)) = subst (λ (b : Begun). PrintsCome b known known) (sym is) (Appends-nil known)
+pub comes-nothing : (begun : BegunLine) (known : Option (List ℕ)) → (begun ≡ Forgot) ⊎ (((fault : _) × (begun ≡ Refused fault)) ⊎ (begun ≡ Tells)) → PrintsCome begun known known
+comes-nothing begun known (inl is) = subst (λ (b : BegunLine). PrintsCome b known known) (sym is) (Appends-nil known)
+comes-nothing begun known (inr (inl (fault, is))) = subst (λ (b : BegunLine). PrintsCome b known known) (sym is) (Appends-nil known)
+comes-nothing begun known (inr (inr is)) = subst (λ (b : BegunLine). PrintsCome b known known) (sym is) (Appends-nil known)
 
 -- a line was done that waits for nothing
-pub plays-at_once : (line : BrokerLine) (begun : Begun) (old new : Option (List ℕ)) →
+pub plays-at_once : (line : BrokerLine) (begun : BegunLine) (old new : Option (List ℕ)) →
     Began line begun → (broker : BrokerState) × PrintsBegun broker begun old new → PrintsCome begun new new → PlaysLine line old new
 plays-at_once line begun old new began printed comes = record {
   begun = begun;
@@ -63,7 +63,7 @@ has_come old new awaited found lacks (inr refused) is not =
     let both : false ≡ true = sym not ∙ bad in cc
 
 -- what was printed stays
-come-kept : (begun : Begun) (old mid new : Option (List ℕ)) → PrintsCome begun old mid → Keeps mid new → PrintsCome begun old new
+come-kept : (begun : BegunLine) (old mid new : Option (List ℕ)) → PrintsCome begun old mid → Keeps mid new → PrintsCome begun old new
 come-kept (Waits awaited) old mid new (came, is, printed) kept = (came, is, Appends-kept old mid new (came_lines came) printed kept)
 come-kept Forgot old mid new printed kept = Appends-kept old mid new [] printed kept
 come-kept (Refused fault) old mid new printed kept = Appends-kept old mid new [] printed kept

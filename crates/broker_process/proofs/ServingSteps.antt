@@ -1,11 +1,11 @@
 -- A kernel's messages, turn by turn and read by read.
-use Rattle.std.proofs.Common.{◌≡◌, ℕ, zero, suc, List, Option, Result, inl, inr, refl}
+use Rattle.std.proofs.Common.{ℕ, zero, suc, List, Option, Result, inl, inr}
 use Rattle.broker_desk.specs.declared.progress.Progress.{Progress}
-use Rattle.broker_desk.specs.declared.progress.Progress.TheVariants.{Done, Answers, Leaves, NotMounted}
+use Rattle.broker_desk.specs.declared.progress.Progress.TheVariants.{Leaves}
 use Rattle.mount_wire.specs.declared.message.KernelMessage.{KernelMessage}
-use Rattle.broker_process.specs.Device.{Takes}
-use Rattle.broker_process.specs.Serving.{EndsBy, GoesOn, IsEnd, IsHeard, IsHeardIn, IsHeardToTheEnd, ServesIn, ServesMount}
-use Rattle.broker_process.specs.declared.device.Taken.{Taken}
+use Rattle.broker_process.specs.Device.{ReadsDevice}
+use Rattle.broker_process.specs.Serving.{EndsBy, GoesOn, IsHeard, IsHeardIn, IsHeardToTheEnd, ServesIn, ServesMount}
+use Rattle.broker_process.specs.declared.device.DeviceRead.{DeviceRead}
 use Rattle.broker_process.specs.declared.fault.MountRunFault.{MountRunFault}
 use Rattle.broker_process.specs.declared.service.MountEnd.{MountEnd}
 
@@ -13,22 +13,12 @@ use Rattle.broker_process.specs.declared.service.MountEnd.{MountEnd}
 pub heard_before : (message left : KernelMessage) (end : Progress) → IsHeard message (Leaves left) → IsHeardToTheEnd left end → IsHeardToTheEnd message end
 heard_before message left end first rest = (suc rest.0, (left, first, rest.1))
 
--- a progress that leaves nothing is an end
-pub is_end : (progress : Progress) → ((left : KernelMessage) → progress ≡ Leaves left → ⊥) → IsEnd progress
-is_end Done whole = tt
-is_end (Answers text) whole = tt
-is_end (Leaves message) whole = whole message refl
-is_end NotMounted whole = tt
-
-pub heard_last : (message : KernelMessage) (end : Progress) → IsHeard message end → IsEnd end → IsHeardToTheEnd message end
-heard_last message end heard is = (zero, (heard, is))
-
 -- one read more, in front
-pub read_before : (taken : Taken) (ended : Result MountEnd MountRunFault) (left told left_mid told_mid left_then told_then : Option (List ℕ)) → Takes left left_mid taken → GoesOn taken told told_mid → ((reads : ℕ) × ServesIn reads ended left_mid told_mid left_then told_then) → ((reads : ℕ) × ServesIn reads ended left told left_then told_then)
-read_before taken ended left told left_mid told_mid left_then told_then takes goes rest = (suc rest.0, (taken, left_mid, told_mid, takes, goes, rest.1))
+pub read_before : (read : DeviceRead) (ended : Result MountEnd MountRunFault) (left output left_mid output_mid left_then output_then : Option (List ℕ)) → ReadsDevice left left_mid read → GoesOn read output output_mid → ((reads : ℕ) × ServesIn reads ended left_mid output_mid left_then output_then) → ((reads : ℕ) × ServesIn reads ended left output left_then output_then)
+read_before read ended left output left_mid output_mid left_then output_then is_read goes rest = (suc rest.0, (read, left_mid, output_mid, is_read, goes, rest.1))
 
-pub read_last : (taken : Taken) (ended : Result MountEnd MountRunFault) (left told left_then told_then : Option (List ℕ)) → Takes left left_then taken → EndsBy taken ended told told_then → ((reads : ℕ) × ServesIn reads ended left told left_then told_then)
-read_last taken ended left told left_then told_then takes ends = (zero, (taken, takes, ends))
+pub read_last : (read : DeviceRead) (ended : Result MountEnd MountRunFault) (left output left_then output_then : Option (List ℕ)) → ReadsDevice left left_then read → EndsBy read ended output output_then → ((reads : ℕ) × ServesIn reads ended left output left_then output_then)
+read_last read ended left output left_then output_then is_read ends = (zero, (read, is_read, ends))
 
 -- what is heard to the end leaves nothing
 pub never_left : (turns : ℕ) (message left : KernelMessage) → IsHeardIn turns message (Leaves left) → ⊥

@@ -3,24 +3,24 @@ use Rattle.std.proofs.Common.{◌≡◌, ℕ, suc, ◌+◌, ◌-◌, ◌<◌, Li
 use Rattle.broker_process.specs.Device.{Gives}
 use Rattle.broker_process.specs.Writing.{next_text, written_by, WritesFrom}
 use Rattle.broker_process.specs.declared.device.Given.{Given}
-use Rattle.broker_process.specs.declared.writing.Written.{Written}
-use Rattle.broker_process.specs.declared.writing.Written.TheVariants.{Refused}
+use Rattle.broker_process.specs.declared.reply_write.Written.{Written}
+use Rattle.broker_process.specs.declared.reply_write.Written.TheVariants.{Refused}
 
 -- one write more, in front
-pub write_before : (i : ℕ) (reply error text : List ℕ) (given : Given) (told : Written) (old mid new : Option (List ℕ)) → i < 6 → text ≡ next_text reply error i →
-    Gives text given old mid → written_by given i ≡ None → WritesFrom (6 - (i + 1)) (i + 1) reply error told mid new → WritesFrom (6 - i) i reply error told old new
-write_before i reply error text given told old mid new below is gives on rest =
+pub write_before : (i : ℕ) (reply error text : List ℕ) (given : Given) (result : Written) (old mid new : Option (List ℕ)) → i < 6 → text ≡ next_text reply error i →
+    Gives text given old mid → written_by given i ≡ None → WritesFrom (6 - (i + 1)) (i + 1) reply error result mid new → WritesFrom (6 - i) i reply error result old new
+write_before i reply error text given result old mid new below is gives on rest =
     let left : suc (5 - i) ≡ 6 - i = omega (arith, below) in
     let fewer : 6 - (i + 1) ≡ 5 - i = omega arith in
-    subst (λ (n : ℕ). WritesFrom n i reply error told old new) left
-    (given, mid, subst (λ (t : List ℕ). Gives t given old mid) is gives, inr (on, subst (λ (n : ℕ). WritesFrom n (i + 1) reply error told mid new) fewer rest))
+    subst (λ (n : ℕ). WritesFrom n i reply error result old new) left
+    (given, mid, subst (λ (t : List ℕ). Gives t given old mid) is gives, inr (on, subst (λ (n : ℕ). WritesFrom n (i + 1) reply error result mid new) fewer rest))
 
 -- the last write
-pub write_last : (i : ℕ) (reply error text : List ℕ) (given : Given) (told : Written) (old mid : Option (List ℕ)) → i < 6 → text ≡ next_text reply error i →
-    Gives text given old mid → written_by given i ≡ Some told → WritesFrom (6 - i) i reply error told old mid
-write_last i reply error text given told old mid below is gives ends =
+pub write_last : (i : ℕ) (reply error text : List ℕ) (given : Given) (result : Written) (old mid : Option (List ℕ)) → i < 6 → text ≡ next_text reply error i →
+    Gives text given old mid → written_by given i ≡ Some result → WritesFrom (6 - i) i reply error result old mid
+write_last i reply error text given result old mid below is gives ends =
     let left : suc (5 - i) ≡ 6 - i = omega (arith, below) in
-    subst (λ (n : ℕ). WritesFrom n i reply error told old mid) left
+    subst (λ (n : ℕ). WritesFrom n i reply error result old mid) left
     (given, mid, subst (λ (t : List ℕ). Gives t given old mid) is gives, inl (ends, refl))
 
 -- no write is left

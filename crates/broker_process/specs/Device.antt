@@ -8,8 +8,8 @@ use Rattle.std.specs.Ordering.{int_eq}
 use Rattle.std.specs.declared.io.Error.{Error as IoError}
 use Rattle.broker_process.specs.declared.device.Given.{Given}
 use Rattle.broker_process.specs.declared.device.Given.TheVariants as given
-use Rattle.broker_process.specs.declared.device.Taken.{Taken}
-use Rattle.broker_process.specs.declared.device.Taken.TheVariants.{Message, Again, Unmounted, Broken}
+use Rattle.broker_process.specs.declared.device.DeviceRead.{DeviceRead}
+use Rattle.broker_process.specs.declared.device.DeviceRead.TheVariants.{Message, Again, Unmounted, Broken}
 
 -- whether the system told an error by this number
 abbrev pub has_number : IoError → ℤ → Bool
@@ -17,16 +17,16 @@ has_number error number = option_map_or (λ (code : ℤ). int_eq code number) (r
 
 -- what a read says that failed: EINTR (4) and ENOENT (2) that it is to be made again, since it was interrupted or its
 -- request withdrawn; ENODEV (19) that the mount is gone; any other error that the device can't be read
-abbrev pub taken_by : IoError → Taken
-taken_by error =
+abbrev pub failed_read : IoError → DeviceRead
+failed_read error =
     if has_number error (pos 4) || has_number error (pos 2) then Again
     else if has_number error (pos 19) then Unmounted
     else Broken error
 
 -- a read gave a message, which leaves what is left to read; or it failed, and nothing leaves
-abbrev pub Takes : Option (List ℕ) → Option (List ℕ) → Taken → Type 0
-Takes old new (Message bytes) = Consumes old new bytes.now
-Takes old new taken = (error : IoError) × (taken ≡ taken_by error) × Keeps old new
+abbrev pub ReadsDevice : Option (List ℕ) → Option (List ℕ) → DeviceRead → Type 0
+ReadsDevice old new (Message bytes) = Consumes old new bytes.now
+ReadsDevice old new read = (error : IoError) × (read ≡ failed_read error) × Keeps old new
 
 -- what became of a reply whose write failed: ENOENT (2) says that the kernel wants it no more, since its request was
 -- withdrawn or the mount is gone; by any other error the device refused it

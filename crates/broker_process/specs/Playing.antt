@@ -8,8 +8,8 @@ use Rattle.broker_script.specs.Looking.{come}
 use Rattle.broker_script.specs.Printed.{PrintsBegun, came_lines}
 use Rattle.broker_script.specs.declared.awaited.Awaited.{Awaited}
 use Rattle.broker_script.specs.declared.awaited.Came.{Came}
-use Rattle.broker_script.specs.declared.line.Begun.{Begun}
-use Rattle.broker_script.specs.declared.line.Begun.TheVariants.{Waits}
+use Rattle.broker_script.specs.declared.line.BegunLine.{BegunLine}
+use Rattle.broker_script.specs.declared.line.BegunLine.TheVariants.{Waits}
 use Rattle.script_lines.specs.declared.broker_line.BrokerLine.{BrokerLine}
 use Rattle.broker_process.specs.declared.fault.BrokerFault.{BrokerFault}
 use Rattle.broker_process.specs.declared.fault.BrokerFault.TheVariants.{CannotWrite}
@@ -17,21 +17,21 @@ use Rattle.broker_process.specs.declared.fault.BrokerFault.TheVariants.{CannotWr
 -- Daemons change the desk between these steps, so each definition below speaks of the desk as its own step found it.
 
 -- `begun` is the immediate result of the line of the script, over some state of the desk
-abbrev pub Began : BrokerLine → Begun → Type 0
+abbrev pub Began : BrokerLine → BegunLine → Type 0
 Began line begun = (before : DeskState) × (after : DeskState) × Begins before line begun after
 
 -- `came` is what came, over some state of the desk, of what is awaited
 abbrev pub HasCome : Awaited → Came → Type 0
-HasCome awaited came = (desk : DeskState) × (come desk.broker awaited ≡ Some came)
+HasCome awaited came = (state : DeskState) × (come state.broker awaited ≡ Some came)
 
 -- what is appended once a line was begun: the lines of what it awaited, or nothing if it awaits nothing
-abbrev pub PrintsCome : Begun → Option (List ℕ) → Option (List ℕ) → Type 0
+abbrev pub PrintsCome : BegunLine → Option (List ℕ) → Option (List ℕ) → Type 0
 PrintsCome (Waits awaited) old new = (came : Came) × HasCome awaited came × Appends old new (came_lines came)
 PrintsCome begun old new = Appends old new []
 
 -- one line of the script was done, and its result was printed
 pub record PlaysLine (line : BrokerLine) (old new : Option (List ℕ)) : Type 0 where
-  pub begun : Begun
+  pub begun : BegunLine
   pub began : Began line begun
   pub broker : BrokerState
   pub mid : Option (List ℕ)

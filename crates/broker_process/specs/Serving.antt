@@ -7,18 +7,18 @@ use Rattle.broker_desk.specs.declared.progress.Progress.TheVariants.{Done, Answe
 use Rattle.broker_desk.specs.declared.pair.Pair.{Pair}
 use Rattle.mount_wire.specs.Message.{Reads}
 use Rattle.mount_wire.specs.declared.message.KernelMessage.{KernelMessage}
-use Rattle.broker_process.specs.Device.{Takes}
+use Rattle.broker_process.specs.Device.{ReadsDevice}
 use Rattle.broker_process.specs.Writing.{Writes}
-use Rattle.broker_process.specs.declared.device.Taken.{Taken}
-use Rattle.broker_process.specs.declared.device.Taken.TheVariants as taken
+use Rattle.broker_process.specs.declared.device.DeviceRead.{DeviceRead}
+use Rattle.broker_process.specs.declared.device.DeviceRead.TheVariants as read
 use Rattle.broker_process.specs.declared.fault.MountRunFault.{MountRunFault}
 use Rattle.broker_process.specs.declared.fault.MountRunFault.TheVariants.{Broken, NoMemory}
 use Rattle.broker_process.specs.declared.service.Handled.{Handled}
 use Rattle.broker_process.specs.declared.service.Handled.TheVariants as handled
 use Rattle.broker_process.specs.declared.service.MountEnd.{MountEnd}
 use Rattle.broker_process.specs.declared.service.MountEnd.TheVariants.{Unmounted, Dead}
-use Rattle.broker_process.specs.declared.writing.Written.{Written}
-use Rattle.broker_process.specs.declared.writing.Written.TheVariants as written
+use Rattle.broker_process.specs.declared.reply_write.Written.{Written}
+use Rattle.broker_process.specs.declared.reply_write.Written.TheVariants as written
 
 -- ---- one message
 
@@ -47,14 +47,15 @@ IsHeardToTheEnd message end = (turns : ℕ) × IsHeardIn turns message end
 -- what becomes of a mount whose program wrote an answer of its own: it goes on, unless the device refused each write
 abbrev pub handled_by : Written → Handled
 handled_by written.Refused = handled.Refused
-handled_by told = handled.GoesOn
+handled_by other = handled.GoesOn
 
 -- what the program writes of its own at a message's end, and what becomes of the mount
-abbrev pub Tells : Progress → Handled → Option (List ℕ) → Option (List ℕ) → Type 0
-Tells Done becomes old new = (becomes ≡ handled.GoesOn) × (new ≡ old)
-Tells (Answers text) becomes old new = (told : Written) × (becomes ≡ handled_by told) × Writes text text told old new
-Tells NotMounted becomes old new = (becomes ≡ handled.NotMounted) × (new ≡ old)
-Tells (Leaves message) becomes old new = ⊥
+abbrev pub WritesOwn : Progress → Handled → Option (List ℕ) → Option (List ℕ) → Type 0
+WritesOwn Done becomes old new = (becomes ≡ handled.GoesOn) × (new ≡ old)
+WritesOwn (Answers text) becomes old new =
+    (result : Written) × (becomes ≡ handled_by result) × Writes text text result old new
+WritesOwn NotMounted becomes old new = (becomes ≡ handled.NotMounted) × (new ≡ old)
+WritesOwn (Leaves message) becomes old new = ⊥
 
 -- the bytes of one message were read as a message, which was heard to its end; an answer of the program's own was written
 -- until the kernel took it, six times at most
@@ -63,37 +64,37 @@ pub record Handles (bytes : List ℕ) (becomes : Handled) (old new : Option (Lis
   pub reads : Reads bytes message
   pub end : Progress
   pub heard : IsHeardToTheEnd message end
-  pub tells : Tells end becomes old new
+  pub writes : WritesOwn end becomes old new
 
 -- ---- all messages of a mount
 
 -- what a read gave was handled, and the mount goes on
-abbrev pub GoesOn : Taken → Option (List ℕ) → Option (List ℕ) → Type 0
-GoesOn (taken.Message bytes) old new = Handles bytes.now handled.GoesOn old new
-GoesOn taken.Again old new = new ≡ old
-GoesOn taken old new = ⊥
+abbrev pub GoesOn : DeviceRead → Option (List ℕ) → Option (List ℕ) → Type 0
+GoesOn (read.Message bytes) old new = Handles bytes.now handled.GoesOn old new
+GoesOn read.Again old new = new ≡ old
+GoesOn read old new = ⊥
 
 -- what a read gave ended the mount: no daemon had the seat when it was handled, the device refused an answer, somebody
 -- unmounted, or the device broke
-abbrev pub EndsBy : Taken → Result MountEnd MountRunFault → Option (List ℕ) → Option (List ℕ) → Type 0
-EndsBy (taken.Message bytes) (Ok Dead) old new = Handles bytes.now handled.NotMounted old new
-EndsBy (taken.Message bytes) (Err (Broken error)) old new = Handles bytes.now handled.Refused old new
-EndsBy taken.Unmounted (Ok Unmounted) old new = new ≡ old
-EndsBy (taken.Broken error) (Err (Broken told)) old new = (told ≡ error) × (new ≡ old)
-EndsBy taken ended old new = ⊥
+abbrev pub EndsBy : DeviceRead → Result MountEnd MountRunFault → Option (List ℕ) → Option (List ℕ) → Type 0
+EndsBy (read.Message bytes) (Ok Dead) old new = Handles bytes.now handled.NotMounted old new
+EndsBy (read.Message bytes) (Err (Broken error)) old new = Handles bytes.now handled.Refused old new
+EndsBy read.Unmounted (Ok Unmounted) old new = new ≡ old
+EndsBy (read.Broken error) (Err (Broken cause)) old new = (cause ≡ error) × (new ≡ old)
+EndsBy read ended old new = ⊥
 
 -- a mount ended by a read, behind as many others as the number says: what each of them gave was handled before the next
--- one. `left` is what was still to be read, and `told` what the program wrote of its own, where those are known.
+-- one. `left` is what was still to be read, and `output` what the program wrote of its own, where those are known.
 abbrev pub ServesIn : ℕ → Result MountEnd MountRunFault → Option (List ℕ) → Option (List ℕ) → Option (List ℕ) → Option (List ℕ) → Type 0
-ServesIn zero ended left told left_then told_then =
-    (taken : Taken) × Takes left left_then taken × EndsBy taken ended told told_then
-ServesIn (suc reads) ended left told left_then told_then =
-    (taken : Taken) × (left_mid : Option (List ℕ)) × (told_mid : Option (List ℕ))
-    × Takes left left_mid taken × GoesOn taken told told_mid
-    × ServesIn reads ended left_mid told_mid left_then told_then
+ServesIn zero ended left output left_then output_then =
+    (read : DeviceRead) × ReadsDevice left left_then read × EndsBy read ended output output_then
+ServesIn (suc reads) ended left output left_then output_then =
+    (read : DeviceRead) × (left_mid : Option (List ℕ)) × (output_mid : Option (List ℕ))
+    × ReadsDevice left left_mid read × GoesOn read output output_mid
+    × ServesIn reads ended left_mid output_mid left_then output_then
 
 -- a mount was served to its end; or memory for the first read was refused, and nothing was read or written
 abbrev pub ServesMount : Result MountEnd MountRunFault → Option (List ℕ) → Option (List ℕ) → Option (List ℕ) → Option (List ℕ) → Type 0
-ServesMount ended left told left_then told_then =
-    ((reads : ℕ) × ServesIn reads ended left told left_then told_then)
-    ⊎ ((ended ≡ Err NoMemory) × (left_then ≡ left) × (told_then ≡ told))
+ServesMount ended left output left_then output_then =
+    ((reads : ℕ) × ServesIn reads ended left output left_then output_then)
+    ⊎ ((ended ≡ Err NoMemory) × (left_then ≡ left) × (output_then ≡ output))

@@ -1,4 +1,4 @@
--- What wakes the script of a broker, and what a daemon is told that mounts. (This project's own.)
+-- What wakes the script of a broker, and what is answered to a daemon that mounts. (This project's own.)
 use Rattle.std.specs.Prelude.{ℕ, ◌==◌, Bool, true, false, if◌then◌else◌}
 use Rattle.frames.specs.declared.frame.Frame.{Frame}
 use Rattle.frames.specs.declared.frame.Frame.TheVariants.{Ask, Posted, Claimed, Mounted}
@@ -9,7 +9,7 @@ use Rattle.broker_process.specs.declared.shared_desk.Granted.TheVariants.{Now, L
 use Rattle.broker_process.specs.declared.shared_desk.Waiting.{Waiting}
 use Rattle.broker_process.specs.declared.shared_desk.Waiting.TheVariants.{Reply, Seat, Idle}
 
--- whether a script that waits for this is woken by what a daemon is told: a posted reply, a seat that was mounted or
+-- whether a script that waits for this is woken by the answer to a daemon: a posted reply, a seat that was mounted or
 -- claimed, or an ask or a forget that was taken
 abbrev pub wakes : Waiting → Frame → Bool
 wakes Reply Posted = true
@@ -18,8 +18,8 @@ wakes Seat (Claimed generation) = true
 wakes Idle (Ask text) = true
 wakes waiting frame = false
 
--- what a daemon is told that mounted at this generation, by what the kernel agreed to and by whether nobody has the seat:
--- where the kernel did not agree to this mount, it may yet, unless the mount is over
+-- what is answered to a daemon that mounted at this generation, by what the kernel agreed to and by whether nobody has
+-- the seat: where the kernel did not agree to this mount, it may yet, unless the mount is over
 abbrev pub granted_by : Agreed → Bool → ℕ → Granted
 granted_by Always is_free generation = Now
 granted_by NotYet is_free generation = if is_free then Never else Later

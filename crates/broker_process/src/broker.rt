@@ -3,8 +3,9 @@ ghost use Rattle.std.specs.Prelude.{◌≡◌, Err, All};
 ghost use Rattle.broker_process.specs.Playing.{RunsBroker};
 ghost use Rattle.script_lines.specs.BrokerLine.{IsSendableLine};
 
-use crate::accept_loop::accept_all;
+use crate::accept_loop::AcceptLoop;
 use crate::broker_socket::BrokerSocket;
+use crate::context::BrokerContext;
 use crate::fault::BrokerFault;
 use crate::script::play;
 use crate::shared_desk::SharedDesk;
@@ -45,7 +46,16 @@ pub fn run_broker<R: Threads + Wait + Clock + Files + Net + Sync, W: Write + Dro
         Ok(listening) => listening,
         Err(error) => return fails(out, BrokerFault::CannotListen(error)),
     };
-    let ran = open(rt, alloc, &shared, &listening, script, out);
+    let context = BrokerContext {
+        rt,
+        alloc,
+        shared: &shared,
+    };
+    let accept_loop = AcceptLoop {
+        context: &context,
+        socket: &listening,
+    };
+    let ran = open(&accept_loop, script, out);
     listening.remove(rt, socket);
     ran
 }
@@ -63,10 +73,7 @@ fn fails<W: Write + Drop>(out: W, fault: BrokerFault) -> BrokerRun<W>
 
 /// Accepts connections in a thread while the script is played.
 fn open<R: Threads + Wait + Clock + Sync, W: Write + Drop>(
-    rt: &R,
-    alloc: Global,
-    shared: &SharedDesk,
-    socket: &BrokerSocket,
+    accept_loop: &AcceptLoop<'_, R>,
     script: &[BrokerLine],
     out: W,
 ) -> BrokerRun<W>
@@ -75,38 +82,32 @@ fn open<R: Threads + Wait + Clock + Sync, W: Write + Drop>(
 {
     thread::scope(
         thread::scope_env(),
-        rt,
+        accept_loop.context.rt,
         move |scope| -> BrokerRun<W>
             requires { All IsSendableLine script.now }
             ensures { RunsBroker script.entry.now result.ended
                 (W.contents out) (W.contents result.out) }
-        { open_within(scope, rt, alloc, shared, socket, script, out) },
+        { open_within(scope, accept_loop, script, out) },
     )
 }
 
 /// Accepts connections in a thread of a scope while the script is played, and ends them all then.
 fn open_within<'s, 'e: 's, R: Threads + Wait + Clock + Sync + 's, W: Write + Drop>(
     scope: &Scope<'s, &'e ()>,
-    rt: &'e R,
-    alloc: Global,
-    shared: &'e SharedDesk,
-    socket: &'e BrokerSocket,
+    accept_loop: &'e AcceptLoop<'e, R>,
     script: &[BrokerLine],
     out: W,
 ) -> BrokerRun<W>
     requires sendable { All IsSendableLine script.now }
     ensures runs { RunsBroker script.now result.ended (W.contents out) (W.contents result.out) }
 {
-    if scope
-        .spawn(move || accept_all(rt, alloc, shared, &socket.listener))
-        .is_err()
-    {
+    if !accept_loop.start(scope) {
         return fails(out, BrokerFault::NoThread);
     }
+    let (rt, shared) = (accept_loop.context.rt, accept_loop.context.shared);
     let mut out = out;
     let played = play(rt, shared, script, &mut out);
-    shared.end(rt);
-    socket.closer.close();
+    accept_loop.end();
     match played {
         Ok(()) => BrokerRun { out, ended: Ok(()) },
         Err(error) => BrokerRun {

@@ -13,7 +13,7 @@ pub(crate) struct BrokerSocket {
     pub listener: UnixListener,
     /// By it the wait for a connection is ended.
     pub closer: Closer,
-    /// When the socket was made, by which it is told from another one at the same path.
+    /// When the socket was made, by which it differs from another one at the same path.
     made: Option<SystemTime>,
 }
 

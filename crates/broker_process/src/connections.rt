@@ -171,7 +171,7 @@ impl Connections {
         }
     }
 
-    /// Returns how many connections are unattached.
+    /// Returns how many connections are unattached. At `MAX_UNATTACHED` one of them has to go before another one comes.
     fn unattached(&self) -> usize
         ensures count { result ≡ count_by is_unattached self.now.list.items }
     {

@@ -29,7 +29,7 @@ impl Control {
         }
     }
 
-    /// Ends the connection: programs that wait in the mount are told so, and a read of the device fails with ENODEV.
+    /// Ends the connection: programs that wait in the mount get an error, and a read of the device fails with ENODEV.
     /// Where the system shows no control file, a child looks at `mountpoint`, so that the kernel asks for something.
     pub(crate) fn end<R: Processes>(&mut self, rt: &R, alloc: Global, mountpoint: &str) {
         let is_ended = match &mut self.abort {

@@ -1,6 +1,6 @@
 //! The kernel's end of a mount: `/dev/fuse`, and the commands that mount and unmount.
 ghost use Rattle.std.specs.Prelude.{◌≡◌};
-ghost use Rattle.broker_process.specs.Device.{Gives, Takes, given_by, refused_by, taken_by};
+ghost use Rattle.broker_process.specs.Device.{Gives, ReadsDevice, failed_read, given_by, refused_by};
 
 use crate::system_command::SystemCommand;
 use mount_wire::FileOwner;
@@ -39,7 +39,7 @@ const EINTR: i32 = 4;
 const ENOTCONN: i32 = 107;
 
 /// What a read of the device gives.
-pub(crate) enum Taken<'b> {
+pub(crate) enum DeviceRead<'b> {
     /// A message of the kernel.
     Message(&'b [u8]),
     /// The call is to be made again: it was interrupted, or the request was withdrawn.
@@ -145,26 +145,26 @@ pub(crate) fn clear_dead_mount<R: Processes + Files>(
 }
 
 /// Reads the next message of the kernel from `device` into `buffer`.
-pub(crate) fn take<'b, D: Read>(device: &mut D, buffer: &'b mut [u8]) -> Taken<'b>
-    ensures takes { Takes (D.remaining device.old) (D.remaining device.new) result }
+pub(crate) fn read_device<'b, D: Read>(device: &mut D, buffer: &'b mut [u8]) -> DeviceRead<'b>
+    ensures reads { ReadsDevice (D.remaining device.old) (D.remaining device.new) result }
 {
     match device.read(buffer) {
         Ok(len) => {
             let (message, _) = buffer.split_at(len);
-            Taken::Message(message)
+            DeviceRead::Message(message)
         }
-        Err(error) => taken_by(error),
+        Err(error) => failed_read(error),
     }
 }
 
 /// Returns what a read of the device says that failed with `error`.
-fn taken_by<'b>(error: io::Error) -> Taken<'b>
-    ensures taken { result ≡ taken_by error }
+fn failed_read<'b>(error: io::Error) -> DeviceRead<'b>
+    ensures failed { result ≡ failed_read error }
 {
     match error.raw_os_error() {
-        Some(EINTR | ENOENT) => Taken::Again,
-        Some(ENODEV) => Taken::Unmounted,
-        _ => Taken::Broken(error),
+        Some(EINTR | ENOENT) => DeviceRead::Again,
+        Some(ENODEV) => DeviceRead::Unmounted,
+        _ => DeviceRead::Broken(error),
     }
 }
 

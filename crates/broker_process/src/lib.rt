@@ -5,16 +5,17 @@ mod accept_loop;
 mod broker;
 mod broker_socket;
 mod connections;
+mod context;
 mod control;
 mod device;
 mod fault;
 mod mount;
+mod reply_write;
 mod script;
 mod service;
 mod shared_desk;
 mod system_command;
 mod unmounter;
-mod writing;
 
 pub use broker::{BrokerRun, run_broker};
 pub use device::DEVICE;

@@ -3,12 +3,13 @@ ghost use Rattle.std.specs.Prelude.{◌≡◌, Err};
 ghost use Rattle.std.specs.Io.KnownBytes.{Appends};
 ghost use Rattle.broker_process.specs.Mounting.{PrintsMount, RunsMount, end_line, mounted_line};
 
-use crate::accept_loop::accept_all;
+use crate::accept_loop::AcceptLoop;
 use crate::broker_socket::BrokerSocket;
+use crate::context::BrokerContext;
 use crate::control::Control;
 use crate::device::{check_place, clear_dead_mount, mount, open_device, own_user};
 use crate::fault::MountRunFault;
-use crate::service::{MountEnd, Mounted, serve};
+use crate::service::{MountEnd, MountService, Mounted};
 use crate::shared_desk::SharedDesk;
 use crate::unmounter::{MountPoint, Unmounter};
 use eden_base::NoMemory;
@@ -44,9 +45,9 @@ pub struct MountOptions<'a> {
     pub owner: Option<FileOwner>,
 }
 
-/// Mounts by these `options` what daemons serve that reach the broker, and tells `out` when a mount begins and ends: a line
-/// that can't be written is dropped, and nobody waits for one. Returns after somebody unmounted and every daemon left, and
-/// removes the socket.
+/// Mounts by these `options` what daemons serve that reach the broker, and prints to `out` when a mount begins and
+/// ends: a line that can't be written is dropped, and nobody waits for one. Returns after somebody unmounted and every
+/// daemon left, and removes the socket.
 pub fn run_mount<
     R: Threads + Wait + Clock + Files<File = File> + Net + Processes + Copy + Send + Sync + 'static,
     W: Unblock + Drop,
@@ -61,12 +62,24 @@ pub fn run_mount<
         Ok(prepared) => prepared,
         Err(fault) => return fails(out, fault),
     };
-    let point = MountPoint {
-        path: options.mountpoint,
-        unmounter: prepared.unmounter.number(),
-        owner: prepared.owner,
+    let context = BrokerContext {
+        rt,
+        alloc,
+        shared: &prepared.shared,
     };
-    let ran = open(rt, alloc, &prepared.shared, &prepared.socket, &point, out);
+    let accept_loop = AcceptLoop {
+        context: &context,
+        socket: &prepared.socket,
+    };
+    let mounts = MountLoop {
+        context: &context,
+        point: MountPoint {
+            path: options.mountpoint,
+            unmounter: prepared.unmounter.number(),
+            owner: prepared.owner,
+        },
+    };
+    let ran = open(&accept_loop, &mounts, out);
     prepared.socket.remove(rt, options.socket);
     ran
 }
@@ -101,8 +114,8 @@ fn prepare<R: Clock + Files<File = File> + Net + Processes>(
     })
 }
 
-/// Makes the shared desk, once the file of what the kernel holds is made, and device and mountpoint are as a mount wants
-/// them.
+/// Makes the shared desk, once the file of what the kernel holds is made, and device and mountpoint are as a mount
+/// wants them.
 fn make_shared_desk<R: Files<File = File> + Processes>(
     rt: &R,
     alloc: Global,
@@ -161,21 +174,18 @@ fn fails<W: Unblock + Drop>(out: W, fault: MountRunFault) -> MountRun<W>
 
 /// Accepts connections in a thread while mounts are served.
 fn open<R: Threads + Wait + Clock + Files<File = File> + Processes + Sync, W: Unblock + Drop>(
-    rt: &R,
-    alloc: Global,
-    shared: &SharedDesk,
-    socket: &BrokerSocket,
-    point: &MountPoint<'_>,
+    accept_loop: &AcceptLoop<'_, R>,
+    mounts: &MountLoop<'_, R>,
     out: W,
 ) -> MountRun<W>
     ensures runs { RunsMount result.ended (W.contents out) (W.contents result.out) }
 {
     thread::scope(
         thread::scope_env(),
-        rt,
+        accept_loop.context.rt,
         move |scope| -> MountRun<W>
             ensures { RunsMount result.ended (W.contents out) (W.contents result.out) }
-        { open_within(scope, rt, alloc, shared, socket, point, out) },
+        { open_within(scope, accept_loop, mounts, out) },
     )
 }
 
@@ -187,96 +197,93 @@ fn open_within<
     W: Unblock + Drop,
 >(
     scope: &Scope<'s, &'e ()>,
-    rt: &'e R,
-    alloc: Global,
-    shared: &'e SharedDesk,
-    socket: &'e BrokerSocket,
-    point: &MountPoint<'_>,
+    accept_loop: &'e AcceptLoop<'e, R>,
+    mounts: &MountLoop<'_, R>,
     out: W,
 ) -> MountRun<W>
     ensures runs { RunsMount result.ended (W.contents out) (W.contents result.out) }
 {
-    if scope
-        .spawn(move || accept_all(rt, alloc, shared, &socket.listener))
-        .is_err()
-    {
+    if !accept_loop.start(scope) {
         return fails(out, MountRunFault::NoThread);
     }
+    let (rt, shared) = (accept_loop.context.rt, accept_loop.context.shared);
     let mut out = out;
-    let ended = serve_mounts(rt, alloc, shared, point, &mut out);
+    let ended = mounts.serve_mounts(&mut out);
     shared.close(rt);
     if ended.is_ok() {
         shared.wait_for_all(rt);
     }
-    shared.end(rt);
-    socket.closer.close();
+    accept_loop.end();
     MountRun { out, ended }
 }
 
-/// Serves a mount for each daemon that mounts, one after another, until somebody unmounts.
-fn serve_mounts<R: Threads + Wait + Clock + Files<File = File> + Processes + Sync, W: Unblock>(
-    rt: &R,
-    alloc: Global,
-    shared: &SharedDesk,
-    point: &MountPoint<'_>,
-    out: &mut W,
-) -> Result<(), MountRunFault>
-    ensures runs { RunsMount result (W.contents out.old) (W.contents out.new) }
-{
-    for _ in rt.forever() {
-        let generation = shared.begin_mount(rt);
-        let ended = serve_mount(rt, alloc, shared, point, generation, out);
-        shared.end_mount(rt);
-        let end = match ended {
-            Ok(end) => end,
+/// The mounts of a broker, one after another at the same place.
+#[derive(Drop)]
+struct MountLoop<'a, R> {
+    context: &'a BrokerContext<'a, R>,
+    point: MountPoint<'a>,
+}
+
+impl<R: Threads + Wait + Clock + Files<File = File> + Processes + Sync> MountLoop<'_, R> {
+    /// Serves a mount for each daemon that mounts, one after another, until somebody unmounts.
+    fn serve_mounts<W: Unblock>(&self, out: &mut W) -> Result<(), MountRunFault>
+        ensures runs { RunsMount result (W.contents out.old) (W.contents out.new) }
+    {
+        let (rt, shared) = (self.context.rt, self.context.shared);
+        for _ in rt.forever() {
+            let generation = shared.begin_mount(rt);
+            let ended = self.serve_mount(generation, out);
+            shared.end_mount(rt);
+            let end = match ended {
+                Ok(end) => end,
+                Err(fault) => return Err(fault),
+            };
+            print_end(out, end);
+            match end {
+                MountEnd::Unmounted => return Ok(()),
+                MountEnd::Dead => {}
+            }
+        }
+        unreachable!()
+    }
+
+    /// Mounts for the daemon of the seat at `generation`, and serves until the mount ends.
+    fn serve_mount<W: Unblock>(
+        &self,
+        generation: u64,
+        out: &mut W,
+    ) -> Result<MountEnd, MountRunFault>
+        ensures prints { PrintsMount generation result (W.contents out.old) (W.contents out.new) }
+    {
+        let mounted = match self.make_mount(generation) {
+            Ok(mounted) => mounted,
             Err(fault) => return Err(fault),
         };
-        print_end(out, end);
-        match end {
-            MountEnd::Unmounted => return Ok(()),
-            MountEnd::Dead => {}
-        }
+        let rt = self.context.rt;
+        self.context.shared.note_agreed(rt, generation);
+        print_mounted(out, generation);
+        let service = MountService {
+            context: self.context,
+            mountpoint: self.point.path,
+            own: MountAttributes {
+                since: now(rt),
+                owner: self.point.owner,
+            },
+        };
+        service.serve(mounted)
     }
-    unreachable!()
-}
 
-/// Mounts for the daemon of the seat at `generation`, and serves until the mount ends.
-fn serve_mount<R: Threads + Wait + Clock + Files<File = File> + Processes + Sync, W: Unblock>(
-    rt: &R,
-    alloc: Global,
-    shared: &SharedDesk,
-    point: &MountPoint<'_>,
-    generation: u64,
-    out: &mut W,
-) -> Result<MountEnd, MountRunFault>
-    ensures prints { PrintsMount generation result (W.contents out.old) (W.contents out.new) }
-{
-    let mounted = match make_mount(rt, alloc, point, generation) {
-        Ok(mounted) => mounted,
-        Err(fault) => return Err(fault),
-    };
-    shared.note_agreed(rt, generation);
-    print_mounted(out, generation);
-    let own = MountAttributes {
-        since: now(rt),
-        owner: point.owner,
-    };
-    serve(rt, alloc, shared, mounted, point.path, &own)
-}
-
-/// Mounts at `point` for the daemon that has the seat at `generation`.
-fn make_mount<R: Files<File = File> + Processes>(
-    rt: &R,
-    alloc: Global,
-    point: &MountPoint<'_>,
-    generation: u64,
-) -> Result<Mounted, MountRunFault> {
-    clear_dead_mount(rt, alloc, point.path).map_err(MountRunFault::CannotMount)?;
-    let source = point.source(alloc, generation)?;
-    let device = open_device(rt).map_err(MountRunFault::NoDevice)?;
-    mount(rt, alloc, &device, source.as_str(), point.path).map_err(MountRunFault::CannotMount)?;
-    let control = Control::open(rt, alloc, source.as_str());
-    Ok(Mounted { device, control })
+    /// Mounts for the daemon that has the seat at `generation`.
+    fn make_mount(&self, generation: u64) -> Result<Mounted, MountRunFault> {
+        let (rt, alloc) = (self.context.rt, self.context.alloc);
+        let path = self.point.path;
+        clear_dead_mount(rt, alloc, path).map_err(MountRunFault::CannotMount)?;
+        let source = self.point.source(alloc, generation)?;
+        let device = open_device(rt).map_err(MountRunFault::NoDevice)?;
+        mount(rt, alloc, &device, source.as_str(), path).map_err(MountRunFault::CannotMount)?;
+        let control = Control::open(rt, alloc, source.as_str());
+        Ok(Mounted { device, control })
+    }
 }
 
 /// Prints that a mount began at `generation`.

@@ -4,7 +4,7 @@ ghost use Rattle.broker_process.specs.Playing.{PlaysLine, PlaysScript};
 ghost use Rattle.script_lines.specs.BrokerLine.{IsSendableLine};
 
 use crate::shared_desk::SharedDesk;
-use broker_script::{Begun, BrokerLine, print_came};
+use broker_script::{BegunLine, BrokerLine, print_came};
 use std::io::{self, Write};
 use std::rt::Clock;
 use std::sync::Wait;
@@ -45,7 +45,7 @@ fn play_line<R: Wait + Clock, W: Write>(
     let begun = shared.begin(rt, line);
     shared.print_begun(rt, out, &begun)?;
     match begun {
-        Begun::Waits(awaited) => print_came(out, &shared.wait_for(rt, &awaited)),
-        Begun::Forgot | Begun::Refused(_) | Begun::Tells => Ok(()),
+        BegunLine::Waits(awaited) => print_came(out, &shared.wait_for(rt, &awaited)),
+        BegunLine::Forgot | BegunLine::Refused(_) | BegunLine::Tells => Ok(()),
     }
 }

@@ -3,17 +3,17 @@ ghost use Rattle.std.specs.Prelude.{◌≡◌};
 ghost use Rattle.mount_wire.specs.Message.{IsForDaemons};
 ghost use Rattle.broker_process.specs.Serving.{Handles, IsHeardToTheEnd, ServesMount, handled_by};
 
+use crate::context::BrokerContext;
 use crate::control::Control;
-use crate::device::{BUFFER_LEN, Taken, take};
+use crate::device::{BUFFER_LEN, DeviceRead, read_device};
 use crate::fault::MountRunFault;
-use crate::shared_desk::{Next, SharedDesk};
-use crate::writing::{Texts, Written, write_reply};
+use crate::reply_write::{Texts, Written, write_reply};
+use crate::shared_desk::NextWrite;
 use broker_core::IssueFault;
 use broker_desk::Progress;
 use eden_base::Errno;
 use fuse_wire::{Answer, Reply};
 use mount_wire::{KernelMessage, MountAttributes, read_message, tell_answer, tell_error};
-use std::alloc::Global;
 use std::fs::File;
 use std::io::{self, Read, Write};
 use std::process::Processes;
@@ -33,7 +33,7 @@ const EIO: i32 = 5;
 pub(crate) enum MountEnd {
     /// Somebody unmounted.
     Unmounted,
-    /// The daemon of the seat is gone. Programs in the mount are told ENOTCONN.
+    /// The daemon of the seat is gone. Programs in the mount get ENOTCONN.
     Dead,
 }
 
@@ -45,78 +45,14 @@ pub(crate) struct Mounted {
     pub control: Control,
 }
 
-/// Serves a mount: reads in a thread what the kernel asks by `device`, and writes replies in this one.
-pub(crate) fn serve<R: Threads + Wait + Clock + Processes + Sync>(
-    rt: &R,
-    alloc: Global,
-    shared: &SharedDesk,
-    mounted: Mounted,
-    mountpoint: &str,
-    own: &MountAttributes,
-) -> Result<MountEnd, MountRunFault> {
-    thread::scope(thread::scope_env(), rt, move |scope| {
-        serve_within(scope, rt, alloc, shared, mounted, mountpoint, own)
-    })
-}
-
-/// Serves a mount, with a thread of a scope that reads what the kernel asks.
-fn serve_within<'s, 'e: 's, R: Threads + Wait + Clock + Processes + Sync + 's>(
-    scope: &Scope<'s, &'e ()>,
-    rt: &'e R,
-    alloc: Global,
-    shared: &'e SharedDesk,
-    mounted: Mounted,
-    mountpoint: &str,
-    own: &MountAttributes,
-) -> Result<MountEnd, MountRunFault> {
-    let Mounted {
-        device,
-        mut control,
-    } = mounted;
-    let writer = device.try_clone().map_err(MountRunFault::Broken)?;
-    let answers = device.try_clone().map_err(MountRunFault::Broken)?;
-    let Ok(reading) = scope.spawn(move || read_to_the_end(rt, alloc, shared, device, answers))
-    else {
-        return Err(MountRunFault::NoThread);
-    };
-    let delivery = deliver_all(rt, shared, writer, own);
-    if delivery != Delivery::Over {
-        control.end(rt, alloc, mountpoint);
-    }
-    let ended = reading.join(rt);
-    match delivery {
-        Delivery::Refused => Err(MountRunFault::Broken(refused())),
-        Delivery::Over | Delivery::Gone => ended,
-    }
-}
-
-/// Returns the error of a device that refuses every write.
-fn refused() -> io::Error {
-    io::Error::from_raw_os_error(EIO)
-}
-
-/// Reads what the kernel asks by `device` until the mount ends, and writes this program's own answers by `answers`. Where
-/// no daemon died, the daemons hear that the mount is over, so that who writes replies sees the end too. A device also
-/// says that the mount is gone where a daemon died, since the connection is ended then.
-fn read_to_the_end<R: Wait + Clock>(
-    rt: &R,
-    alloc: Global,
-    shared: &SharedDesk,
-    device: File,
-    answers: File,
-) -> Result<MountEnd, MountRunFault> {
-    let (mut device, mut answers) = (device, answers);
-    let ended = read_all(rt, alloc, shared, &mut device, &mut answers);
-    drop(device);
-    drop(answers);
-    match ended {
-        Ok(MountEnd::Unmounted) => Ok(shared.end_of_mount(rt)),
-        Ok(MountEnd::Dead) => ended,
-        Err(_) => {
-            shared.close(rt);
-            ended
-        }
-    }
+/// The service of one mount.
+#[derive(Drop)]
+pub(crate) struct MountService<'a, R> {
+    pub context: &'a BrokerContext<'a, R>,
+    /// The path of the directory at which it is mounted.
+    pub mountpoint: &'a str,
+    /// What each file of the mount has as its own.
+    pub own: MountAttributes,
 }
 
 /// How the replies of a mount came to an end.
@@ -130,100 +66,6 @@ enum Delivery {
     Refused,
 }
 
-/// Writes each posted reply to the kernel, with what each file of the mount has as its `own`, until no daemon has the
-/// seat.
-fn deliver_all<R: Wait + Clock>(
-    rt: &R,
-    shared: &SharedDesk,
-    device: File,
-    own: &MountAttributes,
-) -> Delivery {
-    let mut device = device;
-    for _ in rt.forever() {
-        match shared.next(rt) {
-            Next::Nothing | Next::NoMemory => {}
-            Next::Over => return Delivery::Over,
-            Next::Gone => return Delivery::Gone,
-            Next::Unasked(answer) => take_back(rt, shared, &answer),
-            Next::Reply(reply) => {
-                if !deliver(rt, shared, &mut device, &reply, own) {
-                    return Delivery::Refused;
-                }
-            }
-        }
-    }
-    unreachable!()
-}
-
-/// Writes one reply to the kernel, and forgets its number where the kernel was not told it. Returns whether the device
-/// takes replies.
-fn deliver<R: Wait + Clock>(
-    rt: &R,
-    shared: &SharedDesk,
-    device: &mut File,
-    reply: &Reply,
-    own: &MountAttributes,
-) -> bool {
-    let text = tell_answer(reply.unique, &reply.answer, own);
-    let error = tell_error(reply.unique, Errno::EIO);
-    let texts = Texts {
-        reply: text.as_slice(),
-        error: error.as_slice(),
-    };
-    let written = write_reply(rt, device, &texts);
-    if written != Written::Reply {
-        take_back(rt, shared, &reply.answer);
-    }
-    written != Written::Refused
-}
-
-/// Forgets at once the number of an answer that the kernel did not take.
-fn take_back<R: Wait + Clock>(rt: &R, shared: &SharedDesk, answer: &Answer) {
-    for _ in rt.forever() {
-        match shared.take_back(rt, answer) {
-            Err(IssueFault::Full | IssueFault::NoMemory) => pause(rt),
-            Ok(()) | Err(_) => return,
-        }
-    }
-    unreachable!()
-}
-
-/// Waits a moment, since no more can be under way.
-fn pause<R: Wait + Clock>(rt: &R) {
-    thread::sleep(rt, Duration::from_millis(PAUSE));
-}
-
-/// Reads what the kernel asks by `device` until the mount ends, and writes this program's own answers by `answers`.
-fn read_all<R: Wait + Clock, I: Read, O: Write>(
-    rt: &R,
-    alloc: Global,
-    shared: &SharedDesk,
-    device: &mut I,
-    answers: &mut O,
-) -> Result<MountEnd, MountRunFault>
-    ensures served { ServesMount result (I.remaining device.old) (O.contents answers.old)
-        (I.remaining device.new) (O.contents answers.new) }
-{
-    let Ok(mut buffer) = vec![in alloc; 0u8; BUFFER_LEN] else {
-        return Err(MountRunFault::NoMemory);
-    };
-    for _ in rt.forever() {
-        match take(device, buffer.as_mut_slice()) {
-            Taken::Message(message) => {
-                match handle(rt, alloc, shared, answers, message) {
-                    Handled::GoesOn => {}
-                    Handled::NotMounted => return Ok(MountEnd::Dead),
-                    Handled::Refused => return Err(MountRunFault::Broken(refused())),
-                }
-            }
-            Taken::Again => {}
-            Taken::Unmounted => return Ok(MountEnd::Unmounted),
-            Taken::Broken(error) => return Err(MountRunFault::Broken(error)),
-        }
-    }
-    unreachable!()
-}
-
 /// What becomes of a mount by a message of the kernel.
 #[derive(Clone, Copy, PartialEq, Eq)]
 enum Handled {
@@ -234,56 +76,195 @@ enum Handled {
     Refused,
 }
 
-/// Does what the message `bytes` of the kernel says, and writes the answer if it is this program's own.
-fn handle<R: Wait + Clock, O: Write>(
-    rt: &R,
-    alloc: Global,
-    shared: &SharedDesk,
-    answers: &mut O,
-    bytes: &[u8],
-) -> Handled
-    ensures handles { Handles bytes.now result (O.contents answers.old) (O.contents answers.new) }
-{
-    match hear(rt, shared, read_message(alloc, bytes)) {
-        Progress::Done => Handled::GoesOn,
-        Progress::Answers(reply) => {
-            let texts = Texts {
-                reply: reply.as_slice(),
-                error: reply.as_slice(),
-            };
-            handled_by(write_reply(rt, answers, &texts))
-        }
-        Progress::NotMounted => Handled::NotMounted,
-        Progress::Leaves(_) => unreachable!(),
+impl<R: Threads + Wait + Clock + Processes + Sync> MountService<'_, R> {
+    /// Serves a mount: reads in a thread what the kernel asks by the device, and writes replies in this one.
+    pub(crate) fn serve(&self, mounted: Mounted) -> Result<MountEnd, MountRunFault> {
+        thread::scope(thread::scope_env(), self.context.rt, move |scope| {
+            self.serve_within(scope, mounted)
+        })
     }
+
+    /// Serves a mount, with a thread of a scope that reads what the kernel asks.
+    fn serve_within<'s, 'e: 's>(
+        &'e self,
+        scope: &Scope<'s, &'e ()>,
+        mounted: Mounted,
+    ) -> Result<MountEnd, MountRunFault>
+    where
+        R: 's,
+    {
+        let (rt, alloc) = (self.context.rt, self.context.alloc);
+        let Mounted {
+            device,
+            mut control,
+        } = mounted;
+        let writer = device.try_clone().map_err(MountRunFault::Broken)?;
+        let answers = device.try_clone().map_err(MountRunFault::Broken)?;
+        let Ok(reading) = scope.spawn(move || self.read_to_the_end(device, answers)) else {
+            return Err(MountRunFault::NoThread);
+        };
+        let delivery = self.deliver_all(writer);
+        if delivery != Delivery::Over {
+            control.end(rt, alloc, self.mountpoint);
+        }
+        let ended = reading.join(rt);
+        match delivery {
+            Delivery::Refused => Err(MountRunFault::Broken(refused())),
+            Delivery::Over | Delivery::Gone => ended,
+        }
+    }
+}
+
+impl<R: Wait + Clock> MountService<'_, R> {
+    /// Reads what the kernel asks by `device` until the mount ends, and writes this program's own answers by `answers`.
+    /// Where no daemon died, the daemons hear that the mount is over, so that who writes replies sees the end too. A
+    /// device also says that the mount is gone where a daemon died, since the connection is ended then.
+    fn read_to_the_end(&self, device: File, answers: File) -> Result<MountEnd, MountRunFault> {
+        let (rt, shared) = (self.context.rt, self.context.shared);
+        let (mut device, mut answers) = (device, answers);
+        let ended = self.read_all(&mut device, &mut answers);
+        drop(device);
+        drop(answers);
+        match ended {
+            Ok(MountEnd::Unmounted) => Ok(shared.end_of_mount(rt)),
+            Ok(MountEnd::Dead) => ended,
+            Err(_) => {
+                shared.close(rt);
+                ended
+            }
+        }
+    }
+
+    /// Writes each posted reply to the kernel until no daemon has the seat.
+    fn deliver_all(&self, device: File) -> Delivery {
+        let (rt, shared) = (self.context.rt, self.context.shared);
+        let mut device = device;
+        for _ in rt.forever() {
+            match shared.next(rt) {
+                NextWrite::Nothing | NextWrite::NoMemory => {}
+                NextWrite::Over => return Delivery::Over,
+                NextWrite::Gone => return Delivery::Gone,
+                NextWrite::Unasked(answer) => self.take_back(&answer),
+                NextWrite::Reply(reply) => {
+                    if !self.deliver(&mut device, &reply) {
+                        return Delivery::Refused;
+                    }
+                }
+            }
+        }
+        unreachable!()
+    }
+
+    /// Writes one reply to the kernel, and forgets its number where the kernel did not take it. Returns whether the
+    /// device takes replies.
+    fn deliver(&self, device: &mut File, reply: &Reply) -> bool {
+        let text = tell_answer(reply.unique, &reply.answer, &self.own);
+        let error = tell_error(reply.unique, Errno::EIO);
+        let texts = Texts {
+            reply: text.as_slice(),
+            error: error.as_slice(),
+        };
+        let written = write_reply(self.context.rt, device, &texts);
+        if written != Written::Reply {
+            self.take_back(&reply.answer);
+        }
+        written != Written::Refused
+    }
+
+    /// Forgets at once the number of an answer that the kernel did not take.
+    fn take_back(&self, answer: &Answer) {
+        let (rt, shared) = (self.context.rt, self.context.shared);
+        for _ in rt.forever() {
+            match shared.take_back(rt, answer) {
+                Err(IssueFault::Full | IssueFault::NoMemory) => pause(rt),
+                Ok(()) | Err(_) => return,
+            }
+        }
+        unreachable!()
+    }
+
+    /// Reads what the kernel asks by `device` until the mount ends, and writes this program's own answers by `answers`.
+    fn read_all<I: Read, O: Write>(
+        &self,
+        device: &mut I,
+        answers: &mut O,
+    ) -> Result<MountEnd, MountRunFault>
+        ensures served { ServesMount result (I.remaining device.old) (O.contents answers.old)
+            (I.remaining device.new) (O.contents answers.new) }
+    {
+        let (rt, alloc) = (self.context.rt, self.context.alloc);
+        let Ok(mut buffer) = vec![in alloc; 0u8; BUFFER_LEN] else {
+            return Err(MountRunFault::NoMemory);
+        };
+        for _ in rt.forever() {
+            match read_device(device, buffer.as_mut_slice()) {
+                DeviceRead::Message(message) => {
+                    match self.handle(answers, message) {
+                        Handled::GoesOn => {}
+                        Handled::NotMounted => return Ok(MountEnd::Dead),
+                        Handled::Refused => return Err(MountRunFault::Broken(refused())),
+                    }
+                }
+                DeviceRead::Again => {}
+                DeviceRead::Unmounted => return Ok(MountEnd::Unmounted),
+                DeviceRead::Broken(error) => return Err(MountRunFault::Broken(error)),
+            }
+        }
+        unreachable!()
+    }
+
+    /// Does what the message `bytes` of the kernel says, and writes the answer if it is this program's own.
+    fn handle<O: Write>(&self, answers: &mut O, bytes: &[u8]) -> Handled
+        ensures handles { Handles bytes.now result (O.contents answers.old) (O.contents answers.new) }
+    {
+        match self.hear(read_message(self.context.alloc, bytes)) {
+            Progress::Done => Handled::GoesOn,
+            Progress::Answers(reply) => {
+                let texts = Texts {
+                    reply: reply.as_slice(),
+                    error: reply.as_slice(),
+                };
+                handled_by(write_reply(self.context.rt, answers, &texts))
+            }
+            Progress::NotMounted => Handled::NotMounted,
+            Progress::Leaves(_) => unreachable!(),
+        }
+    }
+
+    /// Hears a message of the kernel to its end, in as many turns as it takes.
+    fn hear<'m>(&self, message: KernelMessage<'m>) -> Progress<'m>
+        requires for_daemons { IsForDaemons message }
+        ensures heard { IsHeardToTheEnd message.entry result }
+    {
+        let rt = self.context.rt;
+        let mut left = message;
+        for _ in rt.forever() {
+            match self.context.shared.hear_kernel(rt, left) {
+                Progress::Leaves(message) => left = message,
+                progress => return progress,
+            }
+            pause(rt);
+        }
+        unreachable!()
+    }
+}
+
+/// Waits a moment, since no more can be under way.
+fn pause<R: Wait + Clock>(rt: &R) {
+    thread::sleep(rt, Duration::from_millis(PAUSE));
+}
+
+/// Returns the error of a device that refuses every write.
+fn refused() -> io::Error {
+    io::Error::from_raw_os_error(EIO)
 }
 
 /// Returns what becomes of a mount whose program wrote an answer of its own.
-fn handled_by(told: Written) -> Handled
-    ensures handled { result ≡ handled_by told }
+fn handled_by(written: Written) -> Handled
+    ensures handled { result ≡ handled_by written }
 {
-    match told {
+    match written {
         Written::Refused => Handled::Refused,
         Written::Reply | Written::Error | Written::Withdrawn => Handled::GoesOn,
     }
-}
-
-/// Hears a message of the kernel to its end, in as many turns as it takes.
-fn hear<'a, R: Wait + Clock>(
-    rt: &R,
-    shared: &SharedDesk,
-    message: KernelMessage<'a>,
-) -> Progress<'a>
-    requires for_daemons { IsForDaemons message }
-    ensures heard { IsHeardToTheEnd message.entry result }
-{
-    let mut left = message;
-    for _ in rt.forever() {
-        match shared.hear_kernel(rt, left) {
-            Progress::Leaves(message) => left = message,
-            progress => return progress,
-        }
-        pause(rt);
-    }
-    unreachable!()
 }

@@ -15,11 +15,11 @@ mod mounted;
 
 use crate::connections::{Connections, Heard};
 use broker_desk::{Desk, Kernel, Peer, Response};
-use broker_script::{Awaited, Begun, BrokerLine, Came, begin, look, print_begun, print_held};
+use broker_script::{Awaited, BegunLine, BrokerLine, Came, begin, look, print_begun, print_held};
 use eden_base::NoMemory;
 use links::Frame;
 use monitor::{Condition, Look, Monitor};
-pub(crate) use mounted::Next;
+pub(crate) use mounted::NextWrite;
 use script_lines::print_numbered;
 use sockets::{Deadline, Left};
 use std::alloc::Global;
@@ -55,9 +55,9 @@ pub(crate) enum Waiting {
     Idle,
 }
 
-/// What the lock protects.
+/// The state of the shared desk, which the lock protects.
 #[derive(Drop)]
-struct State {
+struct SharedDeskState {
     desk: Desk,
     connections: Connections,
     /// When the kernel asked last.
@@ -84,7 +84,7 @@ pub(crate) enum Agreed {
     To(u64),
 }
 
-/// What a daemon is told that mounts.
+/// What is answered to a daemon that mounts.
 #[derive(Clone, Copy, PartialEq, Eq)]
 pub(crate) enum Granted {
     /// It serves the mount.
@@ -109,15 +109,16 @@ impl AcceptedConnection {
     }
 }
 
-/// The desk and the connections, under a lock. `asks` wakes a held Take, and `events` wakes the script.
+/// The desk and the connections, under a lock. `asks` wakes a held Take and a held Mount, and `events` wakes the script, or
+/// the thread that writes replies to the kernel.
 #[derive(Drop)]
 pub(crate) struct SharedDesk {
-    state: Monitor<State>,
+    state: Monitor<SharedDeskState>,
     asks: Condition,
     events: Condition,
 }
 
-impl State {
+impl SharedDeskState {
     /// Answers a frame of a connection, and returns whether the answer wakes the script.
     fn answer(&mut self, accepted: &mut AcceptedConnection, frame: &Frame) -> (Response, bool) {
         if accepted.is_unattached() && !self.may_attach(accepted.number, frame) {
@@ -143,9 +144,9 @@ impl State {
         let Some(log) = &mut self.log else {
             return;
         };
-        let _told = print_numbered(log, "seat", generation);
-        let _told = print_held(log, self.desk.broker());
-        let _told = log.flush();
+        let _written = print_numbered(log, "seat", generation);
+        let _written = print_held(log, self.desk.broker());
+        let _written = log.flush();
     }
 
     /// Returns whether a kernel still has the mount of a daemon that is gone. Until that ends no daemon may mount, since
@@ -165,7 +166,7 @@ impl State {
         has_place && self.connections.knows(number)
     }
 
-    /// Returns what the daemon is told that mounted at `generation`.
+    /// Returns what is answered to the daemon that mounted at `generation`.
     fn granted(&self, generation: u64) -> Granted
         ensures granted { result ≡ granted_by self.now.agreed (is_none self.now.desk.broker.seat) generation }
     {
@@ -182,7 +183,7 @@ impl State {
     }
 
     /// Begins what a line says, and notes what the script waits for from then on.
-    fn begin(&mut self, line: &BrokerLine, now: Option<Instant>) -> Begun
+    fn begin(&mut self, line: &BrokerLine, now: Option<Instant>) -> BegunLine
         requires sendable { IsSendableLine line.now }
         ensures begins { Begins self.old.desk line.now result self.new.desk }
     {
@@ -190,7 +191,7 @@ impl State {
         if let BrokerLine::Ask(_) = line {
             self.asked = now;
         }
-        if let Begun::Waits(awaited) = begun {
+        if let BegunLine::Waits(awaited) = begun {
             self.waiting = waiting_for(awaited);
         }
         begun
@@ -234,19 +235,19 @@ fn is_waited_for(waiting: Waiting, response: &Response) -> bool
     ensures wakes { result ≡ option_map_or (wakes waiting) (told_by response.now) false }
 {
     match response {
-        Response::Tells(told) => wakes(waiting, told),
+        Response::Tells(answer) => wakes(waiting, answer),
         Response::Closes => false,
     }
 }
 
-/// Returns whether the answer `told` wakes a script that waits.
-fn wakes(waiting: Waiting, told: &Frame) -> bool
-    ensures wakes { result ≡ wakes waiting told.now }
+/// Returns whether `answer` wakes a script that waits.
+fn wakes(waiting: Waiting, answer: &Frame) -> bool
+    ensures wakes { result ≡ wakes waiting answer.now }
 {
     match waiting {
-        Waiting::Reply => matches!(told, Frame::Posted),
-        Waiting::Seat => matches!(told, Frame::Mounted { .. } | Frame::Claimed { .. }),
-        Waiting::Idle => matches!(told, Frame::Ask(_)),
+        Waiting::Reply => matches!(answer, Frame::Posted),
+        Waiting::Seat => matches!(answer, Frame::Mounted { .. } | Frame::Claimed { .. }),
+        Waiting::Idle => matches!(answer, Frame::Ask(_)),
         Waiting::Nothing => false,
     }
 }
@@ -277,17 +278,17 @@ impl SharedDesk {
         SharedDesk::of(alloc, Desk::for_mount(alloc)?, Agreed::NotYet, log)
     }
 
-    /// Makes a shared desk without connections over `desk`.
+    /// Makes a shared desk without connections. `broker` is the desk.
     fn of(
         alloc: Global,
-        desk: Desk,
+        broker: Desk,
         agreed: Agreed,
         log: Option<BufWriter<File>>,
     ) -> Result<SharedDesk, NoMemory> {
         let kernel = Kernel::new(alloc)?;
         Ok(SharedDesk {
-            state: Monitor::new(State {
-                desk,
+            state: Monitor::new(SharedDeskState {
+                desk: broker,
                 connections: Connections::new(alloc),
                 asked: None,
                 waiting: Waiting::Nothing,
@@ -342,8 +343,8 @@ impl SharedDesk {
         self.events.notify_all();
     }
 
-    /// Answers a frame of a connection. A Take that finds the queue empty is held for a while, and a daemon that mounts is
-    /// told so once the kernel agreed.
+    /// Answers a frame of a connection. A Take that finds the queue empty is held for a while, and a Mount is
+    /// answered once the kernel agreed.
     pub(crate) fn answer<R: Wait + Clock>(
         &self,
         rt: &R,
@@ -414,7 +415,7 @@ impl SharedDesk {
     }
 
     /// Begins what a line of the script says.
-    pub(crate) fn begin<R: Wait + Clock>(&self, rt: &R, line: &BrokerLine) -> Begun
+    pub(crate) fn begin<R: Wait + Clock>(&self, rt: &R, line: &BrokerLine) -> BegunLine
         requires sendable { IsSendableLine line.now }
         ensures began { Began line.now result }
     {
@@ -437,7 +438,7 @@ impl SharedDesk {
         &self,
         rt: &R,
         out: &mut W,
-        begun: &Begun,
+        begun: &BegunLine,
     ) -> io::Result<()>
         ensures printed { OnOk result ((broker : BrokerState) × PrintsBegun broker begun.now
             (W.contents out.old) (W.contents out.new)) }

@@ -9,8 +9,8 @@ use Rattle.eden_base.specs.declared.number.Number.{Number}
 use Rattle.script_lines.specs.Printed.{line, asked_words, refusal_line, reply_line}
 use Rattle.broker_script.specs.declared.awaited.Came.{Came}
 use Rattle.broker_script.specs.declared.awaited.Came.TheVariants.{Answered, Lost, Seat, Idle, Lacks}
-use Rattle.broker_script.specs.declared.line.Begun.{Begun}
-use Rattle.broker_script.specs.declared.line.Begun.TheVariants.{Waits, Forgot, Refused, Tells}
+use Rattle.broker_script.specs.declared.line.BegunLine.{BegunLine}
+use Rattle.broker_script.specs.declared.line.BegunLine.TheVariants.{Waits, Forgot, Refused, Tells}
 
 -- these are all numbers above `n` that the kernel holds, the least first
 abbrev pub AreHeldAbove : HeldMap → ℕ → List Number → Type 0
@@ -34,7 +34,7 @@ pub record PrintsHeld (held : HeldMap) (old new : Option (List ℕ)) : Type 0 wh
   pub written : Appends old new (held_lines held numbers)
 
 -- what the immediate result of a line prints: nothing if the line waits
-abbrev pub PrintsBegun : BrokerState → Begun → Option (List ℕ) → Option (List ℕ) → Type 0
+abbrev pub PrintsBegun : BrokerState → BegunLine → Option (List ℕ) → Option (List ℕ) → Type 0
 PrintsBegun broker (Waits awaited) old new = Appends old new []
 PrintsBegun broker Forgot old new = Appends old new (line (asked_words None))
 PrintsBegun broker (Refused fault) old new = Appends old new (refusal_line (refusal_of_issue fault))

@@ -9,7 +9,7 @@ mod script;
 
 pub use awaited::{Awaited, Came, look};
 pub use fault::BrokerScriptFault;
-pub use line::{Begun, begin};
+pub use line::{BegunLine, begin};
 pub use print::{print_begun, print_came, print_held};
 pub use script::read_broker_script;
 pub use script_lines::BrokerLine;

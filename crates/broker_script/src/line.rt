@@ -11,7 +11,7 @@ use script_lines::BrokerLine;
 
 /// The immediate result of a line.
 #[derive(Clone, Copy, PartialEq, Eq)]
-pub enum Begun {
+pub enum BegunLine {
     /// The line ends when this comes.
     Waits(Awaited),
     /// The forget waits for a daemon.
@@ -23,27 +23,27 @@ pub enum Begun {
 }
 
 /// Begins what `line` says. Only an ask or a forget that is taken changes the desk.
-pub fn begin(desk: &mut Desk, line: &BrokerLine) -> Begun
+pub fn begin(desk: &mut Desk, line: &BrokerLine) -> BegunLine
     requires sendable { IsSendableLine line.now }
     ensures begins { Begins desk.old line.now result desk.new }
 {
     match line {
         BrokerLine::Ask(request) => issue(desk, request),
         BrokerLine::Forget(item) => issue(desk, &Request::Forget(*item)),
-        BrokerLine::Seat(generation) => Begun::Waits(Awaited::Seat(*generation)),
-        BrokerLine::Idle => Begun::Waits(Awaited::Idle),
-        BrokerLine::Held => Begun::Tells,
+        BrokerLine::Seat(generation) => BegunLine::Waits(Awaited::Seat(*generation)),
+        BrokerLine::Idle => BegunLine::Waits(Awaited::Idle),
+        BrokerLine::Held => BegunLine::Tells,
     }
 }
 
 /// Issues the kernel's ask or forget.
-fn issue(desk: &mut Desk, request: &Request) -> Begun
+fn issue(desk: &mut Desk, request: &Request) -> BegunLine
     requires { IsSendable request.now }
     ensures { Issues desk.old request.now result desk.new }
 {
     match desk.issue(request) {
-        Ok(Some(unique)) => Begun::Waits(Awaited::Reply(unique)),
-        Ok(None) => Begun::Forgot,
-        Err(fault) => Begun::Refused(fault),
+        Ok(Some(unique)) => BegunLine::Waits(Awaited::Reply(unique)),
+        Ok(None) => BegunLine::Forgot,
+        Err(fault) => BegunLine::Refused(fault),
     }
 }

@@ -4,22 +4,22 @@ ghost use Rattle.std.specs.Io.KnownBytes.{Appends};
 ghost use Rattle.broker_script.specs.Printed.{came_lines, held_line, PrintsBegun, PrintsHeld};
 
 use crate::awaited::Came;
-use crate::line::Begun;
+use crate::line::BegunLine;
 use broker_core::Broker;
 use eden_base::Number;
 use script_lines::{print_asked, print_numbered, print_refusal, print_reply};
 use std::io::{self, Write};
 
 /// Prints the immediate result of a line. If the line asks for the held numbers, prints those of `broker`.
-pub fn print_begun<W: Write>(out: &mut W, broker: &Broker, begun: &Begun) -> io::Result<()>
+pub fn print_begun<W: Write>(out: &mut W, broker: &Broker, begun: &BegunLine) -> io::Result<()>
     ensures printed { OnOk result (PrintsBegun broker.now begun.now
         (W.contents out.old) (W.contents out.new)) }
 {
     match begun {
-        Begun::Waits(_) => Ok(()),
-        Begun::Forgot => print_asked(out, None),
-        Begun::Refused(fault) => print_refusal(out, (*fault).into()),
-        Begun::Tells => print_held(out, broker),
+        BegunLine::Waits(_) => Ok(()),
+        BegunLine::Forgot => print_asked(out, None),
+        BegunLine::Refused(fault) => print_refusal(out, (*fault).into()),
+        BegunLine::Tells => print_held(out, broker),
     }
 }
 

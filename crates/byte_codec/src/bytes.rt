@@ -1,26 +1,31 @@
 //! Bytes that a message carries whole.
-ghost use Rattle.std.specs.Prelude.{◌≡◌, nat_eq};
+ghost use Rattle.std.specs.Prelude.{◌≡◌, ◌+◌, ◌≤◌, length, nat_eq, IfOk, IfSome};
+ghost use Rattle.byte_codec.specs.Bytes.{range_of};
 
+use crate::storage::{SharedRange, Storage};
+use std::alloc::AllocError;
 use std::marker::Model;
+use std::sync::Arc;
 
-/// Any bytes, for example a FUSE message or an image. `Bytes` are made of a `Vec`, and turned back into one, without
-/// taking memory.
+/// Any bytes, for example a FUSE message or an image. They have memory of their own, or are a range of a text that other
+/// `Bytes` share, as the parts of an image.
 pub struct Bytes {
-    bytes: Vec<u8>,
+    storage: Storage,
 }
 
 impl Drop for Bytes {
     fn drop(self) {
-        let Bytes { bytes: _ } = self;
+        let Bytes { storage: _ } = self;
     }
 }
 
 impl Model for Bytes {
     ghost use Rattle.std.specs.Prelude.{ℕ, List};
+    ghost use Rattle.byte_codec.specs.Bytes.{bytes_of};
 
     ghost Value = { List ℕ };
 
-    ghost view = { λ x. x.bytes.items };
+    ghost view = { λ x. bytes_of x.storage };
 }
 
 impl Bytes {
@@ -28,22 +33,45 @@ impl Bytes {
     pub fn of(bytes: Vec<u8>) -> Bytes
         ensures bytes { result ≡ bytes.items }
     {
-        Bytes { bytes }
+        Bytes {
+            storage: Storage::Own(bytes),
+        }
+    }
+
+    /// Makes `Bytes` of the `len` bytes of `text` from the index `from` on, which are not copied. Returns `AllocError` if
+    /// one more owner of `text` can't be counted.
+    pub fn shared(text: &Arc<Vec<u8>>, from: usize, len: usize) -> Result<Bytes, AllocError>
+        requires within { from + len ≤ length text.now.value.items }
+        ensures bytes { IfOk result (λ bytes. bytes ≡ range_of from len text.now.value.items) }
+    {
+        let text = Arc::try_clone(text)?;
+        Ok(Bytes {
+            storage: Storage::Shared(SharedRange { text, from, len }),
+        })
     }
 
     /// Returns the bytes in their order.
     pub fn as_slice(&self) -> &[u8]
         ensures bytes { result.now ≡ self.now }
     {
-        self.bytes.as_slice()
+        match &self.storage {
+            Storage::Own(bytes) => bytes.as_slice(),
+            Storage::Shared(range) => range.as_slice(),
+        }
     }
 
-    /// Returns the bytes as a `Vec`, in the same memory.
-    pub fn into_vec(self) -> Vec<u8>
-        ensures bytes { result.items ≡ self }
+    /// Returns the bytes as a `Vec`, in the same memory, or none if they are part of a shared text.
+    pub fn into_vec(self) -> Option<Vec<u8>>
+        ensures bytes { IfSome result (λ bytes. bytes.items ≡ self) }
     {
-        let Bytes { bytes } = self;
-        bytes
+        let Bytes { storage } = self;
+        match storage {
+            Storage::Own(bytes) => Some(bytes),
+            Storage::Shared(range) => {
+                drop(range);
+                None
+            }
+        }
     }
 }
 

@@ -4,6 +4,7 @@
 mod bytes;
 mod field;
 mod reader;
+mod storage;
 mod writer;
 
 pub use bytes::Bytes;

@@ -7,7 +7,7 @@ use Rattle.std.specs.Option.{option_and_then}
 use Rattle.std.specs.Ordering.{nat_cmp}
 use Rattle.eden_base.specs.declared.number.FileId.{FileId}
 use Rattle.checkout.specs.declared.changes.Changes.{Changes}
-use Rattle.manifest.specs.declared.links.LinkChange.{LinkChange}
+use Rattle.manifest.specs.declared.link_change.LinkChange.{LinkChange}
 use Rattle.checkout.specs.Around.{end_of, AreApart, AreRight, GivesTarget, IsAbove, IsFirstAbove, IsUnder, Leads, StandsIn}
 use Rattle.checkout.specs.BadChanges.{bad_by_cut, changed_links, file_below, file_in, first_link, IsAboveItself, IsBadAround}
 use Rattle.manifest.specs.Manifest.{Manifest}

@@ -83,13 +83,13 @@ module _ (links : FinMap link_cmp FileId) (old new : AddedPlaces) (before after 
 
   -- a file's link went from its place
   pub removed-AreLinks : (file : FileId) (at : AddedPlace) → place_of_file old file.0 ≡ Some at → ((q : ℕ) → place_of_file new q ≡ cond (nat_eq file.0 q) None (place_of_file old q)) →
-      ((s : Standing) → IsIndexOf s before → s at.dir.0 at.name ≡ Some file.0 → IsIndexOf (removed s at.dir.0 at.name) after) → AreLinks (remove links (key at)) new after
+      ((s : Standing) → IsIndexOf s before → AreKnown s (place_of old) → s at.dir.0 at.name ≡ Some file.0 → IsIndexOf (removed s at.dir.0 at.name) after) → AreLinks (remove links (key at)) new after
   removed-AreLinks file at was updated indexed =
       let there = are.are_places.no_others file.0 at was in
       record {
         unique = unique;
         are_places = removed-ArePlacesOf links (place_of_file old) are.are_places (place_of_file new) (key at) file there updated;
-        is_index = subst (λ (s : Standing). IsIndexOf s after) (standing-removed links (key at)) (indexed (standing_of links) are.is_index (ap (option_map id_of) there));
+        is_index = subst (λ (s : Standing). IsIndexOf s after) (standing-removed links (key at)) (indexed (standing_of links) are.is_index (places-known links old are.are_places) (ap (option_map id_of) there));
       }
 
   -- the same links in parts that say the same

@@ -8,7 +8,7 @@ use Rattle.std.specs.List.{AllByRecursion, cons_option, filter, filter_map, list
 use Rattle.std.specs.Option.{option_map}
 use Rattle.eden_base.specs.declared.number.FileId.{FileId}
 use Rattle.checkout.specs.declared.changes.Changes.{Changes}
-use Rattle.manifest.specs.declared.links.LinkChange.{LinkChange}
+use Rattle.manifest.specs.declared.link_change.LinkChange.{LinkChange}
 use Rattle.checkout.specs.BadChanges.{Link, bad_itself, changed_links, first_bad, first_link, first_link_where, given, has_names, is_at, is_given, lines_links}
 use Rattle.checkout.specs.Changed.{changed, links_with}
 use Rattle.checkout.specs.Changes.{place_of}

@@ -7,11 +7,10 @@ use Rattle.eden_base.specs.declared.attr.Kind.{Kind}
 use Rattle.eden_base.specs.declared.attr.Perm.{Perm}
 use Rattle.eden_base.specs.declared.number.FileId.{FileId}
 use Rattle.manifest.specs.Manifest.{File}
-use Rattle.manifest.specs.Tree.{Tree, child_of, file_of, nlink_of_kind, IsTree}
-use Rattle.checkout.specs.ChangedTree.{is_linked, is_unlinked, is_full_dir, next_file, made_file, attr_of, created, removed}
-use Rattle.checkout.proofs.CreateLaws.{child_of-created, child_of-created_elsewhere, child_of-created_cases, file_of-created, file_of-created_other}
+use Rattle.manifest.specs.Tree.{Tree, child_of, nlink_of_kind}
+use Rattle.checkout.specs.ChangedTree.{is_linked, is_unlinked, next_file, made_file, attr_of, created}
+use Rattle.checkout.proofs.CreateLaws.{child_of-created, child_of-created_elsewhere, child_of-created_cases, file_of-created}
 use Rattle.checkout.proofs.LinkLaws.{linked_from_child, child_from_linked}
-use Rattle.checkout.proofs.RemoveLaws.{is_linked-removed, is_linked-removed_other}
 
 -- the attributes of a file, which is unlinked or not
 abbrev pub told : Bool → File → Attr
@@ -47,20 +46,3 @@ module _ (tree : Tree) (dir : FileId) (name : List ℕ) (kind : Kind) (perm : Pe
   attr_of-created =
       ap (option_map (told (is_unlinked new (next_file tree)))) (file_of-created tree dir name kind perm)
       ∙ ap (λ b. Some (told b (made_file kind perm))) (ap (λ b. not (tree.next_file == 1) && not b) is_linked-created ∙ and-false (not (tree.next_file == 1)))
-
-  pub attr_of-created_other : child_of tree dir name ≡ None → (file : FileId) → (file.0 ≡ tree.next_file → ⊥) → attr_of new file ≡ attr_of tree file
-  attr_of-created_other free file other =
-      ap (option_map (told (is_unlinked new file))) (file_of-created_other tree dir name kind perm file other)
-      ∙ ap (λ b. option_map (told (not (file.0 == 1) && not b)) (file_of tree file)) (is_linked-created_other free file other)
-
--- a link that was taken away changes what is told of its file alone
-pub attr_of-removed_other : (tree : Tree) (dir : FileId) (name : List ℕ) (file : FileId) → IsTree tree → child_of tree dir name ≡ Some file → is_full_dir tree file ≡ false →
-    (f : FileId) → (f ≡ file → ⊥) → attr_of (removed tree dir name) f ≡ attr_of tree f
-attr_of-removed_other tree dir name file is there not_full f other =
-    ap (λ b. option_map (told (not (f.0 == 1) && not b)) (file_of tree f)) (is_linked-removed_other tree dir name file is there not_full f other)
-
-pub attr_of-removed : (tree : Tree) (dir : FileId) (name : List ℕ) (file : FileId) → IsTree tree → child_of tree dir name ≡ Some file → is_full_dir tree file ≡ false → (file.0 == 1) ≡ false →
-    attr_of (removed tree dir name) file ≡ option_map (told true) (file_of tree file)
-attr_of-removed tree dir name file is there not_full not_root =
-    ap (λ b. option_map (told (not b && not (is_linked (removed tree dir name) file))) (file_of tree file)) not_root
-    ∙ ap (λ b. option_map (told (not b)) (file_of tree file)) (is_linked-removed tree dir name file is there not_full)

@@ -2,7 +2,7 @@
 use Rattle.std.proofs.Common.{◌≡◌, ◌<◌, ◌^◌, ℕ, zero, suc, List, [], ◌∷◌, codes, Some, None, refl, inl, arith, slice_get}
 use Rattle.eden_base.specs.declared.attr.Kind.TheVariants.{Dir, File as RegularFile}
 use Rattle.checkout.specs.declared.changes.Changes.{Changes}
-use Rattle.manifest.specs.declared.links.LinkChange.{LinkChange}
+use Rattle.manifest.specs.declared.link_change.LinkChange.{LinkChange}
 use Rattle.checkout.specs.BadChanges.{Link, changed_links, IsAboveItself, IsBadChange}
 use Rattle.checkout.proofs.BadChangeRows.{changes, else_cut, file, gives, gone, gone_is_not, leaf_is_not, made, none_above, small}
 

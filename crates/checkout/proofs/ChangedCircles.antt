@@ -5,7 +5,7 @@ use Rattle.std.specs.List.{Contains, slice_get}
 use Rattle.std.specs.Option.{option_and_then}
 use Rattle.eden_base.specs.declared.number.FileId.{FileId}
 use Rattle.checkout.specs.declared.changes.Changes.{Changes}
-use Rattle.manifest.specs.declared.links.LinkChange.{LinkChange}
+use Rattle.manifest.specs.declared.link_change.LinkChange.{LinkChange}
 use Rattle.checkout.specs.BadChanges.{IsAboveItself, changed_links, first_bad, first_link, is_bad_link}
 use Rattle.checkout.specs.Changed.{changed}
 use Rattle.manifest.specs.Manifest.{IsManifest, Manifest}

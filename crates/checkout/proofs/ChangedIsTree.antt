@@ -7,7 +7,7 @@ use Rattle.eden_base.specs.Name.{IsNameText}
 use Rattle.eden_base.specs.declared.attr.Kind.TheVariants.{Dir}
 use Rattle.eden_base.specs.declared.number.FileId.{FileId}
 use Rattle.checkout.specs.declared.changes.Changes.{Changes}
-use Rattle.manifest.specs.declared.links.LinkChange.{LinkChange}
+use Rattle.manifest.specs.declared.link_change.LinkChange.{LinkChange}
 use Rattle.checkout.specs.BadChanges.{Else, IsAboveItself, IsBadAround, IsBadChange, bad_by_cut, bad_by_other, bad_itself, changed_links}
 use Rattle.checkout.specs.Changed.{changed}
 use Rattle.checkout.specs.Changes.{AreChanges}

@@ -9,7 +9,7 @@ use Rattle.std.specs.Option.{option_and_then, option_map, option_or}
 use Rattle.std.specs.Ordering.{is_eq}
 use Rattle.eden_base.specs.declared.number.FileId.{FileId}
 use Rattle.checkout.specs.declared.changes.Changes.{Changes}
-use Rattle.manifest.specs.declared.links.LinkChange.{LinkChange}
+use Rattle.manifest.specs.declared.link_change.LinkChange.{LinkChange}
 use Rattle.checkout.specs.BadChanges.{Link, changed_links, file_below, file_in, given, is_at, lines_links}
 use Rattle.checkout.specs.Changes.{AreLinkChanges, IsLinkChange, place_of}
 use Rattle.manifest.specs.Manifest.{Line}

@@ -10,7 +10,7 @@ use Rattle.std.specs.Ordering.{is_eq, ordering_reverse}
 use Rattle.std.specs.declared.cmp.Ordering.TheVariants.{Less}
 use Rattle.eden_base.specs.declared.number.FileId.{FileId}
 use Rattle.checkout.specs.declared.changes.Changes.{Changes}
-use Rattle.manifest.specs.declared.links.LinkChange.{LinkChange}
+use Rattle.manifest.specs.declared.link_change.LinkChange.{LinkChange}
 use Rattle.checkout.specs.BadChanges.{changed_links, file_in, first_bad, first_link, gives_same, is_at, is_bad_link}
 use Rattle.checkout.specs.Changed.{changed, links_with, put}
 use Rattle.checkout.specs.Changes.{AreLinkChanges, IsLinkChange, place_of}

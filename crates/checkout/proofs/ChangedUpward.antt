@@ -7,7 +7,7 @@ use Rattle.std.specs.List.{AllByRecursion, Contains, cons_option, filter, filter
 use Rattle.std.specs.Option.{option_map}
 use Rattle.eden_base.specs.declared.number.FileId.{FileId}
 use Rattle.checkout.specs.declared.changes.Changes.{Changes}
-use Rattle.manifest.specs.declared.links.LinkChange.{LinkChange}
+use Rattle.manifest.specs.declared.link_change.LinkChange.{LinkChange}
 use Rattle.checkout.specs.BadChanges.{Link, bad_by_cut, changed_links, file_does, first_bad, first_link, given, has_names, is_bad_link, is_cut_off, is_given, lines_links, manifest_target}
 use Rattle.checkout.specs.Changed.{changed}
 use Rattle.checkout.specs.Changes.{AreLinkChanges, place_of}

@@ -54,9 +54,6 @@ module _ (tree : Tree) (dir : FileId) (name : List ℕ) (kind : Kind) (perm : Pe
   pub file_of-created_cases : (file : FileId) (f : File) → file_of new file ≡ Some f → ((file.0 ≡ tree.next_file) × (made_file kind perm ≡ f)) ⊎ (file_of tree file ≡ Some f)
   file_of-created_cases file f h = get-insert_cases nat_cmp_total nat_cmp-IsAntisymmetric tree.files tree.next_file (made_file kind perm) file.0 f h
 
-  pub kind_of-created : kind_of new (next_file tree) ≡ Some kind
-  kind_of-created = ap (option_map (λ (f : File). f.kind)) file_of-created
-
   pub kind_of-created_other : (file : FileId) → (file.0 ≡ tree.next_file → ⊥) → kind_of new file ≡ kind_of tree file
   kind_of-created_other file other = ap (option_map (λ (f : File). f.kind)) (file_of-created_other file other)
 

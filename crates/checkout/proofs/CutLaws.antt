@@ -8,7 +8,7 @@ use Rattle.eden_base.specs.declared.number.FileId.{FileId}
 use Rattle.checkout.specs.BadChanges.{file_does}
 use Rattle.checkout.specs.Laying.{base_target, taken}
 use Rattle.checkout.specs.Rounds.{cuts, cuts_if, first_of, is_cut}
-use Rattle.manifest.specs.declared.links.LinkChange.{LinkChange}
+use Rattle.manifest.specs.declared.link_change.LinkChange.{LinkChange}
 use Rattle.manifest.specs.Manifest.{Manifest}
 use Rattle.manifest.specs.Tree.{link_cmp}
 use Rattle.checkout.proofs.AmongLinks.{first_of-same}

@@ -8,7 +8,7 @@ use Rattle.std.specs.Option.{option_map}
 use Rattle.std.specs.Ordering.{is_eq}
 use Rattle.eden_base.specs.declared.number.FileId.{FileId}
 use Rattle.checkout.specs.declared.changes.Changes.{Changes}
-use Rattle.manifest.specs.declared.links.LinkChange.{LinkChange}
+use Rattle.manifest.specs.declared.link_change.LinkChange.{LinkChange}
 use Rattle.checkout.specs.BadChanges.{Link, changed_links, file_in, has_names, is_at, is_cut_off, is_given, IsAboveItself}
 use Rattle.checkout.specs.Changes.{AreChanges, IsLinkChange}
 use Rattle.manifest.specs.Tree.{Tree, IsTree}

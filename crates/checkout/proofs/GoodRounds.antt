@@ -10,7 +10,7 @@ use Rattle.eden_base.proofs.MemberLemmas.{some-is}
 use Rattle.eden_base.specs.declared.attr.Kind.TheVariants.{Dir}
 use Rattle.eden_base.specs.declared.number.FileId.{FileId}
 use Rattle.checkout.specs.declared.changes.Changes.{Changes}
-use Rattle.manifest.specs.declared.links.LinkChange.{LinkChange}
+use Rattle.manifest.specs.declared.link_change.LinkChange.{LinkChange}
 use Rattle.checkout.specs.BadChanges.{Else, IsBadAround, IsBadChange, Link, bad_by_cut, bad_by_other, bad_itself, changed_links, file_does, first_bad, first_link, gives_same, has_other_link, is_at, is_bad_link, is_bad_made, is_cut_off, is_target, kind_with, manifest_target}
 use Rattle.checkout.specs.Changes.{AreChanges, IsLinkChange, place_of}
 use Rattle.manifest.specs.Manifest.{File, IsManifest, Manifest}

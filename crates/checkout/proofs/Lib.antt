@@ -56,7 +56,6 @@ pub mod OwnTree
 pub mod RemoveLaws
 pub mod RenameLaws
 pub mod RenameSteps
-pub mod RenamedAbove
 pub mod RenamedLinks
 pub mod RoundFour
 pub mod RoundTwo

@@ -7,7 +7,7 @@ use Rattle.std.specs.List.{AllByRecursion, Contains, cons_option, list_any, slic
 use Rattle.std.specs.Option.{option_or}
 use Rattle.std.specs.Ordering.{nat_cmp}
 use Rattle.eden_base.specs.declared.number.FileId.{FileId}
-use Rattle.manifest.specs.declared.links.LinkChange.{LinkChange}
+use Rattle.manifest.specs.declared.link_change.LinkChange.{LinkChange}
 use Rattle.checkout.specs.declared.made.MadeFile.{MadeFile}
 use Rattle.checkout.specs.Changes.{IsLinkChange}
 use Rattle.checkout.specs.Listing.{gone_change, gone_changes}

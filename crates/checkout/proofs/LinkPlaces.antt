@@ -11,7 +11,7 @@ use Rattle.std.specs.List.{AllByRecursion, IsDistinct, cons_option, filter, list
 use Rattle.std.specs.List.Sorted.{IsPermutation, IsSortedBy}
 use Rattle.std.specs.Ordering.{eq_by_cmp, is_lt, nat_cmp}
 use Rattle.eden_base.specs.declared.number.FileId.{FileId}
-use Rattle.manifest.specs.declared.links.LinkChange.{LinkChange}
+use Rattle.manifest.specs.declared.link_change.LinkChange.{LinkChange}
 use Rattle.checkout.specs.declared.made.MadeFile.{MadeFile}
 use Rattle.checkout.specs.Changes.{AreLinkChanges, IsLinkChange, place_of}
 use Rattle.checkout.specs.BadChanges.{gives_same}

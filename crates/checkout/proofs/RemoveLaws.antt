@@ -9,16 +9,12 @@ use Rattle.manifest.proofs.FlatLemmas.{link_cmp_total, link_cmp-same, has_link}
 use Rattle.checkout.proofs.CreateLaws.{IsElsewhere}
 use Rattle.checkout.proofs.LinkLaws.{linked_from_child, child_from_linked}
 use Rattle.manifest.proofs.ManifestTree.{same_id}
-use Rattle.manifest.proofs.MapLemmas.{get-remove_cases, get-remove_same, get-remove_other}
+use Rattle.manifest.proofs.MapLemmas.{get-remove_cases, get-remove_other}
 use Rattle.manifest.proofs.PathLaws.{file_at-beside}
 
 module _ (tree : Tree) (dir : FileId) (name : List ℕ) where
   abbrev less : Tree
   less = removed tree dir name
-
-  -- the name gives nothing, and every other name gives what it gave
-  pub child_of-removed : child_of less dir name ≡ None
-  child_of-removed = get-remove_same link_cmp_total tree.links (dir.0, name)
 
   pub child_of-removed_elsewhere : (d : FileId) (n : List ℕ) → IsElsewhere d n dir name → child_of less d n ≡ child_of tree d n
   child_of-removed_elsewhere d n other =

@@ -7,7 +7,7 @@ use Rattle.std.specs.Option.{option_and_then}
 use Rattle.eden_base.specs.Name.{IsNameText}
 use Rattle.eden_base.specs.declared.attr.Kind.TheVariants.{Dir}
 use Rattle.eden_base.specs.declared.number.FileId.{FileId}
-use Rattle.manifest.specs.Tree.{Tree, root, file_of, kind_of, child_of, file_at, is_dir, IsTree, link_cmp}
+use Rattle.manifest.specs.Tree.{Tree, root, kind_of, child_of, file_at, is_dir, IsTree, link_cmp}
 use Rattle.checkout.specs.Changed.{put}
 use Rattle.checkout.specs.ChangedTree.{has_links, is_empty_dir, is_full_dir, is_unlinked}
 use Rattle.checkout.specs.RenamedTree.{can_replace, renamed, IsAtOrAbove}
@@ -15,7 +15,7 @@ use Rattle.checkout.proofs.CreateLaws.{IsElsewhere, reached}
 use Rattle.checkout.proofs.RemoveLaws.{no_links_below, not_full-from_empty}
 use Rattle.manifest.proofs.FlatLemmas.{link_cmp_total, link_cmp-same}
 use Rattle.manifest.proofs.ManifestTree.{same_id}
-use Rattle.manifest.proofs.MapLemmas.{get-insert_cases, get-insert_same, get-insert_other, get-remove_cases, get-remove_same, get-remove_other}
+use Rattle.manifest.proofs.MapLemmas.{get-insert_cases, get-insert_same, get-insert_other, get-remove_cases, get-remove_other}
 use Rattle.manifest.proofs.PathLaws.{file_at-below}
 
 -- a file that may be replaced is no directory with links
@@ -46,11 +46,6 @@ module _ (tree : Tree) (dir : FileId) (name : List ℕ) (to_dir : FileId) (to_na
   pub child_of-renamed : child_of new to_dir to_name ≡ Some file
   child_of-renamed = link_at to_dir to_name ∙ get-insert_same link_cmp_total rest (to_dir.0, to_name) file
 
-  pub child_of-renamed_old : IsElsewhere dir name to_dir to_name → child_of new dir name ≡ None
-  child_of-renamed_old other =
-      link_at dir name ∙ get-insert_other link_cmp_total link_cmp-same rest (to_dir.0, to_name) file (dir.0, name) (apart_keys dir to_dir name to_name other)
-      ∙ get-remove_same link_cmp_total tree.links (dir.0, name)
-
   pub child_of-renamed_elsewhere : (d : FileId) (n : List ℕ) → IsElsewhere d n dir name → IsElsewhere d n to_dir to_name → child_of new d n ≡ child_of tree d n
   child_of-renamed_elsewhere d n other too =
       link_at d n ∙ get-insert_other link_cmp_total link_cmp-same rest (to_dir.0, to_name) file (d.0, n) (apart_keys d to_dir n to_name too)
@@ -64,13 +59,6 @@ module _ (tree : Tree) (dir : FileId) (name : List ℕ) (to_dir : FileId) (to_na
             let w = get-remove_cases link_cmp_total link_cmp-same tree.links (dir.0, name) (d.0, n) g old in
             inr (w.0, λ same. w.1 (λ i. ((same.0 i).0, same.1 i)))
       ]
-
-  -- every file is what it was
-  pub file_of-renamed : (f : FileId) → file_of new f ≡ file_of tree f
-  file_of-renamed f = refl
-
-  pub kind_of-renamed : (f : FileId) → kind_of new f ≡ kind_of tree f
-  kind_of-renamed f = refl
 
   module _ (is : IsTree tree) where
     -- a file that stands at one place isn't at another

@@ -1,12 +1,9 @@
 -- Which files some name leads to once one moved, and what the kernel is told of them.
-use Rattle.std.proofs.Common.{◌≡◌, ℕ, ◌==◌, ◌&&◌, not, true, false, List, Some, refl, sym, ap, ◌∙◌, inl, inr, arith}
-use Rattle.std.proofs.lemmas.Bool.Decides.{nat_tests}
-use Rattle.std.specs.Option.{option_map}
+use Rattle.std.proofs.Common.{◌≡◌, ℕ, true, false, List, Some, refl, sym, ap, inl, inr}
 use Rattle.eden_base.specs.declared.number.FileId.{FileId}
-use Rattle.manifest.specs.Tree.{Tree, child_of, file_of, IsTree}
-use Rattle.checkout.specs.ChangedTree.{attr_of, is_linked}
+use Rattle.manifest.specs.Tree.{Tree, child_of, IsTree}
+use Rattle.checkout.specs.ChangedTree.{is_linked}
 use Rattle.checkout.specs.RenamedTree.{renamed}
-use Rattle.checkout.proofs.AttrLaws.{told}
 use Rattle.checkout.proofs.LinkLaws.{child_from_linked, linked_from_child}
 use Rattle.checkout.proofs.AddedPlaces.{same_or_other}
 use Rattle.checkout.proofs.RenameLaws.{child_of-renamed, child_of-renamed_cases, no_place, place_stays}
@@ -54,14 +51,3 @@ module _ (tree : Tree) (dir : FileId) (name : List ℕ) (to_dir : FileId) (to_na
                   ]
             ] refl
           ] refl
-
-  -- a move changes what is told of the file that stood at the new name alone
-  pub attr_of-renamed_other : (f : FileId) → (child_of tree to_dir to_name ≡ Some f → ⊥) → attr_of new f ≡ attr_of tree f
-  attr_of-renamed_other f not_there = ap (λ b. option_map (told (not (f.0 == 1) && not b)) (file_of tree f)) (is_linked-renamed_other f not_there)
-
-  pub attr_of-renamed_replaced : (child_of tree to_dir to_name ≡ Some file → ⊥) → (u : FileId) → child_of tree to_dir to_name ≡ Some u → attr_of new u ≡ option_map (told true) (file_of tree u)
-  attr_of-renamed_replaced other u at =
-      let late = is.root_has_no_link to_dir to_name u at in
-      let not_root : (u.0 == 1) ≡ false = grind (arith, nat_tests) in
-      ap (λ b. option_map (told (not b && not (is_linked new u))) (file_of tree u)) not_root
-      ∙ ap (λ b. option_map (told (not b)) (file_of tree u)) (is_linked-renamed_replaced other u at)

@@ -10,9 +10,8 @@ use Rattle.std.specs.Option.{option_map}
 use Rattle.std.specs.Ordering.{is_eq}
 use Rattle.eden_base.specs.declared.number.FileId.{FileId}
 use Rattle.checkout.specs.declared.changes.Changes.{Changes}
-use Rattle.manifest.specs.declared.links.LinkChange.{LinkChange}
+use Rattle.manifest.specs.declared.link_change.LinkChange.{LinkChange}
 use Rattle.checkout.specs.BadChanges.{Link, bad_by_other, bad_itself, changed_links, file_does, first_link, gives_same, has_other_link, is_at}
-use Rattle.checkout.specs.Changed.{links_with}
 use Rattle.checkout.specs.Changes.{place_of}
 use Rattle.checkout.specs.Laying.{taken}
 use Rattle.manifest.specs.Manifest.{Manifest, IsManifest}
@@ -37,9 +36,6 @@ use Rattle.checkout.proofs.TakenLaws.{line_of_place}
 module _ (m : Manifest) (c : Changes) (is : IsManifest m) (itself : bad_itself m c ≡ None) (gone : ℕ → Bool) (went : (q : ℕ) → gone q ≡ list_any (λ f. q == f) (taken m c.links)) where
   abbrev base : FinMap link_cmp FileId
   base = links_from 2 m.lines
-
-  abbrev all : FinMap link_cmp FileId
-  all = links_with base c.links
 
   -- the manifest has something else at the place of a change
   not_there : (x : LinkChange) (file : FileId) → IsAmong x c.links → x.target ≡ Some file → get base (place_of x) ≡ Some file → ⊥

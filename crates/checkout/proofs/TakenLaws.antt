@@ -4,7 +4,7 @@ use Rattle.std.proofs.lemmas.Bool.Decides.{nat_tests}
 use Rattle.std.proofs.lemmas.Option.{slice_get_within}
 use Rattle.std.specs.FinMap.{get}
 use Rattle.eden_base.specs.declared.number.FileId.{FileId}
-use Rattle.manifest.specs.declared.links.LinkChange.{LinkChange}
+use Rattle.manifest.specs.declared.link_change.LinkChange.{LinkChange}
 use Rattle.checkout.specs.BadChanges.{gives_same}
 use Rattle.checkout.specs.Changes.{place_of}
 use Rattle.checkout.specs.UnlinkedFiles.{UnlinkedFiles, is_gone}

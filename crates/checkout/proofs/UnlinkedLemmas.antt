@@ -30,14 +30,7 @@ is_gone-added old new file added q = ap (list_any (λ f. q == f)) added ∙ has-
 above_zero : (n : ℕ) → nat_lt 0 (n + 1) ≡ true
 above_zero n = grind (arith, nat_tests)
 
-zero_from : (n : ℕ) → nat_lt 0 n ≡ false → n ≡ 0
-zero_from n k = grind (arith, nat_tests)
-
 module _ (fs : List ℕ) (file : ℕ) (new : list_any (λ f. file == f) fs ≡ false) where
-  -- a file that is new was not counted, and is then
-  pub not_counted : (marks : Tally) → ((q : ℕ) → nat_lt 0 (count_of marks q) ≡ list_any (λ f. q == f) fs) → count_of marks file ≡ 0
-  not_counted marks same = zero_from (count_of marks file) (same file ∙ new)
-
   pub counted-push : (old marks : Tally) → ((q : ℕ) → nat_lt 0 (count_of old q) ≡ list_any (λ f. q == f) fs) →
       ((q : ℕ) → count_of marks q ≡ (if q == file then count_of old q + 1 else count_of old q)) → (q : ℕ) → nat_lt 0 (count_of marks q) ≡ list_any (λ f. q == f) (fs ++ file ∷ [])
   counted-push old marks same raised q =

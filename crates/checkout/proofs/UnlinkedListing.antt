@@ -6,7 +6,7 @@ use Rattle.std.proofs.lemmas.Option.{slice_get-get_or}
 use Rattle.std.specs.FinMap.{FinMap, get}
 use Rattle.std.specs.List.{AllByRecursion, cons_option, list_any}
 use Rattle.eden_base.specs.declared.number.FileId.{FileId}
-use Rattle.manifest.specs.declared.links.LinkChange.{LinkChange}
+use Rattle.manifest.specs.declared.link_change.LinkChange.{LinkChange}
 use Rattle.checkout.specs.UnlinkedFiles.{UnlinkedFiles, is_gone}
 use Rattle.checkout.specs.Listing.{gone_change, gone_changes, HaveLines}
 use Rattle.manifest.specs.Manifest.{Line, Manifest}
@@ -30,9 +30,6 @@ module _ (added : FinMap link_cmp FileId) (lines : List Line) where
     -- the first file that is left has a line
     pub line_within : file - 2 < length lines
     line_within = let h = have_here.0 in omega (arith, h.0, h.1)
-
-    pub at_least_two : 2 ≤ file
-    at_least_two = have_here.0.0
 
     pub have_later : HaveLines lines (drop (i + 1) files)
     have_later = have_here.1

@@ -45,12 +45,6 @@ attr_of tree file =
     (λ (f : File). record { kind = f.kind; perm = f.perm; size = f.size; nlink = nlink_of tree file f.kind })
     (file_of tree file)
 
--- the permissions of a file that was made since the manifest; None for any other file
-abbrev pub perm_made : Tree → FileId → Option Perm
-perm_made tree file =
-    if nat_lt file.0 (length tree.manifest.lines + 2) then None
-    else option_map (λ (f : File). f.perm) (file_of tree file)
-
 -- whether the file is a regular file of the manifest: the backing tells its attributes, and the tree those of any other
 abbrev pub is_backed : Tree → FileId → Bool
 is_backed tree file = nat_lt file.0 (length tree.manifest.lines + 2) && is_regular (kind_of tree file)

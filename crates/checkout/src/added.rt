@@ -146,9 +146,10 @@ impl Added {
         ensures value { result ≡ get self.old (dir.0, name.now) }
         ensures links { self.new ≡ remove self.old (dir.0, name.now) }
     {
-        let file = self.get(dir, name)?;
-        unlink(&mut self.places, &mut self.index, file);
-        Some(file)
+        if !self.has_links(dir) {
+            return None;
+        }
+        take(&mut self.places, &mut self.index, dir, name)
     }
 
     /// Lets `to_name` in `to_dir` give `file`. If an added link stands there, it gives `replaced`, and is replaced. Removes
@@ -229,6 +230,25 @@ fn unlink(places: &mut AddedPlaces, index: &mut DirectoryIndex, file: FileId)
         return;
     };
     index.remove(place.dir.0, place.name.bytes(), file.0);
+}
+
+/// Removes the link under `name` in `dir`, and returns the file that it gave, or none if there is no such link.
+fn take(
+    places: &mut AddedPlaces,
+    index: &mut DirectoryIndex,
+    dir: FileId,
+    name: &Name,
+) -> Option<FileId>
+    ensures file { (links : FinMap link_cmp FileId) → AreLinks links places.old index.old
+        → result ≡ get links (dir.0, name.now) }
+    ensures links { (links : FinMap link_cmp FileId) → AreLinks links places.old index.old
+        → AreLinks (remove links (dir.0, name.now)) places.new index.new }
+{
+    let Some(file) = index.take(places, dir.0, name.bytes()) else {
+        return None;
+    };
+    places.files.remove(&file);
+    Some(FileId(file))
 }
 
 /// Removes the link under `name` in `dir`, if there is one: it gives `file`.

@@ -53,7 +53,7 @@ impl MadeList {
         self.files.as_slice()
     }
 
-    /// Returns the files as a vector, in their order. Takes no memory.
+    /// Returns the files as a vector, in their order, for who wants to change that. Takes no memory.
     pub fn into_vec(self) -> Vec<Made>
         ensures files { result.items ≡ self }
     {
@@ -70,7 +70,7 @@ pub struct LinkList {
 
 impl Model for LinkList {
     ghost use Rattle.std.specs.Prelude.{List};
-    ghost use Rattle.manifest.specs.declared.links.LinkChange.{LinkChange};
+    ghost use Rattle.manifest.specs.declared.link_change.LinkChange.{LinkChange};
 
     ghost Value = { List LinkChange };
 
@@ -92,7 +92,7 @@ impl LinkList {
         self.links.as_slice()
     }
 
-    /// Returns the changed links as a vector, in their order. Takes no memory.
+    /// Returns the changed links as a vector, in their order, for who wants to change that. Takes no memory.
     pub fn into_vec(self) -> Vec<LinkChange>
         ensures links { result.items ≡ self }
     {

@@ -11,7 +11,7 @@ ghost use Rattle.checkout.specs.Changes.{AreChanges};
 ghost use Rattle.checkout.specs.declared.changes.Changes.{Changes as ChangesState};
 ghost use Rattle.checkout.specs.Create.{IsCreateRefusal};
 ghost use Rattle.manifest.specs.Tree.{Tree as TreeState, IsTree, tree_of, child_of, kind_of, file_of, nlink_of_kind};
-ghost use Rattle.checkout.specs.ChangedTree.{attr_of, perm_made, next_file, nlink_of, has_links, is_empty_dir, is_full_dir, is_backed, is_linked, is_regular, is_unlinked, created, removed};
+ghost use Rattle.checkout.specs.ChangedTree.{attr_of, next_file, nlink_of, has_links, is_empty_dir, is_full_dir, is_backed, is_linked, is_regular, is_unlinked, created, removed};
 ghost use Rattle.checkout.specs.RenamedTree.{can_replace, renamed, IsAtOrAbove};
 
 use crate::added::Added;
@@ -167,17 +167,6 @@ impl Tree {
     {
         let content = self.content(file)?;
         Some(content.kind)
-    }
-
-    /// Returns the permissions of a file that was made since the manifest, or none for any other file.
-    pub fn perm_made(&self, file: FileId) -> Option<Perm>
-        ensures perm { result ≡ perm_made self.now file }
-    {
-        if overlay::is_line(&self.manifest, file) {
-            return None;
-        }
-        let made = self.made.get(file)?;
-        Some(made.perm)
     }
 
     /// Returns whether the file is a regular file of the manifest: its attributes are the backing's to tell.

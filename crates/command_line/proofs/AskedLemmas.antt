@@ -6,12 +6,12 @@ use Rattle.clap.specs.Kinds.{or_else}
 use Rattle.clap.specs.declared.error.Error.{Error}
 use Rattle.clap.specs.declared.error.kind.ErrorKind.{ErrorKind}
 use Rattle.clap.specs.declared.error.kind.ErrorKind.TheVariants as kind
-use Rattle.command_line.specs.Asked.{IsAsked, IsErrand, IsScript}
-use Rattle.command_line.specs.CommandLine.{is_errand, script_in, words_fault_in}
+use Rattle.command_line.specs.Asked.{IsAsked, IsServer, IsScript}
+use Rattle.command_line.specs.CommandLine.{is_server, script_in, words_fault_in}
 use Rattle.command_line.specs.declared.asked.Asked.{Asked}
 use Rattle.command_line.specs.declared.asked.Asked.TheVariants.{World, Serve}
-use Rattle.command_line.specs.declared.errand.Errand.{Errand}
-use Rattle.command_line.specs.declared.errand.Errand.TheVariants.{Broker, Daemon, Mount}
+use Rattle.command_line.specs.declared.server_command.ServerCommand.{ServerCommand}
+use Rattle.command_line.specs.declared.server_command.ServerCommand.TheVariants.{Broker, Daemon, Mount}
 use Rattle.command_line.proofs.CommandLemmas.{words_fault-other}
 
 -- an error where nothing is wrong is want of memory
@@ -35,18 +35,18 @@ fails_first (Err error) first next refused fails = elim fails [
   | inr among ↦ inr (among_longer (kind_of error) first next among)
 ]
 
--- a command that asks for an errand is one of those
-pub errand_is : (command : Option (Text × List Row)) (errand : Errand) → IsErrand command errand → is_errand command ≡ true
-errand_is command (Broker broker) (rows, is, parts) = ap is_errand is
-errand_is command (Daemon daemon) (rows, is, parts) = ap is_errand is
-errand_is command (Mount mount) (rows, is, parts) = ap is_errand is
+-- a command that is read as a server command is one
+pub server_is : (command : Option (Text × List Row)) (server : ServerCommand) → IsServer command server → is_server command ≡ true
+server_is command (Broker broker) (rows, is, parts) = ap is_server is
+server_is command (Daemon daemon) (rows, is, parts) = ap is_server is
+server_is command (Mount mount) (rows, is, parts) = ap is_server is
 
 -- what is asked for by words that name a script plainly
-pub plain_asked : (result : Result Asked Error) (command : Option (Text × List Row)) (script : Text) → script_in command ≡ script → is_errand command ≡ false →
+pub plain_asked : (result : Result Asked Error) (command : Option (Text × List Row)) (script : Text) → script_in command ≡ script → is_server command ≡ false →
     IfOk result (IsAsked command) → FailsBy (words_fault_in command) result → MatchResult result (IsScript script) (λ error. kind_of error ≡ kind.OutOfMemory)
 plain_asked (Ok (World world)) command script read apart asked fails = asked.1 ∙ read
-plain_asked (Ok (Serve errand)) command script read apart asked fails =
-    let bad : true ≡ false = sym (errand_is command errand asked) ∙ apart in cc
+plain_asked (Ok (Serve server)) command script read apart asked fails =
+    let bad : true ≡ false = sym (server_is command server asked) ∙ apart in cc
 plain_asked (Err error) command script read apart asked fails = elim (subst (λ (w : Kinds). HasKind w error) (words_fault-other command apart) fails) [
   | inl memory ↦ memory
   | inr among ↦ absurd among

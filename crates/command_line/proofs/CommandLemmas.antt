@@ -7,7 +7,7 @@ use Rattle.clap.specs.Words.{AddsArg, AddsSubcommand, App, Row, Rule, Text, app_
 use Rattle.clap.specs.Simple.{app_of_fields}
 use Rattle.clap.specs.declared.builder.arg.Arg.{Arg}
 use Rattle.clap.specs.declared.builder.command.Command.{Command, out-Command}
-use Rattle.command_line.specs.CommandLine.{IsReadAs, is_errand, limit_in, number_or, script_in, standard_input, owner_fault, start_fault, words_fault_in}
+use Rattle.command_line.specs.CommandLine.{IsReadAs, is_server, limit_in, number_or, script_in, standard_input, owner_fault, start_fault, words_fault_in}
 
 -- a command of its own, as it is made
 pub made : (name : Text) (command : Command) → app_of command ≡ new_app name → (out-Command command).has_globals ≡ false → IsReadAs (new_app name) command
@@ -74,23 +74,6 @@ limit_in-world (Some sub) rows name is =
     let rows_are : sub.1 ≡ rows = cc in
     limit_or_none true sub ((bytes_eq-Decides sub.0 (codes "world")).1 name_is) ∙ ap (λ (r : List Row). number_or 1024 (first_of (codes "limit") r)) rows_are
 
--- another command or none was read
-pub script_in-other : (sub : Option (Text × List Row)) → (option_map (λ (p : Text × List Row). p.0) sub ≡ Some (codes "world") → ⊥) → script_in sub ≡ standard_input
-script_in-other None other = refl
-script_in-other (Some sub) other = go (bytes_eq sub.0 (codes "world")) refl
-  where
-    go : (equal : Bool) → bytes_eq sub.0 (codes "world") ≡ equal → script_in (Some sub) ≡ standard_input
-    go true is = absurd (other (ap (λ (t : Text). Some t) ((bytes_eq-Decides sub.0 (codes "world")).0 is)))
-    go false is = world_or_none false sub is
-
-pub limit_in-other : (sub : Option (Text × List Row)) → (option_map (λ (p : Text × List Row). p.0) sub ≡ Some (codes "world") → ⊥) → limit_in sub ≡ 1024
-limit_in-other None other = refl
-limit_in-other (Some sub) other = go (bytes_eq sub.0 (codes "world")) refl
-  where
-    go : (equal : Bool) → bytes_eq sub.0 (codes "world") ≡ equal → limit_in (Some sub) ≡ 1024
-    go true is = absurd (other (ap (λ (t : Text). Some t) ((bytes_eq-Decides sub.0 (codes "world")).0 is)))
-    go false is = limit_or_none false sub is
-
 -- two maps of an option, one after the other, are one map
 pub option_map_twice : {A B C : Type 0} (f : B → C) (g : A → B) (o : Option A) → option_map f (option_map g o) ≡ option_map (λ x. f (g x)) o
 option_map_twice f g None = refl
@@ -101,38 +84,10 @@ pub text_or : (found : Option (Bor Text)) (other : Bor Text) (text : Option Text
 text_or None other text is = ap (λ t. unwrap_or t other.now) is
 text_or (Some s) other text is = ap (λ t. unwrap_or t other.now) is
 
--- a command by its name and by what it was given
-pub command_is : (sub : Option (Text × List Row)) (name : Text) (rows : List Row) → option_map (λ (p : Text × List Row). p.0) sub ≡ Some name → option_map (λ (p : Text × List Row). p.1) sub ≡ Some rows → sub ≡ Some (name, rows)
-command_is None name rows name_is is = cc
-command_is (Some sub) name rows name_is is =
-    let same_name : sub.0 ≡ name = cc in
-    let same_rows : sub.1 ≡ rows = cc in
-    ap₂ (λ (n : Text) (r : List Row). Some (n, r)) same_name same_rows
-
--- one of three holds, or none does
-none_of : (a b c : Bool) → a ≡ false → b ≡ false → c ≡ false → ((a || b) || c) ≡ false
-none_of true b c is other third = let bad : true ≡ false = is in cc
-none_of false true c is other third = let bad : true ≡ false = other in cc
-none_of false false true is other third = let bad : true ≡ false = third in cc
-none_of false false false is other third = refl
-
 second_of_two : (a b c : Bool) → b ≡ true → ((a || b) || c) ≡ true
 second_of_two true b c is = refl
 second_of_two false true c is = refl
 second_of_two false false c is = let bad : true ≡ false = sym is in cc
-
--- a command of another name is no errand
-pub is_errand-other : (sub : Option (Text × List Row)) → (option_map (λ (p : Text × List Row). p.0) sub ≡ Some (codes "broker") → ⊥) →
-    (option_map (λ (p : Text × List Row). p.0) sub ≡ Some (codes "daemon") → ⊥) →
-    (option_map (λ (p : Text × List Row). p.0) sub ≡ Some (codes "mount") → ⊥) → is_errand sub ≡ false
-is_errand-other None no_broker no_daemon no_mount = refl
-is_errand-other (Some sub) no_broker no_daemon no_mount = go (bytes_eq sub.0 (codes "broker")) (bytes_eq sub.0 (codes "daemon")) (bytes_eq sub.0 (codes "mount")) refl refl refl
-  where
-    go : (broker daemon mount : Bool) → bytes_eq sub.0 (codes "broker") ≡ broker → bytes_eq sub.0 (codes "daemon") ≡ daemon → bytes_eq sub.0 (codes "mount") ≡ mount → is_errand (Some sub) ≡ false
-    go true daemon mount is other third = absurd (no_broker (ap (λ (t : Text). Some t) ((bytes_eq-Decides sub.0 (codes "broker")).0 is)))
-    go false true mount is other third = absurd (no_daemon (ap (λ (t : Text). Some t) ((bytes_eq-Decides sub.0 (codes "daemon")).0 other)))
-    go false false true is other third = absurd (no_mount (ap (λ (t : Text). Some t) ((bytes_eq-Decides sub.0 (codes "mount")).0 third)))
-    go false false false is other third = none_of (bytes_eq sub.0 (codes "broker")) (bytes_eq sub.0 (codes "daemon")) (bytes_eq sub.0 (codes "mount")) is other third
 
 third_of_three : (a b c : Bool) → c ≡ true → ((a || b) || c) ≡ true
 third_of_three true b c is = refl
@@ -140,8 +95,8 @@ third_of_three false true c is = refl
 third_of_three false false true is = refl
 third_of_three false false false is = let bad : true ≡ false = sym is in cc
 
--- nothing is wrong with the words of a command that is no errand
-pub words_fault-other : (sub : Option (Text × List Row)) → is_errand sub ≡ false → words_fault_in sub ≡ []
+-- nothing is wrong with the words of a command that is no server command
+pub words_fault-other : (sub : Option (Text × List Row)) → is_server sub ≡ false → words_fault_in sub ≡ []
 words_fault-other None apart = refl
 words_fault-other (Some sub) apart = go (bytes_eq sub.0 (codes "daemon")) (bytes_eq sub.0 (codes "mount")) refl refl
   where

@@ -10,7 +10,7 @@ use Rattle.clap.specs.Lexer.{long_of, short_of}
 use Rattle.clap.specs.Walk.{Held, Step, Walk, after_step, answers_to, finished, idle, long_or_other, long_word, nothing_held, settled, short_or_plain, trailing, value, walk_from, word_met}
 use Rattle.clap.specs.Faults.{bundle_fault, check_fault, flag_word_fault, defaults_fault, settle_fault, step_fault, word_fault}
 use Rattle.clap.proofs.OnLiterals.{clap_on_literals}
-use Rattle.command_line.specs.CommandLine.{command_of, edend_app, is_errand, script_named, standard_input, is_option, NamesPlainly}
+use Rattle.command_line.specs.CommandLine.{command_of, edend_app, is_server, script_named, standard_input, is_option, NamesPlainly}
 
 alone : (program : Text) → script_named (program ∷ []) ≡ standard_input
 unfolding clap_on_literals
@@ -118,17 +118,17 @@ hyphen_right : (program : Text) → fault_of edend_app (program ∷ codes "world
 unfolding clap_on_literals
 hyphen_right program = refl
 
-alone_none : (program : Text) → is_errand (command_of (program ∷ [])) ≡ false
+alone_none : (program : Text) → is_server (command_of (program ∷ [])) ≡ false
 unfolding clap_on_literals
 alone_none program = refl
 
-world_none : (program text : Text) → is_errand (command_of (program ∷ codes "world" ∷ text ∷ [])) ≡ false
+world_none : (program text : Text) → is_server (command_of (program ∷ codes "world" ∷ text ∷ [])) ≡ false
 unfolding clap_on_literals
 world_none program text = refl
 
--- words are read as the script, nothing is wrong with them, and they ask for no errand
+-- words are read as the script, nothing is wrong with them, and they ask for no server command
 abbrev AreRead : List Text → Text → Type 0
-AreRead words script = (script_named words ≡ script) × (fault_of edend_app words ≡ []) × (is_errand (command_of words) ≡ false)
+AreRead words script = (script_named words ≡ script) × (fault_of edend_app words ≡ []) × (is_server (command_of words) ≡ false)
 
 value_read : (program : Text) (byte : ℕ) (rest : Text) → (byte == 45) ≡ false → AreRead (program ∷ codes "world" ∷ (byte ∷ rest) ∷ []) (byte ∷ rest)
 value_read program byte rest other = (

@@ -1,15 +1,15 @@
 -- What the words ask for, by the command that they have and what it was given.
 use Rattle.std.specs.Prelude.{◌≡◌, false, List, Option, Some, option_and_then, codes}
 use Rattle.clap.specs.Words.{Row, Text, first_of}
-use Rattle.command_line.specs.CommandLine.{has_flag, is_errand, limit_in, number_or, script_in, start_by, word_in}
+use Rattle.command_line.specs.CommandLine.{has_flag, is_server, limit_in, number_or, script_in, start_by, word_in}
 use Rattle.command_line.specs.Owner.{owner_of}
 use Rattle.command_line.specs.declared.asked.Asked.{Asked}
 use Rattle.command_line.specs.declared.asked.Asked.TheVariants.{World, Serve}
-use Rattle.command_line.specs.declared.errand.BrokerWords.{BrokerWords}
-use Rattle.command_line.specs.declared.errand.DaemonWords.{DaemonWords}
-use Rattle.command_line.specs.declared.errand.Errand.{Errand}
-use Rattle.command_line.specs.declared.errand.Errand.TheVariants.{Broker, Daemon, Mount}
-use Rattle.command_line.specs.declared.errand.MountWords.{MountWords}
+use Rattle.command_line.specs.declared.server_command.BrokerWords.{BrokerWords}
+use Rattle.command_line.specs.declared.server_command.DaemonWords.{DaemonWords}
+use Rattle.command_line.specs.declared.server_command.ServerCommand.{ServerCommand}
+use Rattle.command_line.specs.declared.server_command.ServerCommand.TheVariants.{Broker, Daemon, Mount}
+use Rattle.command_line.specs.declared.server_command.MountWords.{MountWords}
 
 -- each word of `broker` is that of its argument
 pub record IsBroker (rows : List Row) (broker : BrokerWords) : Type 0 where
@@ -35,21 +35,21 @@ pub record IsMount (rows : List Row) (mount : MountWords) : Type 0 where
   pub owner : mount.owner ≡ option_and_then owner_of (first_of (codes "owner") rows)
 
 -- the command asks for this process
-abbrev pub IsErrand : Option (Text × List Row) → Errand → Type 0
-IsErrand command (Broker broker) =
+abbrev pub IsServer : Option (Text × List Row) → ServerCommand → Type 0
+IsServer command (Broker broker) =
     (rows : List Row) × (command ≡ Some (codes "broker", rows)) × IsBroker rows broker
-IsErrand command (Daemon daemon) =
+IsServer command (Daemon daemon) =
     (rows : List Row) × (command ≡ Some (codes "daemon", rows)) × IsDaemon rows daemon
-IsErrand command (Mount mount) =
+IsServer command (Mount mount) =
     (rows : List Row) × (command ≡ Some (codes "mount", rows)) × IsMount rows mount
 
 -- the command asks for this
 abbrev pub IsAsked : Option (Text × List Row) → Asked → Type 0
 IsAsked command (World world) =
-    (is_errand command ≡ false) × (world.script.now ≡ script_in command) × (world.limit ≡ limit_in command)
-IsAsked command (Serve errand) = IsErrand command errand
+    (is_server command ≡ false) × (world.script.now ≡ script_in command) × (world.limit ≡ limit_in command)
+IsAsked command (Serve server) = IsServer command server
 
 -- what is asked for is this script
 abbrev pub IsScript : Text → Asked → Type 0
 IsScript script (World world) = world.script.now ≡ script
-IsScript script (Serve errand) = ⊥
+IsScript script (Serve server) = ⊥

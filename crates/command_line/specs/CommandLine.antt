@@ -11,8 +11,8 @@ use Rattle.clap.specs.declared.builder.value_parser.ValueParser.TheVariants as p
 use Rattle.clap.specs.declared.error.kind.ErrorKind.TheVariants as kind
 use Rattle.script_lines.specs.Number.{number_of}
 use Rattle.command_line.specs.Owner.{owner_of}
-use Rattle.command_line.specs.declared.errand.Start.{Start}
-use Rattle.command_line.specs.declared.errand.Start.TheVariants.{Mount, Takeover}
+use Rattle.command_line.specs.declared.server_command.StartMode.{StartMode}
+use Rattle.command_line.specs.declared.server_command.StartMode.TheVariants.{Mount, Takeover}
 
 -- the command is read as this, and hands no option on to commands below it
 abbrev pub IsReadAs : App → Command → Type 0
@@ -146,7 +146,7 @@ abbrev pub has_flag : Text → List Row → Bool
 has_flag flag rows = bytes_eq (word_in flag rows) (codes "true")
 
 -- how a daemon comes to serve, by whether it mounts
-abbrev pub start_by : Bool → Start
+abbrev pub start_by : Bool → StartMode
 start_by mounts = if mounts then Mount else Takeover
 
 -- what is wrong with a daemon's start, by whether it mounts and whether it takes over: it has to do exactly one
@@ -180,7 +180,7 @@ abbrev pub wrong_of : List Text → Kinds
 wrong_of words = or_else (fault_of edend_app words) (words_fault_in (command_of words))
 
 -- whether the command is one of a process that serves over sockets
-abbrev pub is_errand : Option (Text × List Row) → Bool
-is_errand None = false
-is_errand (Some command) =
+abbrev pub is_server : Option (Text × List Row) → Bool
+is_server None = false
+is_server (Some command) =
     bytes_eq command.0 (codes "broker") || bytes_eq command.0 (codes "daemon") || bytes_eq command.0 (codes "mount")

@@ -11,7 +11,7 @@ use crate::commands::{
     PATIENCE, SCRIPT, SOCKET, TAKEOVER, UNTIL_CLOSED, WORKERS, WORLD, daemon_command,
     edend_command, mount_command,
 };
-use crate::{BrokerWords, DaemonWords, Errand, MountWords, Owner, Start, read_owner};
+use crate::{BrokerWords, DaemonWords, MountWords, Owner, ServerCommand, StartMode, read_owner};
 use clap::error::ErrorKind;
 use clap::{ArgMatches, Command, Error};
 use script_lines::number;
@@ -32,7 +32,7 @@ pub enum Asked<'a> {
     /// A script is to be run.
     World(WorldWords<'a>),
     /// A process is to serve.
-    Serve(Errand<'a>),
+    Serve(ServerCommand<'a>),
 }
 
 /// The words of `world`.
@@ -67,9 +67,13 @@ fn asked_in<'a>(alloc: Global, matches: &ArgMatches<'a>) -> Result<Asked<'a>, Er
         matches.subcommand_matches(DAEMON),
         matches.subcommand_matches(MOUNT),
     ) {
-        (Some(broker), _, _) => Ok(Asked::Serve(Errand::Broker(broker_in(broker)))),
-        (None, Some(daemon), _) => Ok(Asked::Serve(Errand::Daemon(daemon_in(alloc, daemon)?))),
-        (None, None, Some(mount)) => Ok(Asked::Serve(Errand::Mount(mount_in(alloc, mount)?))),
+        (Some(broker), _, _) => Ok(Asked::Serve(ServerCommand::Broker(broker_in(broker)))),
+        (None, Some(daemon), _) => Ok(Asked::Serve(ServerCommand::Daemon(daemon_in(
+            alloc, daemon,
+        )?))),
+        (None, None, Some(mount)) => Ok(Asked::Serve(ServerCommand::Mount(mount_in(
+            alloc, mount,
+        )?))),
         (None, None, None) => Ok(Asked::World(world_in(matches))),
     }
 }
@@ -174,14 +178,14 @@ fn daemon_in<'a>(alloc: Global, daemon: &ArgMatches<'a>) -> Result<DaemonWords<'
 }
 
 /// Returns how a daemon comes to serve. Words that name both ways or none are refused.
-fn start_in(alloc: Global, daemon: &ArgMatches<'_>) -> Result<Start, Error>
+fn start_in(alloc: Global, daemon: &ArgMatches<'_>) -> Result<StartMode, Error>
     ensures start { IfOk result (λ start.
         start ≡ start_by (has_flag (codes "mount") (rows_of (found_of daemon.now)))) }
     ensures refused { FailsBy (start_fault (rows_of (found_of daemon.now))) result }
 {
     match (has_flag(daemon, MOUNT), has_flag(daemon, TAKEOVER)) {
-        (true, false) => Ok(Start::Mount),
-        (false, true) => Ok(Start::Takeover),
+        (true, false) => Ok(StartMode::Mount),
+        (false, true) => Ok(StartMode::Takeover),
         (true, true) => Err(refusal(alloc, ErrorKind::ArgumentConflict, BOTH_STARTS)?),
         (false, false) => Err(refusal(alloc, ErrorKind::MissingRequiredArgument, NO_START)?),
     }

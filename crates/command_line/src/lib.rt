@@ -3,9 +3,9 @@
 
 mod asked;
 mod commands;
-mod errand;
 mod owner;
+mod server_command;
 
 pub use asked::{Asked, DEFAULT_LIMIT, WorldWords, asked_of, not_text};
-pub use errand::{BrokerWords, DaemonWords, Errand, MountWords, Start};
 pub use owner::{Owner, read_owner};
+pub use server_command::{BrokerWords, DaemonWords, MountWords, ServerCommand, StartMode};

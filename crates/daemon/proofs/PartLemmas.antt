@@ -14,7 +14,7 @@ use Rattle.takeover_core.specs.declared.phase.Phase.{Phase}
 use Rattle.takeover_core.specs.declared.phase.Phase.TheVariants.{Taking, Reading, Raising}
 use Rattle.daemon.specs.Daemon.{DaemonState, read_in, turned_to}
 use Rattle.daemon.specs.Saying.{of_said, turned, TurnState}
-use Rattle.daemon.specs.Talking.{HearsSo, ReactsBy, ReadsBy, TakesData, TakesPart, brings_part, bytes_of, read_before}
+use Rattle.daemon.specs.Talking.{BringsPart, HearsSo, ReactsBy, ReadsBy, TakesData, TakesPart, brings_part, bytes_of, read_before}
 use Rattle.daemon.specs.declared.turn.Reaction.{Reaction}
 use Rattle.daemon.specs.declared.turn.Reaction.TheVariants.{Says}
 use Rattle.daemon.proofs.PhaseLemmas.{phase_for, phase_heard}
@@ -66,28 +66,50 @@ is_taking_part copy node said s g v i n is after =
     ap table.is_taking (phase_heard copy node said (answer.GotPart s g v i n) is after)
 
 -- a daemon that read the last part is in the phase in which it restores the data
-pub is_raising_behind : (was copy node : NodeState) (said : Message) (s g v i n : ℕ) → copy ≡ was → answer.GotPart s g v i n ≡ table.heard copy (table.Hear said) → node ≡ table.after copy (table.Hear said) → brings_part (table.heard was (table.Hear said)) ≡ false → table.is_raising (table.phase_after node (table.Fed true)) ≡ true
-is_raising_behind was copy node said s g v i n same is after last =
+pub is_raising_behind : (copy node : NodeState) (said : Message) (s g v i n : ℕ) → answer.GotPart s g v i n ≡ table.heard copy (table.Hear said) → node ≡ table.after copy (table.Hear said) → nat_lt i n ≡ false → table.is_raising (table.phase_after node (table.Fed true)) ≡ true
+is_raising_behind copy node said s g v i n is after last =
     let at : node.phase ≡ Taking s g v i n = phase_heard copy node said (answer.GotPart s g v i n) is after in
-    let none : nat_lt i n ≡ false = ap brings_part (is ∙ ap (λ (m : NodeState). table.heard m (table.Hear said)) same) ∙ last in
-    ap (λ (p : Phase). table.is_raising (phase_fed node true p)) at ∙ ap (λ (b : Bool). table.is_raising (if b then Reading s g v (i + 1) n else Raising s g)) none
+    ap (λ (p : Phase). table.is_raising (phase_fed node true p)) at ∙ ap (λ (b : Bool). table.is_raising (if b then Reading s g v (i + 1) n else Raising s g)) last
 
 -- a daemon that got data whole is in the phase in which it restores the data
 pub is_raising_data : (copy node : NodeState) (said : Message) (s g v : ℕ) → answer.GotData s g v ≡ table.heard copy (table.Hear said) → node ≡ table.after copy (table.Hear said) → table.is_raising node.phase ≡ true
 is_raising_data copy node said s g v is after = ap table.is_raising (phase_heard copy node said (answer.GotData s g v) is after)
 
+-- the answer of the table to a part that others follow
+pub record IsPart (a : Answer) : Type 0 where
+  pub session : ℕ
+  pub generation : ℕ
+  pub version : ℕ
+  pub position : ℕ
+  pub count : ℕ
+  pub is : a ≡ answer.GotPart session generation version position count
+  pub follows : nat_lt position count ≡ true
+
+is_part : (a : Answer) → brings_part a ≡ true → IsPart a
+is_part (answer.GotPart s g v i n) brings =
+    record { session = s; generation = g; version = v; position = i; count = n; is = refl; follows = brings }
+is_part a brings = absurd (let none : ⊥ = cc in none)
+
+-- the part that a message brings
+pub part_brought : (old : DaemonState) (said : Message) (node : NodeState) → BringsPart old said node → IsPart (table.heard old.node (table.Hear said))
+part_brought old said node brings = is_part (table.heard old.node (table.Hear said)) brings.follows
+
+-- a daemon to which a message brings a part is in the phase in which it takes it
+pub phase_brought : (old : DaemonState) (said : Message) (node : NodeState) (brings : BringsPart old said node) →
+    node.phase ≡ Taking (part_brought old said node brings).session (part_brought old said node brings).generation (part_brought old said node brings).version (part_brought old said node brings).position (part_brought old said node brings).count
+phase_brought old said node brings =
+    let part = part_brought old said node brings in
+    phase_heard old.node node said (answer.GotPart part.session part.generation part.version part.position part.count) (sym part.is) brings.becomes
+
 -- what came of a part that others follow, by what each call did
 pub record ReadsAPart (old : DaemonState) (said : Message) (s g v i n : ℕ) (fits : Bool) (reaction : Reaction)
     (new : DaemonState) : Type 0 where
   pub read : DaemonState
-  pub copy : NodeState
   pub node : NodeState
   pub fed : NodeState
   pub told : Option Message
-  pub copy_is : copy ≡ old.node
-  pub got : answer.GotPart s g v i n ≡ table.heard copy (table.Hear said)
-  pub follow : brings_part (table.heard old.node (table.Hear said)) ≡ true
-  pub node_is : node ≡ table.after copy (table.Hear said)
+  pub brings : BringsPart old said node
+  pub at : node.phase ≡ Taking s g v i n
   pub read_is : read ≡ record old { reading = Some (read_before i old ++ bytes_of said) }
   pub fits_is : fits ≡ is_none (standing_fault (read_before i old ++ bytes_of said))
   pub told_is : told ≡ table.said (table.heard node (table.Fed fits))
@@ -99,11 +121,13 @@ pub reads_so : (manifest : Manifest) (limit : ℕ) (old new : DaemonState) (said
 reads_so manifest limit old new said s g v i n fits reaction h =
     let node : NodeState = table.after old.node (table.Hear said) in
     let bytes : List ℕ = read_before i old ++ bytes_of said in
-    let got : answer.GotPart s g v i n ≡ table.heard old.node (table.Hear said) = h.got ∙ ap (λ (m : NodeState). table.heard m (table.Hear said)) h.copy_is in
-    let node_is : h.node ≡ node = h.node_is ∙ ap (λ (m : NodeState). table.after m (table.Hear said)) h.copy_is in
-    let follow : nat_lt i n ≡ true = ap brings_part got ∙ h.follow in
-    let fed : h.fed ≡ table.after node (table.Fed fits) = h.fed_is ∙ ap (λ (m : NodeState). table.after m (table.Fed fits)) node_is in
-    let told : h.told ≡ table.said (table.heard node (table.Fed fits)) = h.told_is ∙ ap (λ (m : NodeState). table.said (table.heard m (table.Fed fits))) node_is in
+    let part : IsPart (table.heard old.node (table.Hear said)) = is_part (table.heard old.node (table.Hear said)) (h.brings).follows in
+    let same : Taking part.session part.generation part.version part.position part.count ≡ Taking s g v i n =
+    sym (phase_for old.node said (answer.GotPart part.session part.generation part.version part.position part.count) part.is) ∙ ap (λ (m : NodeState). m.phase) (sym (h.brings).becomes) ∙ h.at in
+    let got : answer.GotPart s g v i n ≡ table.heard old.node (table.Hear said) = sym (got_as part.session part.generation part.version part.position part.count same) ∙ sym part.is in
+    let follow : nat_lt i n ≡ true = sym (follows_as part.session part.generation part.version part.position part.count same) ∙ part.follows in
+    let fed : h.fed ≡ table.after node (table.Fed fits) = h.fed_is ∙ ap (λ (m : NodeState). table.after m (table.Fed fits)) (h.brings).becomes in
+    let told : h.told ≡ table.said (table.heard node (table.Fed fits)) = h.told_is ∙ ap (λ (m : NodeState). table.said (table.heard m (table.Fed fits))) (h.brings).becomes in
     let reacts : reaction ≡ of_said (table.said (table.heard node (table.Fed fits))) = h.reaction_is ∙ ap of_said told in
     let becomes : new ≡ turned_to (record old { reading = Some bytes }) (table.after node (table.Fed fits)) =
     h.new_is ∙ ap (λ (d : DaemonState). turned_to d h.fed) h.read_is ∙ ap (turned_to (record old { reading = Some bytes })) fed in
@@ -113,6 +137,12 @@ reads_so manifest limit old new said s g v i n fits reaction h =
     subst (λ (r : Reaction). TakesPart manifest limit old bytes node g i n r new) (sym reacts)
     (subst (λ (d : DaemonState). TakesPart manifest limit old bytes node g i n (of_said (table.said (table.heard node (table.Fed fits)))) d) (sym becomes) takes) in
     subst (λ (a : Answer). ReactsBy manifest limit (bytes_of said) old node a reaction new) got as_told
+  where
+    got_as : (session generation version position count : ℕ) → Taking session generation version position count ≡ Taking s g v i n → answer.GotPart session generation version position count ≡ answer.GotPart s g v i n
+    got_as session generation version position count e = cc
+
+    follows_as : (session generation version position count : ℕ) → Taking session generation version position count ≡ Taking s g v i n → nat_lt position count ≡ nat_lt i n
+    follows_as session generation version position count e = cc
 
 -- ---- the last part
 

@@ -17,10 +17,13 @@ use Rattle.takeover_core.specs.declared.heard.Heard.TheVariants as answer
 use Rattle.takeover_core.specs.declared.message.Message.{Message}
 use Rattle.takeover_core.specs.declared.message.Message.TheVariants as message
 use Rattle.takeover_core.specs.declared.node.DrainFault.{DrainFault}
+use Rattle.takeover_core.specs.declared.phase.Phase.TheVariants.{Handed}
 use Rattle.daemon.specs.Daemon.{DaemonState, with_node, turned_to, read_in, in_hand, unposted}
 use Rattle.daemon.specs.Server.{ServerState}
-use Rattle.daemon.specs.Saying.{TurnState, what_is_said}
+use Rattle.daemon.specs.Saying.{TurnState, turned, what_is_said}
 use Rattle.daemon.specs.Serving.{beginning}
+use Rattle.daemon.specs.declared.turn.Effect.{Effect}
+use Rattle.daemon.specs.declared.turn.Effect.TheVariants as effect
 use Rattle.daemon.specs.declared.turn.Reaction.{Reaction}
 use Rattle.daemon.specs.declared.turn.Reaction.TheVariants.{Ignores, Heeds, Says}
 
@@ -35,17 +38,6 @@ HasData (Some server) generation version bytes = IsHandedOver server.served gene
 abbrev pub HasNoData : Option ServerState → ℕ → ℕ → Type 0
 HasNoData None generation version = Unit {0}
 HasNoData (Some server) generation version = CannotBeHandedOver server.served generation version
-
--- what a daemon serves is handed over in one message; from then on the daemon serves only if it claims
-pub record HandsOver (old : DaemonState) (node : NodeState) (generation version : ℕ) (reaction : Reaction)
-    (new : DaemonState) : Type 0 where
-  pub bytes : List ℕ
-  pub said : Message
-  pub whole : table.goes_whole version ≡ true
-  pub has : HasData old.server generation version bytes
-  pub says : table.said (table.heard node (table.DataMade bytes)) ≡ Some said
-  pub reacts : reaction ≡ Says said []
-  pub becomes : new ≡ turned_to old (table.after node (table.DataMade bytes))
 
 -- parts as messages of a session at a generation: the first has this position, each next one the next position, and all
 -- tell how many parts there are
@@ -67,16 +59,23 @@ pub record GoesInParts (node : NodeState) (session generation : ℕ) (text : Lis
   pub node_is : turn.node ≡ table.after node table.PartsMade
   pub holds_nothing : turn.held ≡ None
 
--- what a daemon serves is handed over in parts, all of them at once
-pub record HandsOverInParts (old : DaemonState) (node : NodeState) (session generation version : ℕ)
-    (reaction : Reaction) (new : DaemonState) : Type 0 where
+-- a text is sent whole, in one message, or else in its numbered parts
+abbrev pub IsSentBy : (is_whole : Bool) → (session generation : ℕ) → List ℕ → List Message → Type 0
+IsSentBy true session generation text said = said ≡ message.Data session generation text ∷ []
+IsSentBy false session generation text said =
+    (parts : List (List ℕ)) × AreParts text parts × (said ≡ in_parts session generation parts)
+
+-- a text is sent in a session at a generation, as its version goes
+abbrev pub IsSent : (version session generation : ℕ) → List ℕ → List Message → Type 0
+IsSent version session generation text said = IsSentBy (table.goes_whole version) session generation text said
+
+-- what a daemon serves is handed over, all of it at once; from then on the daemon serves only if it claims
+pub record HandsOver (old : DaemonState) (node : NodeState) (session generation version : ℕ) (reaction : Reaction)
+    (new : DaemonState) : Type 0 where
   pub bytes : List ℕ
-  pub parts : List (List ℕ)
-  pub cut : table.goes_in_parts version ≡ true
   pub has : HasData old.server generation version bytes
-  pub are : AreParts bytes parts
-  pub says : what_is_said reaction ≡ in_parts session generation parts
-  pub becomes : new ≡ turned_to old (table.after node table.PartsMade)
+  pub said : IsSent version session generation bytes (what_is_said reaction)
+  pub becomes : new ≡ turned_to old (record node { phase = Handed generation session })
 
 -- a daemon that has no data to hand over says so, and serves on
 pub record ServesOn (old : DaemonState) (node : NodeState) (generation version : ℕ) (reaction : Reaction)
@@ -182,9 +181,7 @@ TurnsBy old node other reaction new = ⊥
 -- what a daemon makes of any answer of the table
 abbrev pub ReactsBy : Manifest → ℕ → List ℕ → DaemonState → NodeState → Answer → Reaction → DaemonState → Type 0
 ReactsBy manifest limit bytes old node (answer.MakeData session generation version) reaction new =
-    HandsOver old node generation version reaction new
-    ⊎ (HandsOverInParts old node session generation version reaction new
-    ⊎ ServesOn old node generation version reaction new)
+    HandsOver old node session generation version reaction new ⊎ ServesOn old node generation version reaction new
 ReactsBy manifest limit bytes old node (answer.GotData session generation version) reaction new =
     TakesData manifest limit old bytes node generation reaction new
 ReactsBy manifest limit bytes old node (answer.GotPart session generation version position count) reaction new =
@@ -213,6 +210,21 @@ abbrev pub HearsSo : Manifest → ℕ → DaemonState → Message → Reaction �
 HearsSo manifest limit old said reaction new =
     ReactsBy manifest limit (bytes_of said) old (table.after old.node (table.Hear said))
     (table.heard old.node (table.Hear said)) reaction new
+
+-- a message brings a daemon a part that other parts follow, and this is the daemon's part in takeovers from then on
+pub record BringsPart (old : DaemonState) (said : Message) (node : NodeState) : Type 0 where
+  pub follows : brings_part (table.heard old.node (table.Hear said)) ≡ true
+  pub becomes : node ≡ table.after old.node (table.Hear said)
+
+-- what a message comes to: a turn, by which the daemon does what the table answers, or a part that it is to read
+abbrev pub ComesTo : Manifest → ℕ → DaemonState → Message → Effect → Type 0
+ComesTo manifest limit old said (effect.Turn turn) = HearsSo manifest limit old said turn.reaction (turned old turn)
+ComesTo manifest limit old said (effect.Part node) = BringsPart old said node
+
+-- the messages that are said where a message comes to this; before a part is read none is said
+abbrev pub said_by : Effect → List Message
+said_by (effect.Turn turn) = what_is_said turn.reaction
+said_by (effect.Part node) = []
 
 -- a daemon gives its takeover up, and does what the table answers
 abbrev pub GivesUpSo : DaemonState → Reaction → DaemonState → Type 0

@@ -8,15 +8,15 @@ ghost use Rattle.daemon.specs.Daemon.{new_daemon, turned_to, is_waiting, in_hand
 ghost use Rattle.daemon.specs.Saying.{turned, what_is_said};
 ghost use Rattle.daemon.specs.Beginning.{DaemonBegins, NobodyBegins};
 ghost use Rattle.daemon.specs.Serving.{beginning, DaemonTakes, DaemonWorks, DaemonPosts};
-ghost use Rattle.daemon.specs.Talking.{MountsSo, EndsSo, HearsSo, GivesUpSo, DrainsSo, ClaimsSo, brings_data, brings_part, makes_parts, read_before, at_generation};
+ghost use Rattle.daemon.specs.Talking.{MountsSo, EndsSo, BringsPart, ComesTo, HearsSo, GivesUpSo, DrainsSo, ClaimsSo, brings_data, makes_parts, said_by, read_before, at_generation};
 
-use crate::handing::make_data;
+use crate::handing::{Handover, make_data};
 use crate::happened::{Begun, Happened, Refusal};
 use crate::lease::Lease;
 use crate::messages::Messages;
 use crate::server::Server;
-use crate::taking::{bytes_of, feed, read_first, take_data, take_last};
-use crate::turn::{Reaction, Turn};
+use crate::taking::{Restorer, bytes_of, feed, read_first};
+use crate::turn::{Effect, Reaction, Turn};
 use broker_core::Broker;
 use eden_base::{ClaimFault, DaemonId, NoMemory};
 use fuse_wire::Request;
@@ -108,9 +108,9 @@ impl Daemon {
         self.reading.as_ref()
     }
 
-    /// Lends what the daemon serves, with its share of the manifest, if its hand is empty and every reply is posted.
-    /// Else returns none. The daemon serves nothing until `take_back` returns the lease to it, in this phase or
-    /// another.
+    /// Lends what the daemon serves, with its share of the manifest, to a round of workers: they serve it without the
+    /// daemon. Returns none if the daemon has a request in hand, or a reply that isn't posted. It serves nothing until
+    /// `take_back` returns the lease to it, in this phase or another.
     pub fn lend(&mut self) -> Option<Lease>
         ensures lent { option_map lent_server result ≡ lendable self.old.server }
         ensures becomes { self.new ≡ with_lent self.old }
@@ -201,73 +201,60 @@ impl Daemon {
         drop(self.reading.take());
     }
 
-    /// Returns whether `message` brings this daemon a part that other parts follow. `hear_part` hears such a message.
-    pub fn is_fed_by(&self, message: &Message) -> bool
-        ensures part { result ≡ brings_part (heard self.now.node (Hear message.now)) }
-    {
-        match self.node.copy().hear(message) {
-            Heard::GotPart {
-                position,
-                count,
-                ..
-            } => position < count,
-            _ => false,
-        }
-    }
-
-    /// Returns the `Turn` that a message of another daemon leads to. The message is no part that others follow:
-    /// `hear_part` takes those. Data to hand over is made of what the daemon serves. Data handed to the daemon is read,
-    /// and restored over `manifest`. Before the last part the parts that came are read once more, from their bytes. So
-    /// the last part may be heard again where memory is refused.
+    /// Returns what a message of another daemon comes to. Data to hand over is made of what the daemon serves. Data
+    /// handed to the daemon is read, and restored over `manifest`. Before the last part the parts that came are read once
+    /// more, from their bytes. So the last part may be heard again where memory is refused.
     pub fn hear(
         &self,
         alloc: Global,
         manifest: &Manifest,
         limit: usize,
         message: &Message,
-    ) -> Result<Turn, NoMemory>
-        requires no_part { brings_part (heard self.now.node (Hear message.now)) ≡ false }
-        ensures hears { IfOk result (λ turn.
-            HearsSo manifest.now limit self.now message.now turn.reaction (turned self.now turn)) }
+    ) -> Result<Effect, NoMemory>
+        ensures hears { IfOk result (ComesTo manifest.now limit self.now message.now) }
         ensures at_most_one { makes_parts (heard self.now.node (Hear message.now)) ≡ false
-            → IfOk result (λ turn. length (what_is_said turn.reaction) ≤ 1) }
+            → IfOk result (λ effect. length (said_by effect) ≤ 1) }
         ensures memory { OnErr result (IsTrue (brings_data (heard self.now.node (Hear message.now)))) }
     {
+        let restorer = Restorer {
+            alloc,
+            daemon: self,
+            manifest,
+            limit,
+        };
         let mut node = self.node.copy();
         match node.hear(message) {
-            Heard::Ignored => Ok(Turn::to(node, Reaction::Ignores)),
-            Heard::Heard => Ok(Turn::to(node, Reaction::Heeds)),
-            Heard::Say(said) => Ok(Turn::to(node, Reaction::Says(said, Messages::none()))),
+            Heard::Ignored => Ok(Effect::Turn(Turn::to(node, Reaction::Ignores))),
+            Heard::Heard => Ok(Effect::Turn(Turn::to(node, Reaction::Heeds))),
+            Heard::Say(said) => Ok(Effect::Turn(Turn::to(node, Reaction::saying(Some(said))))),
             Heard::MakeData {
                 session,
                 generation,
                 version,
-            } => make_data(alloc, self, node, session, generation, version),
-            Heard::GotData { generation, .. } => {
-                take_data(
-                    alloc,
-                    self,
-                    manifest,
-                    limit,
-                    node,
+            } => {
+                let handover = Handover {
+                    session,
                     generation,
-                    bytes_of(message),
-                )
+                    version,
+                };
+                Ok(Effect::Turn(make_data(alloc, self, node, handover)?))
+            }
+            Heard::GotData { generation, .. } => {
+                let turn = restorer.take_data(node, generation, bytes_of(message))?;
+                Ok(Effect::Turn(turn))
             }
             Heard::GotPart {
                 generation,
                 position,
+                count,
                 ..
-            } => take_last(
-                alloc,
-                self,
-                manifest,
-                limit,
-                node,
-                generation,
-                position,
-                bytes_of(message),
-            ),
+            } => {
+                if position < count {
+                    return Ok(Effect::Part(node));
+                }
+                let turn = restorer.take_last(node, generation, position, bytes_of(message))?;
+                Ok(Effect::Turn(turn))
+            }
         }
     }
 
@@ -285,19 +272,24 @@ impl Daemon {
         reaction
     }
 
-    /// Hears a part that other parts follow, and returns the reaction. The first part gets a new reader, which
-    /// reads each later part in place, and keeps the bytes of each.
-    pub fn hear_part(&mut self, alloc: Global, message: &Message) -> Result<Reaction, NoMemory>
-        requires part { IsTrue (brings_part (heard self.old.node (Hear message.now))) }
+    /// Reads the part that `message` brings, and returns the reaction. `node` is what `hear` gave for this message. The
+    /// first part gets a new reader, which reads each later part in place, and keeps the bytes of each.
+    pub fn read_part(
+        &mut self,
+        alloc: Global,
+        node: Node,
+        message: &Message,
+    ) -> Result<Reaction, NoMemory>
+        requires part { BringsPart self.old message.now node }
         ensures hears { IfOk result (λ reaction. (manifest : Manifest) (limit : ℕ) →
             HearsSo manifest limit self.old message.now reaction self.new) }
         ensures at_most_one { IfOk result (λ reaction. length (what_is_said reaction) ≤ 1) }
         ensures unchanged { OnErr result (self.new ≡ self.old) }
     {
-        let mut node = self.node.copy();
-        let Heard::GotPart { position, .. } = node.hear(message) else {
+        let Phase::Taking { position, .. } = node.phase() else {
             unreachable!();
         };
+        let mut node = node;
         let fits = self.read(alloc, position, bytes_of(message))?;
         let said = node.fed(fits);
         self.turn_to(node);

@@ -4,7 +4,7 @@ ghost use Rattle.map_image.specs.Parts.{AreParts};
 ghost use Rattle.map_image.specs.Versions.{most_parts};
 ghost use Rattle.takeover_core.specs.Phases.{after, goes_in_parts, is_making_parts, PartsMade};
 ghost use Rattle.daemon.specs.Saying.{turned, what_is_said};
-ghost use Rattle.daemon.specs.Talking.{in_parts, HandsOver, HandsOverInParts, ServesOn, HasData, HasNoData, GoesInParts};
+ghost use Rattle.daemon.specs.Talking.{in_parts, HandsOver, ServesOn, HasData, HasNoData, GoesInParts};
 
 use crate::daemon::Daemon;
 use crate::messages::Messages;
@@ -16,26 +16,32 @@ use map_image::{Sending, cut, form_of};
 use std::alloc::Global;
 use takeover_core::{Message, Node, Phase};
 
-/// Returns the turn in which `daemon` hands over what it serves, written in `version`. If that cannot be written in
-/// `version`, the daemon says Failed and serves on.
+/// What an old daemon is asked to hand over: the image of a session, at the generation of the seat, in a version.
+#[derive(Clone, Copy)]
+pub(crate) struct Handover {
+    pub(crate) session: u32,
+    pub(crate) generation: u64,
+    pub(crate) version: u16,
+}
+
+/// Returns the turn in which `daemon` hands over what it serves, as `handover` asks. If that cannot be written in the
+/// version of `handover`, the daemon says Failed and serves on.
 pub(crate) fn make_data(
     alloc: Global,
     daemon: &Daemon,
     node: Node,
-    session: u32,
-    generation: u64,
-    version: u16,
+    handover: Handover,
 ) -> Result<Turn, NoMemory>
-    requires making { node.phase ≡ Phase.Making generation session version }
+    requires making { node.phase ≡ Phase.Making handover.generation handover.session handover.version }
     ensures made { IfOk result (λ turn.
-        HandsOver daemon.now node generation version turn.reaction (turned daemon.now turn)
-        ⊎ (HandsOverInParts daemon.now node session generation version turn.reaction (turned daemon.now turn)
-        ⊎ ServesOn daemon.now node generation version turn.reaction (turned daemon.now turn))) }
-    ensures at_most_one { goes_in_parts version ≡ false
+        HandsOver daemon.now node handover.session handover.generation handover.version turn.reaction
+        (turned daemon.now turn)
+        ⊎ ServesOn daemon.now node handover.generation handover.version turn.reaction (turned daemon.now turn)) }
+    ensures at_most_one { goes_in_parts handover.version ≡ false
         → IfOk result (λ turn. length (what_is_said turn.reaction) ≤ 1) }
 {
-    match data(alloc, daemon, generation, version) {
-        Ok(text) => hand(alloc, daemon, node, session, generation, version, text),
+    match data(alloc, daemon, handover.generation, handover.version) {
+        Ok(text) => hand(alloc, daemon, node, handover, text),
         Err(HandoverFault::Refused) => {
             let mut node = node;
             let said = node.data_failed();
@@ -63,25 +69,23 @@ fn data(
     }
 }
 
-/// Returns the turn in which `daemon` hands `text` over: whole or in parts, as `version` has it.
+/// Returns the turn in which `daemon` hands `text` over: whole or in parts, as the version of `handover` has it.
 fn hand(
     alloc: Global,
     daemon: &Daemon,
     node: Node,
-    session: u32,
-    generation: u64,
-    version: u16,
+    handover: Handover,
     text: Vec<u8>,
 ) -> Result<Turn, NoMemory>
-    requires making { node.phase ≡ Phase.Making generation session version }
-    requires data { HasData daemon.now.server generation version text.items }
+    requires making { node.phase ≡ Phase.Making handover.generation handover.session handover.version }
+    requires data { HasData daemon.now.server handover.generation handover.version text.items }
     ensures handed { IfOk result (λ turn.
-        HandsOver daemon.now node generation version turn.reaction (turned daemon.now turn)
-        ⊎ HandsOverInParts daemon.now node session generation version turn.reaction (turned daemon.now turn)) }
-    ensures at_most_one { goes_in_parts version ≡ false
+        HandsOver daemon.now node handover.session handover.generation handover.version turn.reaction
+        (turned daemon.now turn)) }
+    ensures at_most_one { goes_in_parts handover.version ≡ false
         → IfOk result (λ turn. length (what_is_said turn.reaction) ≤ 1) }
 {
-    let Some(form) = form_of(version) else {
+    let Some(form) = form_of(handover.version) else {
         unreachable!();
     };
     match form.sending {
@@ -90,7 +94,7 @@ fn hand(
             let said = node.data_made(Bytes::of(text));
             Ok(Turn::to(node, Reaction::Says(said, Messages::none())))
         }
-        Sending::Parts => hand_parts(alloc, node, session, generation, text),
+        Sending::Parts => hand_parts(alloc, node, handover.session, handover.generation, text),
     }
 }
 
@@ -107,8 +111,7 @@ fn hand_parts(
     requires few { (parts : List (List ℕ)) → AreParts text.items parts → length parts ≤ most_parts }
     ensures handed { IfOk result (GoesInParts node session generation text.items) }
 {
-    let parts = cut(alloc, text.as_slice())?;
-    drop(text);
+    let parts = cut(alloc, text)?;
     let (first, others) = messages_of(alloc, session, generation, parts)?;
     let mut node = node;
     node.parts_made();

@@ -20,4 +20,4 @@ pub use messages::Messages;
 pub use position::index_of;
 pub use server::{Server, opening};
 pub use task::Task;
-pub use turn::{Reaction, Turn};
+pub use turn::{Effect, Reaction, Turn};

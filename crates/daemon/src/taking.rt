@@ -82,90 +82,92 @@ fn read_last(
     }
 }
 
-/// Restores the image in `bytes`, and holds the result. Where the image cannot be restored, the daemon is gone.
-pub(crate) fn take_data(
-    alloc: Global,
-    daemon: &Daemon,
-    manifest: &Manifest,
-    limit: usize,
-    node: Node,
-    generation: u64,
-    bytes: &[u8],
-) -> Result<Turn, NoMemory>
-    requires raising { IsTrue (is_raising node.phase) }
-    ensures taken { IfOk result (λ turn.
-        TakesData manifest.now limit daemon.now bytes.now node generation turn.reaction (turned daemon.now turn)) }
-    ensures at_most_one { IfOk result (λ turn. length (what_is_said turn.reaction) ≤ 1) }
-{
-    let shared = manifest.share()?;
-    match take_over(alloc, bytes, manifest, limit, generation) {
-        Ok(served) => Ok(hold(node, Server::new(alloc, generation, shared, served))),
-        Err(HandoverFault::Refused) => {
-            drop(shared);
-            Ok(lose(daemon, node))
-        }
-        Err(HandoverFault::NoMemory) => {
-            drop(shared);
-            Err(NoMemory)
-        }
-    }
+/// A daemon that takes over, and what it restores an image with: the manifest that it serves, and the greatest count of
+/// files that it keeps loaded.
+#[derive(Drop)]
+pub(crate) struct Restorer<'a> {
+    pub(crate) alloc: Global,
+    pub(crate) daemon: &'a Daemon,
+    pub(crate) manifest: &'a Manifest,
+    pub(crate) limit: usize,
 }
 
-/// Reads `bytes`, the last part, after the parts before. Then restores the image that was read, and holds the result.
-/// Where the image cannot be restored, the daemon is gone.
-pub(crate) fn take_last(
-    alloc: Global,
-    daemon: &Daemon,
-    manifest: &Manifest,
-    limit: usize,
-    node: Node,
-    generation: u64,
-    position: u32,
-    bytes: &[u8],
-) -> Result<Turn, NoMemory>
-    requires taking { IsTrue (is_taking node.phase) }
-    requires raising { IsTrue (is_raising (phase_after node (Fed true))) }
-    ensures taken { (count : ℕ) → nat_lt position count ≡ false → IfOk result (λ turn.
-        TakesPart manifest.now limit daemon.now (read_before position daemon.now ++ bytes.now) node generation position
-        count turn.reaction (turned daemon.now turn)) }
-    ensures at_most_one { IfOk result (λ turn. length (what_is_said turn.reaction) ≤ 1) }
-{
-    let (reader, fits) = read_last(alloc, daemon, position, bytes)?;
-    let mut node = node;
-    match node.fed(fits) {
-        None => take_read(alloc, daemon, manifest, limit, node, generation, reader),
-        Some(said) => {
-            drop(reader);
-            Ok(Turn::to(node, Reaction::Says(said, Messages::none())))
+impl<'a> Restorer<'a> {
+    /// Restores the image in `bytes`, and holds the result. Where the image cannot be restored, the daemon is gone.
+    pub(crate) fn take_data(
+        &self,
+        node: Node,
+        generation: u64,
+        bytes: &[u8],
+    ) -> Result<Turn, NoMemory>
+        requires raising { IsTrue (is_raising node.phase) }
+        ensures taken { IfOk result (λ turn.
+            TakesData self.now.manifest.now self.now.limit self.now.daemon.now bytes.now node generation turn.reaction
+            (turned self.now.daemon.now turn)) }
+        ensures at_most_one { IfOk result (λ turn. length (what_is_said turn.reaction) ≤ 1) }
+    {
+        let shared = self.manifest.share()?;
+        match take_over(self.alloc, bytes, self.manifest, self.limit, generation) {
+            Ok(served) => Ok(hold(node, Server::new(self.alloc, generation, shared, served))),
+            Err(HandoverFault::Refused) => {
+                drop(shared);
+                Ok(lose(self.daemon, node))
+            }
+            Err(HandoverFault::NoMemory) => {
+                drop(shared);
+                Err(NoMemory)
+            }
         }
     }
-}
 
-/// Restores the image that `reader` read, and holds the result. Where the image cannot be restored, the daemon is gone.
-fn take_read(
-    alloc: Global,
-    daemon: &Daemon,
-    manifest: &Manifest,
-    limit: usize,
-    node: Node,
-    generation: u64,
-    reader: ImageReader,
-) -> Result<Turn, NoMemory>
-    requires raising { IsTrue (is_raising node.phase) }
-    ensures taken { IfOk result (λ turn.
-        TakesData manifest.now limit daemon.now reader node generation turn.reaction (turned daemon.now turn)) }
-    ensures at_most_one { IfOk result (λ turn. length (what_is_said turn.reaction) ≤ 1) }
-{
-    let shared = manifest.share()?;
-    match take_over_read(alloc, reader, manifest, limit, generation) {
-        Ok(served) => Ok(hold(node, Server::new(alloc, generation, shared, served))),
-        Err(HandoverFault::Refused) => {
-            drop(shared);
-            Ok(lose(daemon, node))
+    /// Reads `bytes`, the last part, after the parts before. Then restores the image that was read, and holds the
+    /// result. Where the image cannot be restored, the daemon is gone.
+    pub(crate) fn take_last(
+        &self,
+        node: Node,
+        generation: u64,
+        position: u32,
+        bytes: &[u8],
+    ) -> Result<Turn, NoMemory>
+        requires taking { IsTrue (is_taking node.phase) }
+        requires raising { IsTrue (is_raising (phase_after node (Fed true))) }
+        ensures taken { (count : ℕ) → nat_lt position count ≡ false → IfOk result (λ turn.
+            TakesPart self.now.manifest.now self.now.limit self.now.daemon.now
+            (read_before position self.now.daemon.now ++ bytes.now) node generation position count turn.reaction
+            (turned self.now.daemon.now turn)) }
+        ensures at_most_one { IfOk result (λ turn. length (what_is_said turn.reaction) ≤ 1) }
+    {
+        let (reader, fits) = read_last(self.alloc, self.daemon, position, bytes)?;
+        let mut node = node;
+        match node.fed(fits) {
+            None => self.take_read(node, generation, reader),
+            Some(said) => {
+                drop(reader);
+                Ok(Turn::to(node, Reaction::Says(said, Messages::none())))
+            }
         }
-        Err(HandoverFault::NoMemory) => {
-            drop(shared);
-            Err(NoMemory)
+    }
+
+    /// Restores the image that `reader` read, and holds the result. Where the image cannot be restored, the daemon is
+    /// gone.
+    fn take_read(&self, node: Node, generation: u64, reader: ImageReader) -> Result<Turn, NoMemory>
+        requires raising { IsTrue (is_raising node.phase) }
+        ensures taken { IfOk result (λ turn.
+            TakesData self.now.manifest.now self.now.limit self.now.daemon.now reader node generation turn.reaction
+            (turned self.now.daemon.now turn)) }
+        ensures at_most_one { IfOk result (λ turn. length (what_is_said turn.reaction) ≤ 1) }
+    {
+        let shared = self.manifest.share()?;
+        match take_over_read(self.alloc, reader, self.manifest, self.limit, generation) {
+            Ok(served) => Ok(hold(node, Server::new(self.alloc, generation, shared, served))),
+            Err(HandoverFault::Refused) => {
+                drop(shared);
+                Ok(lose(self.daemon, node))
+            }
+            Err(HandoverFault::NoMemory) => {
+                drop(shared);
+                Err(NoMemory)
+            }
         }
     }
 }

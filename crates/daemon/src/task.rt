@@ -16,12 +16,12 @@ use std::marker::Model;
 /// what is in hand at once are items. Contracts see an `Ask`, which is a forget of that item.
 #[derive(Drop)]
 pub struct Task {
-    kind: Kind,
+    kind: TaskKind,
 }
 
-/// What kind of task it is.
+/// The kind of a task: an ask, or an item of a forget.
 #[derive(Drop)]
-enum Kind {
+enum TaskKind {
     Ask(Box<Ask>),
     Item(Item),
 }
@@ -41,7 +41,7 @@ impl Task {
         ensures ask { result ≡ ask.value }
     {
         Task {
-            kind: Kind::Ask(ask),
+            kind: TaskKind::Ask(ask),
         }
     }
 
@@ -50,7 +50,7 @@ impl Task {
         ensures item { result ≡ single item }
     {
         Task {
-            kind: Kind::Item(item),
+            kind: TaskKind::Item(item),
         }
     }
 
@@ -59,8 +59,8 @@ impl Task {
         ensures unique { result ≡ self.now.unique }
     {
         match &self.kind {
-            Kind::Ask(ask) => ask.unique,
-            Kind::Item(_) => 0,
+            TaskKind::Ask(ask) => ask.unique,
+            TaskKind::Item(_) => 0,
         }
     }
 
@@ -69,8 +69,8 @@ impl Task {
         ensures item { result ≡ item_of self.now.what }
     {
         match &self.kind {
-            Kind::Ask(ask) => ask.what.item(),
-            Kind::Item(item) => Some(*item),
+            TaskKind::Ask(ask) => ask.what.item(),
+            TaskKind::Item(item) => Some(*item),
         }
     }
 
@@ -88,8 +88,8 @@ impl Task {
         ensures same_manifest { served.new.tree.manifest ≡ served.old.tree.manifest }
     {
         match &self.kind {
-            Kind::Ask(ask) => apply(served, alloc, manifest, fails, &ask.what),
-            Kind::Item(item) => {
+            TaskKind::Ask(ask) => apply(served, alloc, manifest, fails, &ask.what),
+            TaskKind::Item(item) => {
                 let forget = Request::Forget(*item);
                 apply(served, alloc, manifest, fails, &forget)
             }
@@ -99,8 +99,8 @@ impl Task {
     /// Returns the memory that an ask had, for another ask.
     pub(crate) fn into_room(self) -> Option<Box<Ask>> {
         match self.kind {
-            Kind::Ask(ask) => Some(ask),
-            Kind::Item(_) => None,
+            TaskKind::Ask(ask) => Some(ask),
+            TaskKind::Item(_) => None,
         }
     }
 }

@@ -1,4 +1,4 @@
-//! What a daemon says to a message, and what it becomes by the message.
+//! What a message comes to: what a daemon says to it, and what the daemon becomes by it.
 ghost use Rattle.std.specs.Prelude.{◌≡◌, ◌≤◌, Some, None, length};
 ghost use Rattle.daemon.specs.Saying.{of_said, what_is_said};
 
@@ -29,6 +29,16 @@ impl Reaction {
             None => Reaction::Heeds,
         }
     }
+}
+
+/// What a message comes to.
+#[derive(Drop)]
+pub enum Effect {
+    /// The daemon turns, by `Daemon::turn`.
+    Turn(Turn),
+    /// The message brings a part that other parts follow. The daemon reads it, by `Daemon::read_part`, which takes this
+    /// node.
+    Part(Node),
 }
 
 /// What a daemon becomes by a message, and what it says. Clauses see it as a `TurnState`.

@@ -10,7 +10,7 @@ use Rattle.takeover_core.specs.declared.heard.Heard.{Heard as Answer}
 use Rattle.takeover_core.specs.declared.heard.Heard.TheVariants as answer
 use Rattle.takeover_core.specs.declared.message.Message.{Message}
 use Rattle.takeover_core.specs.declared.phase.Phase.{Phase}
-use Rattle.takeover_core.specs.declared.phase.Phase.TheVariants.{Taking, Reading, Raising}
+use Rattle.takeover_core.specs.declared.phase.Phase.TheVariants.{Taking, Reading, Raising, Handed}
 use Rattle.daemon.specs.Daemon.{DaemonState, turned_to}
 use Rattle.daemon.specs.Server.{ServerState, IsIdle}
 use Rattle.daemon.specs.Talking.{HearsSo, ReactsBy, ReadsBy, TakesData, TurnsBy, GivesUpSo, brings_data, bytes_of, read_before}
@@ -147,12 +147,9 @@ part_serves is_lent manifest limit read old new node s g v i n reaction false fo
 
 heard_serves : (is_lent : Bool) (manifest : Manifest) (limit : ℕ) (bytes : List ℕ) (old new : DaemonState) (said : Message) (a : Answer) (reaction : Reaction) → table.heard old.node (table.Hear said) ≡ a → ReactsBy manifest limit bytes old (table.after old.node (table.Hear said)) a reaction new → Serves is_lent old new
 heard_serves is_lent manifest limit bytes old new said (answer.MakeData s g v) reaction is (inl h) =
-    let node : NodeState = table.after (table.after old.node (table.Hear said)) (table.DataMade h.bytes) in
-    still is_lent old new node (kept old (turned_to old node) new h.becomes refl) (λ later. knew_making old.node.versions old.node.sessions old.node.phase said s g v is) (seat_behind old.node said (table.DataMade h.bytes) (λ h. refl))
-heard_serves is_lent manifest limit bytes old new said (answer.MakeData s g v) reaction is (inr (inl h)) =
-    let node : NodeState = table.after (table.after old.node (table.Hear said)) table.PartsMade in
-    still is_lent old new node (kept old (turned_to old node) new h.becomes refl) (λ later. knew_making old.node.versions old.node.sessions old.node.phase said s g v is) (seat_behind old.node said table.PartsMade (λ h. refl))
-heard_serves is_lent manifest limit bytes old new said (answer.MakeData s g v) reaction is (inr (inr h)) =
+    let node : NodeState = record (table.after old.node (table.Hear said)) { phase = Handed g s } in
+    still is_lent old new node (kept old (turned_to old node) new h.becomes refl) (λ later. knew_making old.node.versions old.node.sessions old.node.phase said s g v is) (λ at seat. seat_heard old.node said at (ap seat_of (phase_for old.node said (answer.MakeData s g v) is) ∙ seat))
+heard_serves is_lent manifest limit bytes old new said (answer.MakeData s g v) reaction is (inr h) =
     let node : NodeState = table.after (table.after old.node (table.Hear said)) table.DataFailed in
     still is_lent old new node (kept old (turned_to old node) new h.becomes refl) (λ later. knew_making old.node.versions old.node.sessions old.node.phase said s g v is) (seat_behind old.node said table.DataFailed (λ h. refl))
 heard_serves is_lent manifest limit bytes old new said (answer.GotData s g v) reaction is h =

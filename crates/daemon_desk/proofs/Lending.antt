@@ -7,7 +7,7 @@ use Rattle.takeover_core.specs.Phases.{may_take}
 use Rattle.takeover_core.specs.declared.phase.Phase.{Phase}
 use Rattle.fuse_wire.specs.declared.request.Ask.{Ask}
 use Rattle.fuse_wire.specs.declared.reply.Reply.{Reply}
-use Rattle.daemon.specs.Daemon.{DaemonState, lendable, lendable_with, lent_server}
+use Rattle.daemon.specs.Daemon.{DaemonState, lendable, lendable_with, lent_from, lent_server, with_lent}
 use Rattle.daemon.specs.declared.lease.Lease.{Lease}
 use Rattle.daemon.specs.Server.{ServerState, IsIdle}
 use Rattle.daemon_desk.specs.Desk.{DeskState, is_generation, is_lent_at, lendable_at, taking_at}
@@ -38,6 +38,22 @@ some_lent (Some generation) (Some server) (Some lease) at there is = refl
 pub lends_it : (is_lent : Bool) (daemon : DaemonState) (lease : Option Lease) → IsOrderly is_lent daemon → may_take daemon.node.phase ≡ true → is_lent ≡ false → option_map lent_server lease ≡ lendable_at (taking_at daemon.node.phase) daemon.server → IsSome lease
 lends_it is_lent daemon lease orderly may own is =
     some_lent (taking_at daemon.node.phase) daemon.server lease (taking daemon.node.phase may) (orderly.known (may_take_knows daemon.node.phase may) own) is
+
+-- who serves at some generation may take
+serves_may : (phase : Phase) (taking : Option ℕ) → taking ≡ taking_at phase → is_none taking ≡ false → may_take phase ≡ true
+serves_may phase None is serves = absurd (let no : ⊥ = cc in no)
+serves_may phase (Some g) is serves = taking_may phase g (sym is)
+
+-- what is left of a daemon whose server was lent
+pub lent_orderly : (phase : Phase) (daemon new : DaemonState) (taking : Option ℕ) (lease : Lease) → daemon.node.phase ≡ phase → taking ≡ taking_at phase → is_none taking ≡ false → Some (lent_server lease) ≡ lendable daemon.server → new ≡ with_lent daemon → IsOrderly true new
+lent_orderly phase daemon new taking lease same at serves is becomes =
+    let left : IsOrderly true (lent_from daemon (Some (lent_server lease))) = record {
+      lent = λ t. record { may_take = ap may_take same ∙ serves_may phase taking at serves; serves_nothing = refl };
+      idle = tt;
+      known = λ knew own. absurd (let no : ⊥ = cc in no);
+      at = λ g e. tt;
+    } in
+    subst (IsOrderly true) (ap (lent_from daemon) is ∙ sym becomes) left
 
 -- ---- the generation
 

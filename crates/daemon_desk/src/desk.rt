@@ -3,17 +3,17 @@ ghost use Rattle.std.specs.Option.{option_map, IfSome};
 ghost use Rattle.std.specs.Prelude.{◌≡◌, ◌≢◌, ◌≤◌, ◌⊎◌, ◌↔◌, Some, None, true, false, length, is_some, IsSome, IsTrue, OnOk, OnErr};
 ghost use Rattle.fuse_ops.specs.Served.{new_served};
 ghost use Rattle.takeover_core.specs.Histories.{seat_of};
-ghost use Rattle.takeover_core.specs.Phases.{heard, may_take, claim_wanted, Hear};
+ghost use Rattle.takeover_core.specs.Phases.{may_take, claim_wanted};
 ghost use Rattle.takeover_core.specs.declared.phase.Phase.TheVariants.{Serving};
 ghost use Rattle.frames.specs.declared.frame.Frame.TheVariants.{Takeover};
 ghost use Rattle.daemon.specs.Daemon.{is_waiting, lent_server};
 ghost use Rattle.daemon.specs.Saying.{what_is_said};
-ghost use Rattle.daemon.specs.Talking.{brings_part};
+ghost use Rattle.daemon.specs.Talking.{BringsPart};
 ghost use Rattle.daemon_desk.specs.Desk.{BringsAnother, new_desk, taking_at, is_draining, is_lent_at, lendable, lent, mounted_at, claimed_at, returned, ready_in, ready_of, claim_of, claim_answer, Hears, HearsMessage, LacksMemory, IsTold, IsSaid, MountsAt, Mounts, Drains, DrainsNow, GivesUp, ClaimsBy, Claims};
 
 use crate::answers::{Claiming, Hearing, Mounting};
 use crate::frame_list::FrameList;
-use daemon::{Daemon, Lease, Reaction, Server, opening};
+use daemon::{Daemon, Effect, Lease, Reaction, Server, opening};
 use eden_base::{ClaimFault, NoMemory};
 use frames::Frame;
 use fuse_ops::Served;
@@ -21,7 +21,7 @@ use manifest::Manifest;
 use map_codec::names_another;
 use std::alloc::Global;
 use std::marker::Model;
-use takeover_core::{Message, Phase, Versions};
+use takeover_core::{Message, Node, Phase, Versions};
 
 /// What a daemon serves once it mounts: a served state, with its share of the manifest.
 #[derive(Drop)]
@@ -187,26 +187,28 @@ impl DaemonDesk {
         ensures hears { HearsMessage self.old message.now result self.new
             ⊎ LacksMemory self.old message.now result self.new }
     {
-        if self.daemon.is_fed_by(message) {
-            return self.hear_part(message);
-        }
-        let Ok(turn) = self
+        let Ok(effect) = self
             .daemon
             .hear(self.alloc, &self.manifest, self.limit, message)
         else {
             return Hearing::NoMemory;
         };
-        let reaction = self.daemon.turn(turn);
-        hearing_of(reaction)
+        match effect {
+            Effect::Turn(turn) => {
+                let reaction = self.daemon.turn(turn);
+                hearing_of(reaction)
+            }
+            Effect::Part(node) => self.read_part(node, message),
+        }
     }
 
-    /// Hears a part that other parts follow.
-    fn hear_part(&mut self, message: &Message) -> Hearing
-        requires part { IsTrue (brings_part (heard self.old.daemon.node (Hear message.now))) }
+    /// Reads the part that `message` brings. `node` is the daemon's part in takeovers since it heard of that.
+    fn read_part(&mut self, node: Node, message: &Message) -> Hearing
+        requires part { BringsPart self.old.daemon message.now node }
         ensures hears { HearsMessage self.old message.now result self.new
             ⊎ LacksMemory self.old message.now result self.new }
     {
-        if let Ok(reaction) = self.daemon.hear_part(self.alloc, message) {
+        if let Ok(reaction) = self.daemon.read_part(self.alloc, node, message) {
             return hearing_of(reaction);
         }
         Hearing::NoMemory

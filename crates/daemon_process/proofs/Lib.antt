@@ -1,4 +1,4 @@
-mod FramesTold
+mod FramesSent
 mod LinesPrinted
 mod NextRound
 mod RoundEnds

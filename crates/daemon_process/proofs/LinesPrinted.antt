@@ -1,18 +1,15 @@
 -- What a daemon printed, round after round and at its end.
-use Rattle.std.proofs.Common.{◌≡◌, ℕ, Bool, true, false, List, [], ◌∷◌, ◌++◌, Option, Result, Ok, inl, inr, refl, sym, ap, subst, ◌∙◌}
+use Rattle.std.proofs.Common.{◌≡◌, ℕ, Bool, true, false, List, [], ◌∷◌, ◌++◌, Option, inl, inr, refl, sym, ap, subst, ◌∙◌}
 use Rattle.std.specs.Prelude.{map}
 use Rattle.std.specs.Io.KnownBytes.{Appends}
 use Rattle.std.specs.List.{concat}
 use Rattle.std.proofs.KnownBytes.{Appends-nil, Appends-trans}
 use Rattle.std.proofs.lemmas.List.{append-nil, map-append}
 use Rattle.std.proofs.lemmas.List.Folds.{concat-append}
-use Rattle.daemon_process.specs.Ending.{IsHeeded, PrintsEnding, PrintsLast, PrintsServing, RunsDaemon}
+use Rattle.daemon_process.specs.Ending.{MayEnd, PrintsServing}
 use Rattle.daemon_process.specs.Serving.{PrintsRound, Spell, begins, printed_of, serving_line}
-use Rattle.daemon_process.specs.declared.exit.Exit.{Exit}
-use Rattle.daemon_process.specs.declared.exit.Exit.TheVariants.{Ended, Faulty, HandedOver}
-use Rattle.daemon_process.specs.declared.exit.Ending.{Ending}
-use Rattle.daemon_process.specs.declared.exit.Ending.TheVariants.{Closed, Exits}
-use Rattle.daemon_process.specs.declared.fault.DaemonFault.{DaemonFault}
+use Rattle.daemon_process.specs.declared.exit.DaemonEnd.{DaemonEnd}
+use Rattle.daemon_process.specs.declared.exit.DaemonEnd.TheVariants.{Closed, Exits}
 
 pub serving-none : (known : Option (List ℕ)) → PrintsServing known known
 serving-none known = ([], Appends-nil known)
@@ -40,20 +37,9 @@ pub serving-round : (was round now : Spell) (old mid new : Option (List ℕ)) �
 serving-round was round now old mid new served (inl unmanned) = serving-same old mid new served unmanned.nothing
 serving-round was round now old mid new served (inr manned) = serving-line (begins was round) round.0 old mid new served manned.line
 
-well : (until_closed : Bool) (told : Result (Unit {0}) DaemonFault) (old mid new : Option (List ℕ)) → told ≡ Ok tt → PrintsServing old mid → PrintsLast until_closed mid new → RunsDaemon until_closed told old new
-well until_closed told old mid new is prints last = subst (λ (t : Result (Unit {0}) DaemonFault). RunsDaemon until_closed t old new) (sym is) (mid, prints, last)
-
--- the line by which it ends was printed, or its fault is told
-pub runs-told : (until_closed : Bool) (ending : Ending) (told : Result (Unit {0}) DaemonFault) (old mid new : Option (List ℕ)) → IsHeeded until_closed ending → PrintsServing old mid → PrintsEnding ending told mid new → RunsDaemon until_closed told old new
-runs-told until_closed (Exits HandedOver) told old mid new heeds prints (is, line) = well until_closed told old mid new is prints (inl line)
-runs-told until_closed (Exits Ended) told old mid new heeds prints (is, line) = well until_closed told old mid new is prints (inr (inl line))
-runs-told until_closed (Exits (Faulty which)) told old mid new heeds prints (is, none) =
-    subst (λ (t : Result (Unit {0}) DaemonFault). RunsDaemon until_closed t old new) (sym is) (serving-same old mid new prints none)
-runs-told until_closed Closed told old mid new heeds prints (is, line) = well until_closed told old mid new is prints (inr (inr (heeds, line)))
-
 -- ---- what ended the daemon
 
--- the end of standard input is heeded where it ends the daemon only as its orders say
-pub heeded : (until_closed : Bool) (ending : Ending) → (ending ≡ Closed → until_closed ≡ true) → IsHeeded until_closed ending
-heeded until_closed Closed closes = closes refl
-heeded until_closed (Exits exit) closes = tt
+-- a daemon may end so, where it closes only if it was to run until its standard input ends
+pub may_end : (until_closed : Bool) (ending : DaemonEnd) → (ending ≡ Closed → until_closed ≡ true) → MayEnd until_closed ending
+may_end until_closed Closed closes = closes refl
+may_end until_closed (Exits exit) closes = tt

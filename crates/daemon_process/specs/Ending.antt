@@ -9,8 +9,8 @@ use Rattle.daemon_desk.specs.declared.answers.Claiming.TheVariants as claiming
 use Rattle.daemon_process.specs.Serving.{serving_line}
 use Rattle.daemon_process.specs.declared.exit.Exit.{Exit}
 use Rattle.daemon_process.specs.declared.exit.Exit.TheVariants.{Ended, Faulty, HandedOver}
-use Rattle.daemon_process.specs.declared.exit.Ending.{Ending}
-use Rattle.daemon_process.specs.declared.exit.Ending.TheVariants.{Closed, Exits}
+use Rattle.daemon_process.specs.declared.exit.DaemonEnd.{DaemonEnd}
+use Rattle.daemon_process.specs.declared.exit.DaemonEnd.TheVariants.{Closed, Exits}
 use Rattle.daemon_process.specs.declared.fault.DaemonFault.{DaemonFault}
 use Rattle.daemon_process.specs.declared.fault.DaemonFault.TheVariants.{Broken}
 
@@ -34,27 +34,27 @@ abbrev pub exit_of_broken : Bool → Exit
 exit_of_broken true = Ended
 exit_of_broken false = Faulty Broken
 
--- how a daemon ends that did not get to serve, by whether the end of standard input came before, and is heeded
-abbrev pub ending_before : Bool → Exit → Ending
+-- how a daemon ends that did not get to serve, by whether standard input ended before, and ends the daemon
+abbrev pub ending_before : Bool → Exit → DaemonEnd
 ending_before is_closed exit = if is_closed then Closed else Exits exit
 
 -- standard input ends a daemon only if it was to run until then
-abbrev pub IsHeeded : Bool → Ending → Type 0
-IsHeeded until_closed (Exits exit) = ⊤
-IsHeeded until_closed Closed = until_closed ≡ true
+abbrev pub MayEnd : Bool → DaemonEnd → Type 0
+MayEnd until_closed (Exits exit) = ⊤
+MayEnd until_closed Closed = until_closed ≡ true
 
 -- ---- what a daemon printed
 
--- only the lines that tell of serving at these generations were appended
+-- only the lines of serving at these generations were appended
 abbrev pub PrintsServing : Option (List ℕ) → Option (List ℕ) → Type 0
 PrintsServing old new = (generations : List ℕ) × Appends old new (concat (map serving_line generations))
 
--- the line that a daemon's end appends, and what its caller is told; a fault is for the caller to print
-abbrev pub PrintsEnding : Ending → Result (Unit {0}) DaemonFault → Option (List ℕ) → Option (List ℕ) → Type 0
-PrintsEnding (Exits HandedOver) told old new = (told ≡ Ok tt) × Appends old new (codes "handed over\n")
-PrintsEnding (Exits Ended) told old new = (told ≡ Ok tt) × Appends old new (codes "ended\n")
-PrintsEnding (Exits (Faulty fault)) told old new = (told ≡ Err fault) × Appends old new []
-PrintsEnding Closed told old new = (told ≡ Ok tt) × Appends old new (codes "closed\n")
+-- the line that a daemon's end appends, and what its caller gets; a fault is for the caller to print
+abbrev pub PrintsEnding : DaemonEnd → Result (Unit {0}) DaemonFault → Option (List ℕ) → Option (List ℕ) → Type 0
+PrintsEnding (Exits HandedOver) result old new = (result ≡ Ok tt) × Appends old new (codes "handed over\n")
+PrintsEnding (Exits Ended) result old new = (result ≡ Ok tt) × Appends old new (codes "ended\n")
+PrintsEnding (Exits (Faulty fault)) result old new = (result ≡ Err fault) × Appends old new []
+PrintsEnding Closed result old new = (result ≡ Ok tt) × Appends old new (codes "closed\n")
 
 -- one of the last lines of a daemon was appended: `closed` only if it was to run until its standard input ends
 abbrev pub PrintsLast : Bool → Option (List ℕ) → Option (List ℕ) → Type 0

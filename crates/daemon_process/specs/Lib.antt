@@ -6,4 +6,4 @@ pub mod Rounds
 pub mod Serving
 pub mod Silence
 pub mod Takeovers
-pub mod Telling
+pub mod SentFrames

@@ -7,7 +7,7 @@ use Rattle.takeover_core.specs.declared.message.Message.TheVariants.{Offer as Of
 use Rattle.daemon_process.specs.declared.peer_queue.Admission.{Admission}
 use Rattle.daemon_process.specs.declared.peer_queue.Admission.TheVariants.{Enters, Replaces, Waits}
 use Rattle.daemon_process.specs.declared.peer_queue.SilentPeer.{SilentPeer}
-use Rattle.daemon_process.specs.declared.peer_queue.Offer.{Offer}
+use Rattle.daemon_process.specs.declared.peer_queue.OfferingPeer.{OfferingPeer}
 
 -- whether a frame is a daemon's offer
 abbrev pub is_offer : Frame → Bool
@@ -51,15 +51,15 @@ left_at peers (Some place) = remove peers place
 left_at peers None = peers
 
 -- those that offered, where one more offered by this frame: it is the last one; without memory it is dropped
-abbrev pub OffersMore : Frame → List Offer → List Offer → Type 0
-OffersMore frame old new = (offer : Offer) × (offer.frame ≡ frame) × (new ≡ old ++ offer ∷ [])
+abbrev pub OffersMore : Frame → List OfferingPeer → List OfferingPeer → Type 0
+OffersMore frame old new = (offer : OfferingPeer) × (offer.frame ≡ frame) × (new ≡ old ++ offer ∷ [])
 
 -- those that offered, where a connection offered that may be gone
-abbrev pub Offers : Option ℕ → Frame → List Offer → List Offer → Type 0
+abbrev pub Offers : Option ℕ → Frame → List OfferingPeer → List OfferingPeer → Type 0
 Offers (Some place) frame old new = OffersMore frame old new ⊎ (new ≡ old)
 Offers None frame old new = new ≡ old
 
 -- the connection that offered first is taken, if there is one
-abbrev pub TakesFirst : Option Offer → List Offer → List Offer → Type 0
+abbrev pub TakesFirst : Option OfferingPeer → List OfferingPeer → List OfferingPeer → Type 0
 TakesFirst (Some offer) old new = old ≡ offer ∷ new
 TakesFirst None old new = (old ≡ []) × (new ≡ [])

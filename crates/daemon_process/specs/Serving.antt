@@ -9,8 +9,8 @@ use Rattle.daemon_desk.specs.Desk.{DeskState, is_draining, lendable}
 use Rattle.takeover_core.specs.declared.phase.Phase.{Phase}
 use Rattle.takeover_core.specs.declared.phase.Phase.TheVariants as phases
 use Rattle.daemon_process.specs.declared.exit.Exit.{Exit}
-use Rattle.daemon_process.specs.declared.shared.Next.{Next}
-use Rattle.daemon_process.specs.declared.shared.Next.TheVariants as next
+use Rattle.daemon_process.specs.declared.shared.NextStep.{NextStep}
+use Rattle.daemon_process.specs.declared.shared.NextStep.TheVariants as next
 
 -- ---- what comes next
 
@@ -19,13 +19,13 @@ abbrev pub IsServing : Phase → Type 0
 IsServing phase = (generation : ℕ) × (phase ≡ phases.Serving generation)
 
 -- the lease of the round that comes next, if a round comes next
-abbrev pub served_next : Option Next → Option Lease
-served_next (Some (next.Serve lease stop stops)) = Some lease
+abbrev pub served_next : Option NextStep → Option Lease
+served_next (Some (next.Serve lease stop)) = Some lease
 served_next other = None
 
 -- how often rounds were asked to stop before the round that comes next, if a round comes next
-abbrev pub stops_next : Option Next → Option ℕ
-stops_next (Some (next.Serve lease stop stops)) = Some stops
+abbrev pub stops_next : Option NextStep → Option ℕ
+stops_next (Some (next.Serve lease stop)) = Some stop.stops
 stops_next other = None
 
 -- how often rounds were asked to stop, after one more request if a round may run; the greatest count is followed by 0
@@ -35,14 +35,14 @@ stops_behind false stops = stops
 
 -- A round over what may be lent comes next, or nothing does if nothing may be lent. A pause comes next if memory for the
 -- round's stop was refused.
-abbrev pub IsRound : Option ServerState → Option Next → Type 0
+abbrev pub IsRound : Option ServerState → Option NextStep → Type 0
 IsRound server (Some next.Pause) = Unit {0}
-IsRound (Some server) (Some (next.Serve lease stop stops)) = lent_server lease ≡ server
+IsRound (Some server) (Some (next.Serve lease stop)) = lent_server lease ≡ server
 IsRound None None = Unit {0}
 IsRound server other = ⊥
 
 -- nothing comes next while the daemon drains, else what `IsRound` says
-abbrev pub ComesWhile : Bool → Option ServerState → Option Next → Type 0
+abbrev pub ComesWhile : Bool → Option ServerState → Option NextStep → Type 0
 ComesWhile true server what = what ≡ None
 ComesWhile false server what = IsRound server what
 
@@ -53,14 +53,14 @@ ends_in is_closed phase = false
 
 -- the end comes next if standard input ends the daemon now; else nothing while the daemon drains, else what `IsRound`
 -- says of what may be lent
-abbrev pub ComesOn : Bool → DeskState → Option Next → Type 0
-ComesOn true desk what = what ≡ Some next.Close
-ComesOn false desk what = ComesWhile (is_draining desk.daemon.node.phase) (lendable desk) what
+abbrev pub ComesOn : Bool → DeskState → Option NextStep → Type 0
+ComesOn true state what = what ≡ Some next.Close
+ComesOn false state what = ComesWhile (is_draining state.daemon.node.phase) (lendable state) what
 
--- the exit comes next if it is noted; else what `ComesOn` says, by whether standard input ended and that is heeded
-abbrev pub ComesNext : Option Exit → Bool → DeskState → Option Next → Type 0
-ComesNext (Some exit) is_closed desk what = what ≡ Some (next.Exit exit)
-ComesNext None is_closed desk what = ComesOn (ends_in is_closed desk.daemon.node.phase) desk what
+-- the exit comes next if it is noted; else what `ComesOn` says, by whether standard input ended and ends the daemon
+abbrev pub ComesNext : Option Exit → Bool → DeskState → Option NextStep → Type 0
+ComesNext (Some exit) is_closed state what = what ≡ Some (next.Exit exit)
+ComesNext None is_closed state what = ComesOn (ends_in is_closed state.daemon.node.phase) state what
 
 -- ---- what is printed
 

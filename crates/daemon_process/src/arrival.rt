@@ -1,14 +1,13 @@
 //! A daemon's connections to the broker.
+use crate::context::DaemonContext;
 use crate::exit::Exit;
 use crate::fault::DaemonFault;
-use crate::orders::Orders;
+use crate::options::DaemonOptions;
 use crate::patient::Patient;
-use crate::shared::Shared;
-use crate::silence::Silences;
 use crate::watched::Watched;
 use eden_base::DaemonId;
 use links::{Frame, SocketChannel};
-use sockets::{Connection, Deadline, Timed, Writer, connect};
+use sockets::{Connection, Deadline, Timed, TimeoutWriter, connect};
 use std::alloc::Global;
 use std::io::{self, BufReader, ErrorKind};
 use std::net::Net;
@@ -52,22 +51,111 @@ const DESCRIPTORS_OF_A_WORKER: usize = 4;
 /// How many descriptors takeovers take.
 const DESCRIPTORS_OF_TAKEOVERS: usize = 8;
 
-/// Connects to the broker as a new daemon, and for each of its workers. So many descriptors are left then as the daemon
-/// opens once it has the seat: their lack would leave a mount without service.
-pub(crate) fn arrive<'a, R: Net + Clock + Wait>(
-    rt: &'a R,
-    alloc: Global,
-    shared: &Shared,
-    orders: &Orders<'_>,
-) -> Result<Arrival<'a, R>, Exit> {
-    let mut connection = reach(rt, alloc, orders.broker)?;
-    let daemon = attach(rt, shared, &mut connection, DaemonId(0))?;
-    let workers = arrive_each(rt, alloc, shared, orders, daemon)?;
-    check_descriptors(alloc, &connection, workers.len())?;
-    Ok(Arrival {
-        connection,
-        workers,
-    })
+/// A worker's channel, which asks the broker once for each take.
+type Asking<'a, R> = SocketChannel<BufReader<Watched<'a, R>>, TimeoutWriter<'a, R>>;
+
+impl<'a, R: Net + Clock + Wait> DaemonContext<'a, R> {
+    /// Connects to the broker as a new daemon, and for each of its workers. As many descriptors are left
+    /// then as the daemon opens once it has the seat: their lack would leave a mount without service.
+    pub(crate) fn arrive(&self, options: &DaemonOptions<'_>) -> Result<Arrival<'a, R>, Exit> {
+        let mut connection = self.reach_broker(options.broker)?;
+        let daemon = self.attach(&mut connection, DaemonId(0))?;
+        let workers = self.arrive_each(options, daemon)?;
+        check_descriptors(self.alloc, &connection, workers.len())?;
+        Ok(Arrival {
+            connection,
+            workers,
+        })
+    }
+
+    /// Connects to the broker for each worker.
+    fn arrive_each(
+        &self,
+        options: &DaemonOptions<'_>,
+        daemon: DaemonId,
+    ) -> Result<Vec<UnixStream>, Exit> {
+        let Ok(mut workers) = Vec::with_capacity(self.alloc, options.workers) else {
+            return Err(Exit::Faulty(DaemonFault::NoMemory));
+        };
+        for _worker in 0..options.workers {
+            let stream = self.arrive_worker(options.broker, daemon)?;
+            if workers.push(stream).is_err() {
+                return Err(Exit::Faulty(DaemonFault::NoMemory));
+            }
+        }
+        Ok(workers)
+    }
+
+    /// Connects to the broker for a worker of `daemon`, and returns the connection.
+    fn arrive_worker(&self, broker: &str, daemon: DaemonId) -> Result<UnixStream, Exit> {
+        let mut connection = self.reach_broker(broker)?;
+        let _same = self.attach(&mut connection, daemon)?;
+        match connection.handle() {
+            Ok(stream) => Ok(stream),
+            Err(_refused) => Err(Exit::Faulty(DaemonFault::Broken)),
+        }
+    }
+
+    /// Connects to the broker at `path`.
+    fn reach_broker(&self, path: &str) -> Result<Connection<'a, R>, Exit> {
+        let stream = match connect(self.rt, path) {
+            Ok(stream) => stream,
+            Err(error) => return Err(Exit::Faulty(DaemonFault::NoBroker(error))),
+        };
+        match Connection::over(self.alloc, self.rt, stream, Some(broker_patience())) {
+            Ok(connection) => Ok(connection),
+            Err(error) if error.kind() == ErrorKind::OutOfMemory => {
+                Err(Exit::Faulty(DaemonFault::NoMemory))
+            }
+            Err(error) => Err(Exit::Faulty(DaemonFault::NoBroker(error))),
+        }
+    }
+
+    /// Attaches as `daemon`, or as a new daemon if that has the number 0. Returns the daemon that attached.
+    fn attach(
+        &self,
+        connection: &mut Connection<'_, R>,
+        daemon: DaemonId,
+    ) -> Result<DaemonId, Exit> {
+        self.shared.wait_at(self.rt, connection.handle().ok())?;
+        match connection.ask(&Frame::Attach(daemon), answer_by(self.rt)) {
+            Some(Frame::Attached(daemon)) => Ok(daemon),
+            Some(Frame::Ended) => Err(Exit::Ended),
+            Some(Frame::Takeover(Message::Busy)) => Err(Exit::Faulty(DaemonFault::Full)),
+            _ => Err(Exit::Faulty(DaemonFault::Broken)),
+        }
+    }
+}
+
+impl<'a, R: Clock + Wait> DaemonContext<'a, R> {
+    /// Makes a channel at `generation` for each worker's connection, patient until `stop` is asked. No frame that was
+    /// sent on these connections may still lack its answer.
+    pub(crate) fn channels(
+        &self,
+        workers: &[UnixStream],
+        generation: u64,
+        stop: &Arc<Stop>,
+    ) -> io::Result<Vec<Worker<'a, R>>> {
+        let mut channels = Vec::with_capacity(self.alloc, workers.len())?;
+        for worker in workers {
+            let channel = self.channel(worker, generation)?;
+            channels.push(Patient::new(channel, Arc::try_clone(stop)?))?;
+        }
+        Ok(channels)
+    }
+
+    /// Returns a channel at a generation over a worker's connection. It waits for the broker for as long as that
+    /// stands.
+    fn channel(&self, worker: &UnixStream, generation: u64) -> io::Result<Asking<'a, R>> {
+        let writer = TimeoutWriter::over(self.rt, worker.try_clone()?, None)?;
+        let timed = Timed::over(self.rt, worker.try_clone()?);
+        let watched = Watched::over(self.rt, timed, self.shared.silences());
+        let reader = BufReader::with_capacity(self.alloc, AHEAD, watched)?;
+        match SocketChannel::new(self.alloc, reader, writer, generation) {
+            Ok(channel) => Ok(channel),
+            Err(_refused) => Err(io::Error::from(ErrorKind::OutOfMemory)),
+        }
+    }
 }
 
 /// Checks that a daemon of this many workers can open what it needs once it has the seat.
@@ -91,113 +179,4 @@ fn check_descriptors<R: Clock>(
         }
     }
     Ok(())
-}
-
-/// Connects to the broker for each worker.
-fn arrive_each<R: Net + Clock + Wait>(
-    rt: &R,
-    alloc: Global,
-    shared: &Shared,
-    orders: &Orders<'_>,
-    daemon: DaemonId,
-) -> Result<Vec<UnixStream>, Exit> {
-    let Ok(mut workers) = Vec::with_capacity(alloc, orders.workers) else {
-        return Err(Exit::Faulty(DaemonFault::NoMemory));
-    };
-    for _worker in 0..orders.workers {
-        let stream = arrive_worker(rt, alloc, shared, orders, daemon)?;
-        if workers.push(stream).is_err() {
-            return Err(Exit::Faulty(DaemonFault::NoMemory));
-        }
-    }
-    Ok(workers)
-}
-
-/// Connects to the broker for a worker, and returns the connection.
-fn arrive_worker<R: Net + Clock + Wait>(
-    rt: &R,
-    alloc: Global,
-    shared: &Shared,
-    orders: &Orders<'_>,
-    daemon: DaemonId,
-) -> Result<UnixStream, Exit> {
-    let mut connection = reach(rt, alloc, orders.broker)?;
-    let _same = attach(rt, shared, &mut connection, daemon)?;
-    match connection.handle() {
-        Ok(stream) => Ok(stream),
-        Err(_refused) => Err(Exit::Faulty(DaemonFault::Broken)),
-    }
-}
-
-/// Connects to the broker.
-fn reach<'a, R: Net + Clock>(
-    rt: &'a R,
-    alloc: Global,
-    path: &str,
-) -> Result<Connection<'a, R>, Exit> {
-    let stream = match connect(rt, path) {
-        Ok(stream) => stream,
-        Err(error) => return Err(Exit::Faulty(DaemonFault::NoBroker(error))),
-    };
-    match Connection::over(alloc, rt, stream, Some(broker_patience())) {
-        Ok(connection) => Ok(connection),
-        Err(error) if error.kind() == ErrorKind::OutOfMemory => {
-            Err(Exit::Faulty(DaemonFault::NoMemory))
-        }
-        Err(error) => Err(Exit::Faulty(DaemonFault::NoBroker(error))),
-    }
-}
-
-/// Attaches as `daemon`, or as a new daemon if that has the number 0. Returns the daemon that attached.
-fn attach<R: Clock + Wait>(
-    rt: &R,
-    shared: &Shared,
-    connection: &mut Connection<'_, R>,
-    daemon: DaemonId,
-) -> Result<DaemonId, Exit> {
-    shared.wait_at(rt, connection.handle().ok())?;
-    match connection.ask(&Frame::Attach(daemon), answer_by(rt)) {
-        Some(Frame::Attached(daemon)) => Ok(daemon),
-        Some(Frame::Ended) => Err(Exit::Ended),
-        Some(Frame::Takeover(Message::Busy)) => Err(Exit::Faulty(DaemonFault::Full)),
-        _ => Err(Exit::Faulty(DaemonFault::Broken)),
-    }
-}
-
-/// Makes a channel at `generation` for each worker's connection, patient until `stop` is asked. No frame that was sent
-/// on these connections may still lack its answer.
-pub(crate) fn channels<'a, R: Wait + Clock>(
-    rt: &'a R,
-    alloc: Global,
-    silences: &'a Silences,
-    workers: &[UnixStream],
-    generation: u64,
-    stop: &Arc<Stop>,
-) -> io::Result<Vec<Worker<'a, R>>> {
-    let mut channels = Vec::with_capacity(alloc, workers.len())?;
-    for worker in workers {
-        let channel = channel(rt, alloc, silences, worker, generation)?;
-        channels.push(Patient::new(channel, Arc::try_clone(stop)?))?;
-    }
-    Ok(channels)
-}
-
-/// A worker's channel, which asks the broker once for each take.
-type Asking<'a, R> = SocketChannel<BufReader<Watched<'a, R>>, Writer<'a, R>>;
-
-/// Returns a channel at a generation over a worker's connection. It waits for the broker for as long as that stands.
-fn channel<'a, R: Wait + Clock>(
-    rt: &'a R,
-    alloc: Global,
-    silences: &'a Silences,
-    worker: &UnixStream,
-    generation: u64,
-) -> io::Result<Asking<'a, R>> {
-    let writer = Writer::over(rt, worker.try_clone()?, None)?;
-    let timed = Timed::over(rt, worker.try_clone()?);
-    let reader = BufReader::with_capacity(alloc, AHEAD, Watched::over(rt, timed, silences))?;
-    match SocketChannel::new(alloc, reader, writer, generation) {
-        Ok(channel) => Ok(channel),
-        Err(_refused) => Err(io::Error::from(ErrorKind::OutOfMemory)),
-    }
 }

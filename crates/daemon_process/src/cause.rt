@@ -1,4 +1,4 @@
-//! Why a takeover failed, as each of its two daemons tells it on standard error.
+//! Why a takeover failed, as each of its two daemons reports it on standard error.
 ghost use Rattle.std.specs.Prelude.{◌≡◌};
 ghost use Rattle.daemon_process.specs.Causes.{awaited_in, cause_by, cause_of_claim, exit_of, failed_by, is_under_way, loss_by};
 
@@ -11,16 +11,16 @@ use std::sync::Wait;
 use takeover_core::{Message, Phase};
 use thiserror::Error;
 
-/// What a daemon awaited of the other one when a takeover failed.
+/// The message that a daemon awaited of the other one when a takeover failed.
 #[derive(Clone, Copy, Debug, PartialEq, Eq, Error)]
-pub(crate) enum Awaited {
+pub(crate) enum AwaitedMessage {
     #[error("Choice")]
     Choice,
     #[error("Ready")]
     Ready,
     #[error("Data")]
     Data,
-    /// The part at this position, of so many.
+    /// The part at this position, of this count.
     #[error("Part {0} of {1}")]
     Part(u32, u32),
     #[error("Pong")]
@@ -34,15 +34,15 @@ pub(crate) enum Awaited {
 
 /// Why a takeover failed.
 #[derive(Clone, Copy, Debug, PartialEq, Eq, Error)]
-pub(crate) enum Cause {
+pub(crate) enum TakeoverFault {
     #[error("the other daemon was silent; awaited was {0}")]
-    Silent(Awaited),
+    Silent(AwaitedMessage),
     #[error("the other daemon closed the connection; awaited was {0}")]
-    Closed(Awaited),
+    Closed(AwaitedMessage),
     #[error("the other daemon can't be written to; awaited was {0}")]
-    Unsent(Awaited),
+    Unsent(AwaitedMessage),
     #[error("the other daemon said what no daemon says; awaited was {0}")]
-    Unreadable(Awaited),
+    Unreadable(AwaitedMessage),
     #[error("the other daemon gave up")]
     GivenUp,
     #[error("the daemons have no version of the image in common")]
@@ -67,77 +67,81 @@ pub(crate) enum Cause {
     Ended,
 }
 
-/// Says that a takeover failed, and why.
-pub(crate) fn tell<R: Wait>(rt: &R, notes: &Notes, cause: Cause) {
+/// Reports that a takeover failed, and why.
+pub(crate) fn report<R: Wait>(rt: &R, notes: &Notes, cause: TakeoverFault) {
     notes.say(rt, format_args!("takeover failed: {cause}"));
 }
 
 /// Returns what a daemon in this phase awaits of the other one. A new daemon awaits data once it said Pong.
-pub(crate) fn awaited_in(is_ponged: bool, phase: Phase) -> Awaited
+pub(crate) fn awaited_in(is_ponged: bool, phase: Phase) -> AwaitedMessage
     ensures awaited { result ≡ awaited_in is_ponged phase }
 {
     match phase {
-        Phase::Waiting => Awaited::Choice,
-        Phase::Chosen { .. } if is_ponged => Awaited::Data,
-        Phase::Chosen { .. } => Awaited::Ready,
+        Phase::Waiting => AwaitedMessage::Choice,
+        Phase::Chosen { .. } if is_ponged => AwaitedMessage::Data,
+        Phase::Chosen { .. } => AwaitedMessage::Ready,
         Phase::Reading {
             position,
             count,
             ..
-        } => Awaited::Part(position, count),
-        Phase::Pinged { .. } => Awaited::Pong,
-        Phase::Handed { .. } => Awaited::Claim,
-        _ => Awaited::Nothing,
+        } => AwaitedMessage::Part(position, count),
+        Phase::Pinged { .. } => AwaitedMessage::Pong,
+        Phase::Handed { .. } => AwaitedMessage::Claim,
+        _ => AwaitedMessage::Nothing,
     }
 }
 
 /// Returns the cause where no frame of the other daemon was read: by the fault, or by none where the connection was
 /// closed, by whether the time for a frame had passed, and by what was awaited.
-pub(crate) fn loss_by(fault: Option<FrameFault>, is_late: bool, awaited: Awaited) -> Cause
+pub(crate) fn loss_by(
+    fault: Option<FrameFault>,
+    is_late: bool,
+    awaited: AwaitedMessage,
+) -> TakeoverFault
     ensures loss { result ≡ loss_by fault is_late awaited }
 {
     match fault {
-        None | Some(FrameFault::Torn) => Cause::Closed(awaited),
-        Some(FrameFault::Read) if is_late => Cause::Silent(awaited),
-        Some(FrameFault::Read) => Cause::Closed(awaited),
-        Some(FrameFault::NoMemory) => Cause::NoMemory,
-        Some(_) => Cause::Unreadable(awaited),
+        None | Some(FrameFault::Torn) => TakeoverFault::Closed(awaited),
+        Some(FrameFault::Read) if is_late => TakeoverFault::Silent(awaited),
+        Some(FrameFault::Read) => TakeoverFault::Closed(awaited),
+        Some(FrameFault::NoMemory) => TakeoverFault::NoMemory,
+        Some(_) => TakeoverFault::Unreadable(awaited),
     }
 }
 
 /// Returns why a new daemon is gone by `frame` of the other one: the data came with another manifest if `is_another`.
-pub(crate) fn cause_by(is_another: bool, frame: &Frame) -> Cause
+pub(crate) fn cause_by(is_another: bool, frame: &Frame) -> TakeoverFault
     ensures cause { result ≡ cause_by is_another frame.now }
 {
     match frame {
-        Frame::Takeover(Message::NoCommon) => Cause::NoCommon,
-        Frame::Takeover(Message::Busy) => Cause::Busy,
-        Frame::Takeover(Message::Failed { .. }) => Cause::GivenUp,
-        _ if is_another => Cause::OtherManifest,
-        _ => Cause::BadImage,
+        Frame::Takeover(Message::NoCommon) => TakeoverFault::NoCommon,
+        Frame::Takeover(Message::Busy) => TakeoverFault::Busy,
+        Frame::Takeover(Message::Failed { .. }) => TakeoverFault::GivenUp,
+        _ if is_another => TakeoverFault::OtherManifest,
+        _ => TakeoverFault::BadImage,
     }
 }
 
 /// Returns why a new daemon has no seat, by the answer to its claim; none if it has the seat.
-pub(crate) fn cause_of_claim(claiming: Claiming) -> Option<Cause>
+pub(crate) fn cause_of_claim(claiming: Claiming) -> Option<TakeoverFault>
     ensures cause { result ≡ cause_of_claim claiming }
 {
     match claiming {
         Claiming::Serves(_) => None,
-        Claiming::Ended => Some(Cause::Ended),
-        Claiming::Stale => Some(Cause::StaleClaim),
-        Claiming::LastGeneration => Some(Cause::LastGeneration),
-        Claiming::Waits | Claiming::Broken => Some(Cause::NoAnswer),
+        Claiming::Ended => Some(TakeoverFault::Ended),
+        Claiming::Stale => Some(TakeoverFault::StaleClaim),
+        Claiming::LastGeneration => Some(TakeoverFault::LastGeneration),
+        Claiming::Waits | Claiming::Broken => Some(TakeoverFault::NoAnswer),
     }
 }
 
 /// Returns how a new daemon ends whose takeover failed for `cause`.
-pub(crate) fn exit_of(cause: Cause) -> Exit
+pub(crate) fn exit_of(cause: TakeoverFault) -> Exit
     ensures exit { result ≡ exit_of cause }
 {
     match cause {
-        Cause::NoCommon | Cause::Busy => Exit::Faulty(DaemonFault::OfferRefused),
-        Cause::Ended => Exit::Ended,
+        TakeoverFault::NoCommon | TakeoverFault::Busy => Exit::Faulty(DaemonFault::OfferRefused),
+        TakeoverFault::Ended => Exit::Ended,
         _ => Exit::Faulty(DaemonFault::TakeoverFailed),
     }
 }
@@ -154,14 +158,14 @@ pub(crate) fn is_under_way(phase: Phase) -> bool
 
 /// Returns why a serving daemon's takeover was over by `frame` of the other one, by the phase before it and the one
 /// behind it; none if none was over by that.
-pub(crate) fn failed_by(before: Phase, frame: &Frame, after: Phase) -> Option<Cause>
+pub(crate) fn failed_by(before: Phase, frame: &Frame, after: Phase) -> Option<TakeoverFault>
     ensures failed { result ≡ failed_by before frame.now after }
 {
     if !is_under_way(before) || is_under_way(after) {
         return None;
     }
     match frame {
-        Frame::Takeover(Message::Failed { .. }) => Some(Cause::GivenUp),
-        _ => Some(Cause::NoImage),
+        Frame::Takeover(Message::Failed { .. }) => Some(TakeoverFault::GivenUp),
+        _ => Some(TakeoverFault::NoImage),
     }
 }

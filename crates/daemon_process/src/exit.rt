@@ -12,18 +12,12 @@ pub(crate) enum Exit {
     Faulty(DaemonFault),
 }
 
-/// How a daemon ends, also by its standard input.
+/// The end of a daemon: by an exit, or by its standard input.
 #[derive(Clone, Copy)]
-pub(crate) enum Ending {
+pub(crate) enum DaemonEnd {
     Exits(Exit),
     /// Standard input ended, and the daemon was to run until then.
     Closed,
-}
-
-impl From<DaemonFault> for Exit {
-    fn from(fault: DaemonFault) -> Exit {
-        Exit::Faulty(fault)
-    }
 }
 
 impl From<NoMemory> for Exit {

@@ -1,5 +1,4 @@
 //! Why a daemon ended that neither handed over nor saw the mount end.
-use eden_base::NoMemory;
 use std::io;
 
 /// Why a daemon ended that neither handed over nor saw the mount end, with the system's error that caused it.
@@ -24,10 +23,4 @@ pub enum DaemonFault {
     NoThread,
     /// The broker closed a connection, or said what no broker says there.
     Broken,
-}
-
-impl From<NoMemory> for DaemonFault {
-    fn from(_refused: NoMemory) -> DaemonFault {
-        DaemonFault::NoMemory
-    }
 }

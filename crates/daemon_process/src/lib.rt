@@ -2,28 +2,29 @@
 #![tactic(auto)]
 
 mod arrival;
-mod beginning;
 mod cause;
-mod claiming;
-mod closing;
+mod channel_end;
+mod claim;
+mod context;
 mod exit;
 mod fault;
 mod handover;
-mod hears_end;
-mod orders;
+mod input_end;
+mod options;
 mod patient;
 mod peer_accept_loop;
 mod peer_connections;
 mod peer_queue;
 mod process;
+mod round_loop;
 mod rounds;
-mod serving;
+mod seat;
+mod sent_frames;
 mod shared;
 mod silence;
 mod takeover;
-mod telling;
 mod watched;
 
 pub use fault::DaemonFault;
-pub use orders::{Orders, Start};
-pub use process::{DaemonRun, run_daemon};
+pub use options::{DaemonOptions, DaemonStart};
+pub use process::{DaemonRun, DaemonStreams, run_daemon};

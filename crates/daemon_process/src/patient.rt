@@ -3,13 +3,13 @@ ghost use Rattle.std.specs.Prelude.{◌≡◌, true};
 ghost use Rattle.daemon_process.specs.Patience.{Looks};
 ghost use Rattle.fuse_wire.specs.declared.request.Ask.{Ask as AskValue};
 ghost use Rattle.workers.specs.Channel.{with_ask};
-ghost use Rattle.workers.specs.declared.channel.Taken.TheVariants as took;
+ghost use Rattle.workers.specs.declared.channel.NextAsk.TheVariants as took;
 
-use crate::hears_end::HearsEnd;
+use crate::channel_end::ChannelEnd;
 use broker_core::TakeFault;
 use fuse_wire::Reply;
 use std::sync::Arc;
-use workers::{Channel, Posted, Stop, Taken};
+use workers::{Channel, NextAsk, Posted, Stop};
 
 /// How often a channel is asked again before a worker's round ends.
 const LOOKS: usize = 9;
@@ -31,8 +31,8 @@ impl<C: Channel> Patient<C> {
         Patient { channel, stop }
     }
 
-    /// Heeds another round's stop from now on.
-    pub(crate) fn heed(&mut self, stop: Arc<Stop>)
+    /// Sets the stop of another round, which it looks at from now on.
+    pub(crate) fn set_stop(&mut self, stop: Arc<Stop>)
         ensures channel { self.new.channel ≡ self.old.channel }
         ensures stop { self.new.stop ≡ stop }
     {
@@ -40,19 +40,19 @@ impl<C: Channel> Patient<C> {
     }
 
     /// Takes the next ask. If there is none, looks again up to `LOOKS` times, as long as no stop is asked.
-    fn look(&mut self) -> Taken
+    fn look(&mut self) -> NextAsk
         ensures looks { Looks C.takes self.old.channel result self.new.channel }
         ensures stop { self.new.stop ≡ self.old.stop }
-        ensures taken { C.tells ≡ true → (ask : AskValue) → result ≡ took.Ask ask
-            → C.told self.new.channel ≡ with_ask (C.told self.old.channel) ask }
-        ensures empty { C.tells ≡ true → result ≡ took.Empty
-            → C.told self.new.channel ≡ C.told self.old.channel }
-        ensures stopped { C.tells ≡ true → result ≡ took.Stopped
-            → C.told self.new.channel ≡ C.told self.old.channel }
+        ensures taken { C.reports ≡ true → (ask : AskValue) → result ≡ took.Ask ask
+            → C.reported self.new.channel ≡ with_ask (C.reported self.old.channel) ask }
+        ensures empty { C.reports ≡ true → result ≡ took.Empty
+            → C.reported self.new.channel ≡ C.reported self.old.channel }
+        ensures stopped { C.reports ≡ true → result ≡ took.Stopped
+            → C.reported self.new.channel ≡ C.reported self.old.channel }
     {
         for _again in 0..LOOKS {
             match self.channel.take() {
-                Taken::Empty if !self.stop.asked() => {}
+                NextAsk::Empty if !self.stop.asked() => {}
                 taken => return taken,
             }
         }
@@ -65,11 +65,11 @@ impl<C: Channel> Channel for Patient<C> {
 
     ghost posts = { λ before reply posted after. C.posts before.channel reply posted after.channel };
 
-    ghost tells = { C.tells };
+    ghost reports = { C.reports };
 
-    ghost told = { λ patient. C.told patient.channel };
+    ghost reported = { λ patient. C.reported patient.channel };
 
-    fn take(&mut self) -> Taken {
+    fn take(&mut self) -> NextAsk {
         self.look()
     }
 
@@ -78,7 +78,7 @@ impl<C: Channel> Channel for Patient<C> {
     }
 }
 
-impl<C: HearsEnd> HearsEnd for Patient<C> {
+impl<C: ChannelEnd> ChannelEnd for Patient<C> {
     ghost why_ended = { λ patient. C.why_ended patient.channel };
 
     fn ended(&self) -> Option<TakeFault> {

@@ -2,7 +2,7 @@
 ghost use Rattle.std.specs.Prelude.{◌≡◌, ◌||◌, false, true, not, length, IsSome};
 ghost use Rattle.daemon_process.specs.PeerQueue.{TakesFirst, admission, gives_way, has_place, silent_for};
 
-use crate::peer_queue::{Admission, Offer, PeerQueue};
+use crate::peer_queue::{Admission, OfferingPeer, PeerQueue};
 use links::Frame;
 use monitor::{Condition, Look, Monitor};
 use std::alloc::Global;
@@ -19,9 +19,9 @@ const MOMENT: u64 = 200;
 /// How long a connection waits for a place where all others offered, in milliseconds.
 const PAUSE: u64 = 10;
 
-/// What the lock protects.
+/// The state of the peers' connections, which the lock protects.
 #[derive(Drop)]
-struct State {
+struct PeerConnectionsState {
     queue: PeerQueue,
     /// A handle of the connection that is served now.
     current: Option<UnixStream>,
@@ -36,7 +36,7 @@ struct State {
 /// time.
 #[derive(Drop)]
 pub(crate) struct PeerConnections {
-    state: Monitor<State>,
+    state: Monitor<PeerConnectionsState>,
     changes: Condition,
 }
 
@@ -51,7 +51,7 @@ pub(crate) enum Admitted {
     Over,
 }
 
-impl State {
+impl PeerConnectionsState {
     /// Shuts down the connection that is served now, if another one offered and no takeover is under way.
     fn send_away(&mut self)
         ensures sent { self.new.is_sent_away ≡ (self.old.is_sent_away
@@ -69,7 +69,7 @@ impl State {
     }
 
     /// Takes the connection that offered first, which has a takeover under way by that.
-    fn take(&mut self) -> Option<Offer>
+    fn take(&mut self) -> Option<OfferingPeer>
         ensures first { TakesFirst result self.old.queue.offers.items self.new.queue.offers.items }
         ensures silent { self.new.queue.silent.items ≡ self.old.queue.silent.items }
         ensures engaged { IsSome result → self.new.is_engaged ≡ true }
@@ -109,7 +109,8 @@ impl State {
         }
     }
 
-    /// Notes that the served connection has a takeover under way, unless that was sent away. Returns whether it may stay.
+    /// Notes that the served connection has a takeover under way, unless that was sent away. Returns whether it may
+    /// stay.
     fn stay(&mut self) -> bool
         ensures stays { result ≡ not self.old.is_sent_away }
         ensures engaged { self.new.is_engaged ≡ (self.old.is_engaged || not self.old.is_sent_away) }
@@ -139,7 +140,7 @@ impl PeerConnections {
     /// Makes the connections of peers. None is there yet.
     pub(crate) fn new(alloc: Global) -> PeerConnections {
         PeerConnections {
-            state: Monitor::new(State {
+            state: Monitor::new(PeerConnectionsState {
                 queue: PeerQueue::new(alloc),
                 current: None,
                 is_engaged: false,
@@ -150,8 +151,8 @@ impl PeerConnections {
         }
     }
 
-    /// Lets a connection in by a handle of it, once there is a place. Where all are taken it soon takes that of the oldest
-    /// one that said nothing yet.
+    /// Lets a connection in by a handle of it, once there is a place. Where all are taken it soon takes that of the
+    /// oldest one that said nothing yet.
     pub(crate) fn enter<R: Wait>(&self, rt: &R, stream: UnixStream) -> Admitted {
         let mut entering = Some(stream);
         let mut pause = Duration::from_micros(MOMENT);
@@ -185,7 +186,7 @@ impl PeerConnections {
 
     /// Returns the connection that offered first, which is served from then on; none where no connection is let in any
     /// more.
-    pub(crate) fn next<R: Wait>(&self, rt: &R) -> Option<Offer> {
+    pub(crate) fn next<R: Wait>(&self, rt: &R) -> Option<OfferingPeer> {
         let offer = self.state.wait_until(rt, &self.changes, |state| {
             if state.is_over {
                 return Look::Found(None);

@@ -18,9 +18,9 @@ pub(crate) struct SilentPeer {
     stream: UnixStream,
 }
 
-/// A connection that offered.
+/// A peer that offered: its connection, and its offer.
 #[derive(Drop)]
-pub(crate) struct Offer {
+pub(crate) struct OfferingPeer {
     pub(crate) stream: UnixStream,
     /// The frame by which it offered.
     pub(crate) frame: Frame,
@@ -42,7 +42,7 @@ pub(crate) struct PeerQueue {
     /// Those that said nothing yet, in the order in which they came.
     silent: Vec<SilentPeer>,
     /// Those that offered, in the order in which they did.
-    offers: VecDeque<Offer>,
+    offers: VecDeque<OfferingPeer>,
     /// The number of the next one that comes.
     next: u64,
 }
@@ -136,14 +136,14 @@ impl PeerQueue {
     {
         match self.leave(number) {
             Some(stream) => {
-                let _kept = self.offers.push_back(Offer { stream, frame });
+                let _kept = self.offers.push_back(OfferingPeer { stream, frame });
             }
             None => {}
         }
     }
 
-    /// Takes the connection that offered first.
-    pub(crate) fn take(&mut self) -> Option<Offer>
+    /// Takes the connection that offered first, which is served next.
+    pub(crate) fn take(&mut self) -> Option<OfferingPeer>
         ensures first { TakesFirst result self.old.offers.items self.new.offers.items }
         ensures silent { self.new.silent.items ≡ self.old.silent.items }
     {

@@ -1,17 +1,18 @@
 //! A daemon, from its start to its end.
 ghost use Rattle.std.specs.Prelude.{◌≡◌, ℕ, Bool, List, [], ◌∷◌, Option};
-ghost use Rattle.daemon_process.specs.Ending.{IsHeeded, PrintsEnding, PrintsServing, RunsDaemon};
+ghost use Rattle.daemon_process.specs.Ending.{MayEnd, PrintsEnding, PrintsServing, RunsDaemon};
 
 use crate::arrival::Arrival;
-use crate::beginning::{Seated, begin};
-use crate::closing::close_with_input;
-use crate::exit::{Ending, Exit};
+use crate::context::DaemonContext;
+use crate::exit::{DaemonEnd, Exit};
 use crate::fault::DaemonFault;
-use crate::handover::hand_over_all;
-use crate::orders::Orders;
-use crate::peer_accept_loop::accept_peers;
+use crate::handover::HandoverLoop;
+use crate::input_end::close_with_input;
+use crate::options::DaemonOptions;
+use crate::peer_accept_loop::PeerAcceptLoop;
 use crate::peer_connections::PeerConnections;
-use crate::serving::serve;
+use crate::round_loop::RoundLoop;
+use crate::seat::Seated;
 use crate::shared::Shared;
 use daemon_desk::DaemonDesk;
 use manifest::Manifest;
@@ -20,17 +21,26 @@ use sockets::{Closer, Connection};
 use std::alloc::Global;
 use std::io::{self, ErrorKind, Read};
 use std::net::Net;
-use std::os::unix::net::{UnixListener, UnixStream};
 use std::rt::{Clock, Files};
 use std::sync::{Arc, Wait};
 use std::thread;
 use std::thread::{Scope, Threads};
-use std::time::Duration;
 use takeover_core::Versions;
 
 /// The versions of the image that a daemon writes and reads: 1 is whole, 2 is in parts, 3 has wider counts, 4 names the
 /// manifest by a digest of its text.
 const VERSIONS: [u16; 4] = [1, 2, 3, 4];
+
+/// What a daemon reads and writes.
+#[derive(Drop)]
+pub struct DaemonStreams<I, W> {
+    /// Standard input, of which only the end counts.
+    pub input: I,
+    /// The writer of the daemon's lines.
+    pub out: W,
+    /// The notes on standard error, of what else happened.
+    pub notes: Notes,
+}
 
 /// How a daemon's run ended, with the writer of the daemon's lines.
 #[derive(Drop)]
@@ -43,13 +53,12 @@ pub struct DaemonRun<W> {
 #[derive(Drop)]
 struct Service<W> {
     out: W,
-    ending: Ending,
+    ending: DaemonEnd,
 }
 
-/// Runs a daemon over the checkout of `manifest`, and tells `out` each line as soon as it is known: a line that can't be
-/// written is dropped, and nobody waits for one. `notes` say on standard error what else happened. Returns when another
-/// daemon took over, the mount is over, or a fault ended the daemon; where `orders` say so, also when `input`, which is
-/// standard input, ends.
+/// Runs a daemon over the checkout of `manifest`, and prints each line to `streams.out` as soon as it is known: a line
+/// that can't be written is dropped, and nobody waits for one. Returns when another daemon took over, the mount is
+/// over, or a fault ended the daemon; where `options` say so, also when `streams.input` ends.
 pub fn run_daemon<
     R: Threads + Wait + Clock + Files + Net + Copy + Send + Sync + 'static,
     I: Read + Drop + Send + 'static,
@@ -57,56 +66,59 @@ pub fn run_daemon<
 >(
     rt: &R,
     alloc: Global,
-    orders: &Orders<'_>,
+    options: &DaemonOptions<'_>,
     manifest: Manifest,
-    input: I,
-    out: W,
-    notes: Notes,
+    streams: DaemonStreams<I, W>,
 ) -> DaemonRun<W>
-    ensures runs { RunsDaemon orders.now.until_closed result.ended
-        (W.contents out) (W.contents result.out) }
+    ensures runs { RunsDaemon options.now.until_closed result.ended
+        (W.contents streams.out) (W.contents result.out) }
 {
+    let DaemonStreams { input, out, notes } = streams;
     let mut out = out;
     if let Err(error) = write_behind(rt, alloc, &mut out) {
-        return end_run(out, Ending::Exits(Exit::Faulty(unmade(&error))));
+        return end_run(out, DaemonEnd::Exits(Exit::Faulty(unmade(&error))));
     }
-    let desk = DaemonDesk::new(alloc, manifest, orders.limit, versions());
-    let Ok(shared) = Arc::new(alloc, Shared::new(desk, notes)) else {
-        return end_run(out, Ending::Exits(Exit::Faulty(DaemonFault::NoMemory)));
+    let daemon = DaemonDesk::new(alloc, manifest, options.limit, versions());
+    let Ok(shared) = Arc::new(alloc, Shared::new(daemon, notes)) else {
+        return end_run(out, DaemonEnd::Exits(Exit::Faulty(DaemonFault::NoMemory)));
     };
-    if orders.until_closed {
+    if options.until_closed {
         if let Err(exit) = close_with_input(rt, &shared, input) {
-            return end_run(out, Ending::Exits(exit));
+            return end_run(out, DaemonEnd::Exits(exit));
         }
     }
-    let Service { out, ending } = serve_mount(rt, alloc, &shared, orders, out);
+    let context = DaemonContext {
+        rt,
+        alloc,
+        shared: &shared,
+    };
+    let Service { out, ending } = serve_mount(&context, options, out);
     end_run(out, ending)
 }
 
 /// Gets the seat, serves until the daemon ends, and returns how it ends.
 fn serve_mount<R: Threads + Wait + Clock + Files + Net + Sync, W: Unblock + Drop>(
-    rt: &R,
-    alloc: Global,
-    shared: &Shared,
-    orders: &Orders<'_>,
+    context: &DaemonContext<'_, R>,
+    options: &DaemonOptions<'_>,
     out: W,
 ) -> Service<W>
     ensures prints { PrintsServing (W.contents out) (W.contents result.out) }
-    ensures heeds { IsHeeded orders.now.until_closed result.ending }
+    ensures may_end { MayEnd options.now.until_closed result.ending }
 {
-    match begin(rt, alloc, shared, orders) {
-        Ok(seated) => run(rt, alloc, shared, orders, seated, out),
+    match context.begin(options) {
+        Ok(seated) => run(context, options, seated, out),
         Err(exit) => {
-            let ending = shared.ending_before(rt, exit, orders.until_closed);
+            let until_closed = options.until_closed;
+            let ending = context.shared.ending_before(context.rt, exit, until_closed);
             Service { out, ending }
         }
     }
 }
 
 /// Prints the last line of a daemon, if its ending has one, and returns how its run ended.
-fn end_run<W: Unblock + Drop>(out: W, ending: Ending) -> DaemonRun<W>
+fn end_run<W: Unblock + Drop>(out: W, ending: DaemonEnd) -> DaemonRun<W>
     ensures runs { (until_closed : Bool) (old : Option (List ℕ))
-        → IsHeeded until_closed ending → PrintsServing old (W.contents out)
+        → MayEnd until_closed ending → PrintsServing old (W.contents out)
         → RunsDaemon until_closed result.ended old (W.contents result.out) }
 {
     let mut out = out;
@@ -130,29 +142,27 @@ fn versions() -> Versions
 }
 
 /// Prints the last line of a daemon and returns `Ok`, or prints nothing and returns the fault that ended the daemon.
-fn print_ending<W: Unblock>(out: &mut W, ending: Ending) -> Result<(), DaemonFault>
+fn print_ending<W: Unblock>(out: &mut W, ending: DaemonEnd) -> Result<(), DaemonFault>
     ensures prints { PrintsEnding ending result (W.contents out.old) (W.contents out.new) }
 {
     match ending {
-        Ending::Exits(Exit::HandedOver) => out.print("handed over"),
-        Ending::Exits(Exit::Ended) => out.print("ended"),
-        Ending::Exits(Exit::Faulty(fault)) => return Err(fault),
-        Ending::Closed => out.print("closed"),
+        DaemonEnd::Exits(Exit::HandedOver) => out.print("handed over"),
+        DaemonEnd::Exits(Exit::Ended) => out.print("ended"),
+        DaemonEnd::Exits(Exit::Faulty(fault)) => return Err(fault),
+        DaemonEnd::Closed => out.print("closed"),
     }
     Ok(())
 }
 
 /// Serves the mount and takeovers in separate threads until the daemon ends, and returns how it ends.
 fn run<R: Threads + Wait + Clock + Sync, W: Unblock + Drop>(
-    rt: &R,
-    alloc: Global,
-    shared: &Shared,
-    orders: &Orders<'_>,
+    context: &DaemonContext<'_, R>,
+    options: &DaemonOptions<'_>,
     seated: Seated<'_, R>,
     out: W,
 ) -> Service<W>
     ensures prints { PrintsServing (W.contents out) (W.contents result.out) }
-    ensures heeds { IsHeeded orders.now.until_closed result.ending }
+    ensures may_end { MayEnd options.now.until_closed result.ending }
 {
     let Seated { arrival, listener } = seated;
     let Arrival {
@@ -162,83 +172,93 @@ fn run<R: Threads + Wait + Clock + Sync, W: Unblock + Drop>(
     let closer = match Closer::of(&listener) {
         Ok(closer) => closer,
         Err(error) => {
-            let ending = Ending::Exits(Exit::Faulty(DaemonFault::CannotListen(error)));
+            let ending = DaemonEnd::Exits(Exit::Faulty(DaemonFault::CannotListen(error)));
             return Service { out, ending };
         }
     };
-    let peers = PeerConnections::new(alloc);
-    let (patience, until_closed) = (orders.patience, orders.until_closed);
-    let (peers, listener, closer) = (&peers, &listener, &closer);
-    let workers = workers.as_slice();
-    thread::scope(
-        thread::scope_env(),
-        rt,
-        move |scope| -> Service<W>
-            ensures { PrintsServing (W.contents out) (W.contents result.out)
-                × IsHeeded until_closed result.ending }
-        {
-            run_within(
-                scope,
-                rt,
-                alloc,
-                shared,
-                peers,
-                listener,
-                closer,
-                connection,
-                workers,
-                patience,
-                until_closed,
-                out,
-            )
+    let peers = PeerConnections::new(context.alloc);
+    let threads = DaemonThreads {
+        accept_loop: PeerAcceptLoop {
+            context: &*context,
+            peers: &peers,
+            listener: &listener,
+            closer: &closer,
+            patience: options.patience,
         },
-    )
+        handover: HandoverLoop {
+            context: &*context,
+            peers: &peers,
+            patience: options.patience,
+        },
+        rounds: RoundLoop {
+            context: &*context,
+            streams: workers.as_slice(),
+            until_closed: options.until_closed,
+        },
+    };
+    run_threads(&threads, connection, out)
 }
 
-/// Serves the mount in this thread, and takeovers in two more: one accepts connections, one serves those that offer.
-fn run_within<'s, 'e: 's, R: Threads + Wait + Clock + Sync + 's, W: Unblock + Drop>(
-    scope: &Scope<'s, &'e ()>,
-    rt: &'e R,
-    alloc: Global,
-    shared: &'e Shared,
-    peers: &'e PeerConnections,
-    listener: &'e UnixListener,
-    closer: &Closer,
-    broker: Connection<'e, R>,
-    workers: &[UnixStream],
-    patience: Duration,
-    until_closed: bool,
+/// Runs the threads of a daemon until it ends, and returns how it ends. The seat is claimed by `broker`.
+fn run_threads<R: Threads + Wait + Clock + Sync, W: Unblock + Drop>(
+    threads: &DaemonThreads<'_, R>,
+    broker: Connection<'_, R>,
     out: W,
 ) -> Service<W>
     ensures prints { PrintsServing (W.contents out) (W.contents result.out) }
-    ensures heeds { IsHeeded until_closed result.ending }
+    ensures may_end { MayEnd threads.now.rounds.until_closed result.ending }
 {
-    let mut out = out;
-    let accepting = scope.spawn(move || accept_peers(rt, alloc, peers, listener, patience));
-    let handing = scope.spawn(move || hand_over_all(rt, alloc, shared, peers, broker, patience));
-    let are_made = accepting.is_ok() && handing.is_ok();
-    let ending = serve_if(rt, alloc, shared, workers, are_made, until_closed, &mut out);
-    shared.finish(rt);
-    peers.end(rt);
-    closer.close();
-    Service { out, ending }
+    thread::scope(
+        thread::scope_env(),
+        threads.handover.context.rt,
+        move |scope| -> Service<W>
+            ensures { PrintsServing (W.contents out) (W.contents result.out)
+                × MayEnd threads.entry.now.rounds.until_closed result.ending }
+        { threads.run(scope, broker, out) },
+    )
 }
 
-/// Serves if `are_made`: the threads that takeovers need were made. Returns how the daemon ends.
-fn serve_if<R: Threads + Wait + Clock + Sync, W: Unblock>(
-    rt: &R,
-    alloc: Global,
-    shared: &Shared,
-    workers: &[UnixStream],
-    are_made: bool,
-    until_closed: bool,
-    out: &mut W,
-) -> Ending
-    ensures prints { PrintsServing (W.contents out.old) (W.contents out.new) }
-    ensures heeds { IsHeeded until_closed result }
-{
-    if !are_made {
-        return Ending::Exits(Exit::Faulty(DaemonFault::NoThread));
+/// What the threads of a daemon with the seat do.
+#[derive(Drop)]
+struct DaemonThreads<'a, R> {
+    accept_loop: PeerAcceptLoop<'a, R>,
+    handover: HandoverLoop<'a, R>,
+    rounds: RoundLoop<'a, R>,
+}
+
+impl<R: Threads + Wait + Clock + Sync> DaemonThreads<'_, R> {
+    /// Serves the mount in this thread, and takeovers in two more: one accepts connections, one serves those that
+    /// offer.
+    fn run<'s, 'e: 's, W: Unblock + Drop>(
+        &'e self,
+        scope: &Scope<'s, &'e ()>,
+        broker: Connection<'e, R>,
+        out: W,
+    ) -> Service<W>
+    where
+        R: 's,
+        ensures prints { PrintsServing (W.contents out) (W.contents result.out) }
+        ensures may_end { MayEnd self.now.rounds.until_closed result.ending }
+    {
+        let mut out = out;
+        let (accept_loop, handover) = (&self.accept_loop, &self.handover);
+        let accepting = scope.spawn(move || accept_loop.run());
+        let handing = scope.spawn(move || handover.run(broker));
+        let are_made = accepting.is_ok() && handing.is_ok();
+        let ending = self.serve_if(are_made, &mut out);
+        handover.context.shared.finish(handover.context.rt);
+        accept_loop.end();
+        Service { out, ending }
     }
-    serve(rt, alloc, shared, workers, until_closed, out)
+
+    /// Serves if `are_made`: the threads that takeovers need were made. Returns how the daemon ends.
+    fn serve_if<W: Unblock>(&self, are_made: bool, out: &mut W) -> DaemonEnd
+        ensures prints { PrintsServing (W.contents out.old) (W.contents out.new) }
+        ensures may_end { MayEnd self.now.rounds.until_closed result }
+    {
+        if !are_made {
+            return DaemonEnd::Exits(Exit::Faulty(DaemonFault::NoThread));
+        }
+        self.rounds.serve(out)
+    }
 }

@@ -5,10 +5,10 @@ ghost use Rattle.takeover_core.specs.declared.phase.Phase.TheVariants.{Serving};
 ghost use Rattle.daemon_desk.specs.Desk.{Hears};
 ghost use Rattle.daemon_process.specs.Ending.{ending_before};
 ghost use Rattle.daemon_process.specs.Serving.{ComesNext, IsServing, ends_in, served_next, stops_behind, stops_next};
-ghost use Rattle.daemon_process.specs.declared.exit.Ending.TheVariants.{Closed};
-ghost use Rattle.daemon_process.specs.declared.shared.Next.TheVariants.{Close};
+ghost use Rattle.daemon_process.specs.declared.exit.DaemonEnd.TheVariants.{Closed};
+ghost use Rattle.daemon_process.specs.declared.shared.NextStep.TheVariants.{Close};
 
-use crate::exit::{Ending, Exit};
+use crate::exit::{DaemonEnd, Exit};
 use crate::fault::DaemonFault;
 use crate::silence::Silences;
 use daemon::Lease;
@@ -25,9 +25,9 @@ use std::sync::{Arc, Wait};
 use takeover_core::Phase;
 use workers::Stop;
 
-/// What the lock protects.
+/// The state of a daemon, which the lock protects.
 #[derive(Drop)]
-struct State {
+struct SharedState {
     desk: DaemonDesk,
     /// The stop of the round that runs or comes next, until a round is asked to stop.
     stop: Option<Arc<Stop>>,
@@ -42,11 +42,19 @@ struct State {
     waits_at: Option<UnixStream>,
 }
 
-/// What a daemon's main thread does next.
+/// The stop of a round.
 #[derive(Drop)]
-pub(crate) enum Next {
-    /// Serves a round until the round is asked to stop. The number is how often rounds were asked to stop before.
-    Serve(Lease, Arc<Stop>, u64),
+pub(crate) struct RoundStop {
+    pub(crate) stop: Arc<Stop>,
+    /// How often rounds were asked to stop before.
+    pub(crate) stops: u64,
+}
+
+/// The next step of a daemon's main thread.
+#[derive(Drop)]
+pub(crate) enum NextStep {
+    /// Serves a round until the round is asked to stop.
+    Serve(Lease, RoundStop),
     /// Waits a moment, since memory was refused.
     Pause,
     Exit(Exit),
@@ -54,20 +62,20 @@ pub(crate) enum Next {
     Close,
 }
 
-/// A daemon's desk under a lock, and the condition by which its threads hear of changes.
+/// The state of a daemon under a lock, and the condition by which its threads hear of changes.
 #[derive(Drop)]
 pub(crate) struct Shared {
-    state: Monitor<State>,
+    state: Monitor<SharedState>,
     changes: Condition,
     notes: Notes,
     silences: Silences,
 }
 
-impl State {
-    /// Returns what the main thread does next; none if it waits for a change. The end of standard input is heeded if
-    /// `until_closed`.
+impl SharedState {
+    /// Returns what the main thread does next; none if it waits for a change. The end of standard input ends the daemon
+    /// if `until_closed`.
     #[tactic(auto, using(crate::proofs::NextRound::serves_at))]
-    fn next(&mut self, alloc: Global, until_closed: bool) -> Option<Next>
+    fn next(&mut self, alloc: Global, until_closed: bool) -> Option<NextStep>
         ensures next { ComesNext self.old.exit (until_closed && self.old.is_closed) self.old.desk result }
         ensures closes { result ≡ Some Close → until_closed ≡ true }
         ensures serves { IfSome (served_next result) (λ lease.
@@ -76,19 +84,20 @@ impl State {
         ensures kept { self.new.stops ≡ self.old.stops }
     {
         if let Some(exit) = self.exit {
-            return Some(Next::Exit(exit));
+            return Some(NextStep::Exit(exit));
         }
         if until_closed && self.is_closed && self.is_free() {
-            return Some(Next::Close);
+            return Some(NextStep::Close);
         }
         if self.desk.drains() {
             return None;
         }
         let Ok(stop) = self.stop_of_round(alloc) else {
-            return Some(Next::Pause);
+            return Some(NextStep::Pause);
         };
         let lease = self.desk.lend()?;
-        Some(Next::Serve(lease, stop, self.stops))
+        let stops = self.stops;
+        Some(NextStep::Serve(lease, RoundStop { stop, stops }))
     }
 
     /// Returns whether the daemon serves and no takeover is under way.
@@ -160,11 +169,11 @@ impl State {
 }
 
 impl Shared {
-    /// Makes the shared state over `desk`, with no exit and no round. Notes are said by `notes`.
-    pub(crate) fn new(desk: DaemonDesk, notes: Notes) -> Shared {
+    /// Makes the shared state over `daemon`, with no exit and no round. Notes are said by `notes`.
+    pub(crate) fn new(daemon: DaemonDesk, notes: Notes) -> Shared {
         Shared {
-            state: Monitor::new(State {
-                desk,
+            state: Monitor::new(SharedState {
+                desk: daemon,
                 stop: None,
                 stops: 0,
                 exit: None,
@@ -236,9 +245,9 @@ impl Shared {
             .change(rt, &self.changes, |state| state.desk.take_claim(answer))
     }
 
-    /// Waits until the main thread has something to do, and returns what that is. The end of standard input is heeded if
-    /// `until_closed`.
-    pub(crate) fn next<R: Wait>(&self, rt: &R, alloc: Global, until_closed: bool) -> Next
+    /// Waits until the main thread has something to do, and returns what that is. The end of standard input ends
+    /// the daemon if `until_closed`.
+    pub(crate) fn next<R: Wait>(&self, rt: &R, alloc: Global, until_closed: bool) -> NextStep
         ensures closes { result ≡ Close → until_closed ≡ true }
     {
         self.state.wait_until(rt, &self.changes, |state| {
@@ -283,8 +292,8 @@ impl Shared {
     }
 
     /// Returns how a daemon ends that did not get to serve: by the end of standard input, if that has come and
-    /// `until_closed` says to heed it, else by `exit`.
-    pub(crate) fn ending_before<R: Wait>(&self, rt: &R, exit: Exit, until_closed: bool) -> Ending
+    /// `until_closed`, else by `exit`.
+    pub(crate) fn ending_before<R: Wait>(&self, rt: &R, exit: Exit, until_closed: bool) -> DaemonEnd
         ensures closes { result ≡ Closed → until_closed ≡ true }
     {
         ending_before(until_closed && self.state.lock(rt).is_closed, exit)
@@ -312,12 +321,12 @@ impl Shared {
 }
 
 /// Returns how a daemon ends that did not get to serve: by the end of standard input if `is_closed`, else by `exit`.
-fn ending_before(is_closed: bool, exit: Exit) -> Ending
+fn ending_before(is_closed: bool, exit: Exit) -> DaemonEnd
     ensures ending { result ≡ ending_before is_closed exit }
 {
     if is_closed {
-        Ending::Closed
+        DaemonEnd::Closed
     } else {
-        Ending::Exits(exit)
+        DaemonEnd::Exits(exit)
     }
 }

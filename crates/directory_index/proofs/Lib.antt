@@ -1,8 +1,10 @@
+pub mod Counting
+pub mod Gaps
 pub mod Indexing
 pub mod KeyLemmas
 pub mod Keyed
 pub mod Looking
 pub mod Naming
-pub mod Rooms
+pub mod PlaceChanges
 pub mod Standings
 pub mod Written

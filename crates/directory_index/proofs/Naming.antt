@@ -4,8 +4,9 @@ use Rattle.std.proofs.lemmas.Bool.{and_parts}
 use Rattle.std.specs.Prelude.{◌==◌, ◌&&◌, not, is_some}
 use Rattle.eden_base.proofs.NumberTests.{eq-true, true-eq}
 use Rattle.directory_index.specs.Keys.{key_of}
-use Rattle.directory_index.specs.Index.{IsAdded}
-use Rattle.directory_index.specs.Names.{at_key, is_at_key, is_taken, option_is, written, AreNamesOf, IsNamed}
+use Rattle.directory_index.specs.PlaceIndex.{IsAdded}
+use Rattle.key_map.specs.Cells.{is_number}
+use Rattle.directory_index.specs.Names.{at_key, is_at_key, is_taken, written, AreNamesOf, IsNamed}
 use Rattle.directory_index.specs.Standing.{inserted, is_place, nothing, removed, AreApart, Standing, StandsNowhere}
 use Rattle.directory_index.specs.declared.link.Link.{Link}
 use Rattle.directory_index.specs.declared.names.Names.{Names}
@@ -97,12 +98,12 @@ module _ (at : Standing) (old new : Names) (link : Link) (name : List ℕ) (key 
   }
 
 -- a number that is at a key
-at-key : (o : Option ℕ) (number : ℕ) → option_is number o ≡ true → o ≡ Some number
+at-key : (o : Option ℕ) (number : ℕ) → is_number number o ≡ true → o ≡ Some number
 at-key None number t = absurd (let no : ⊥ = cc in no)
 at-key (Some n) number t = ap Some (true-eq n number t)
 
-key-at : (o : Option ℕ) (number : ℕ) → o ≡ Some number → option_is number o ≡ true
-key-at o number e = ap (option_is number) e ∙ eq-true number number refl
+key-at : (o : Option ℕ) (number : ℕ) → o ≡ Some number → is_number number o ≡ true
+key-at o number e = ap (is_number number) e ∙ eq-true number number refl
 
 -- a number went
 module _ (at : Standing) (old new : Names) (dir : ℕ) (name : List ℕ) (number : ℕ) (stood : at dir name ≡ Some number) (apart : AreApart at)

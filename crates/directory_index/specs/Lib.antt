@@ -1,5 +1,10 @@
 pub mod Children
+pub mod CountedIndex
 pub mod Index
 pub mod Keys
+pub mod NameCounts
 pub mod Names
+pub mod NumberSet
+pub mod PlaceIndex
+pub mod Rising
 pub mod Standing

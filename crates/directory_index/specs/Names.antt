@@ -1,6 +1,6 @@
 -- What the maps of an index have for a place.
-use Rattle.std.specs.Prelude.{◌≡◌, ℕ, ◌⊎◌, ◌==◌, Bool, false, List, Option, Some, is_some, nat_eq}
-use Rattle.std.specs.Option.{option_and_then, option_map_or}
+use Rattle.std.specs.Prelude.{◌≡◌, ℕ, ◌⊎◌, Bool, List, Option, Some, is_some, nat_eq}
+use Rattle.std.specs.Option.{option_and_then}
 use Rattle.std.specs.Ordering.{nat_cmp}
 use Rattle.std.specs.Cmp.Lexicographic.{slice_cmp}
 use Rattle.std.specs.BTreeMap.{get_by}
@@ -9,6 +9,7 @@ use Rattle.std.specs.HashMap.{HashMap}
 use Rattle.std.specs.HashMap as hash
 use Rattle.std.specs.declared.alloc.Global.{Global}
 use Rattle.std.specs.declared.vec.Vec.{Vec}
+use Rattle.key_map.specs.Cells.{is_number}
 use Rattle.directory_index.specs.Keys.{key_of}
 use Rattle.directory_index.specs.Standing.{Standing}
 use Rattle.directory_index.specs.declared.names.Names.{Names}
@@ -22,13 +23,9 @@ Keys = FinMap nat_cmp ℕ
 abbrev pub at_key : Keys → ℕ → Option ℕ
 at_key keys key = get keys key
 
--- whether what was found is this number
-abbrev pub option_is : ℕ → Option ℕ → Bool
-option_is number found = option_map_or (λ (n : ℕ). n == number) found false
-
 -- whether the number is at the key
 abbrev pub is_at_key : Keys → ℕ → ℕ → Bool
-is_at_key keys key number = option_is number (at_key keys key)
+is_at_key keys key number = is_number number (at_key keys key)
 
 -- whether a number is at the key
 abbrev pub is_taken : Keys → ℕ → Bool

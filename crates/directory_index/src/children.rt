@@ -2,20 +2,15 @@
 ghost use Rattle.std.specs.Prelude.{◌≡◌, ℕ, ◌==◌, ◌&&◌, ◌||◌, false, is_ok, not};
 ghost use Rattle.directory_index.specs.Children.{has_children, is_child, IsFirstChild};
 
+use crate::number_set::NumberSet;
 use std::alloc::{AllocError, Global};
-use std::collections::{BTreeSet, HashMap};
-
-/// The numbers that stand in one directory.
-#[derive(Drop)]
-pub(crate) struct Numbers {
-    numbers: BTreeSet<u64>,
-}
+use std::collections::HashMap;
 
 /// The numbers that stand in each directory. Directories are numbers of this project's own giving, so a hash with a fixed
 /// seed suffices.
 #[derive(Drop)]
 pub(crate) struct Children {
-    directories: HashMap<u64, Numbers>,
+    directories: HashMap<u64, NumberSet>,
 }
 
 impl Children {
@@ -33,7 +28,7 @@ impl Children {
         ensures any { result ≡ has_children self.now dir }
     {
         match self.directories.get(&dir) {
-            Some(children) => !children.numbers.is_empty(),
+            Some(children) => !children.is_empty(),
             None => false,
         }
     }
@@ -42,8 +37,7 @@ impl Children {
     pub(crate) fn first_from(&self, dir: u64, least: u64) -> Option<u64>
         ensures first { IsFirstChild self.now dir least result }
     {
-        let children = self.directories.get(&dir)?;
-        children.numbers.range(least..).next().copied()
+        self.directories.get(&dir)?.first_from(least)
     }
 
     /// Adds `number` to the directory `dir`. If memory is refused, each directory has the numbers that it had.
@@ -51,12 +45,9 @@ impl Children {
         ensures added { (d n : ℕ) → is_child self.new d n
             ≡ (is_ok result && (d == dir && n == number) || is_child self.old d n) }
     {
-        let none = Numbers {
-            numbers: BTreeSet::new(alloc),
-        };
+        let none = NumberSet::new(alloc);
         let children = self.directories.entry(dir)?.or_insert(none);
-        children.numbers.insert(number)?;
-        Ok(())
+        children.insert(alloc, number)
     }
 
     /// Removes `number` from the directory `dir`, and removes the directory with its last number.
@@ -67,8 +58,8 @@ impl Children {
         let Some(children) = self.directories.get_mut(&dir) else {
             return;
         };
-        children.numbers.remove(&number);
-        if children.numbers.is_empty() {
+        children.remove(number);
+        if children.is_empty() {
             self.directories.remove(&dir);
         }
     }

@@ -1,30 +1,29 @@
 //! The index of places, and of directories.
 ghost use Rattle.std.specs.Prelude.{◌≡◌, ℕ, true, false, is_ok, List, None, Some, OnOk};
-ghost use Rattle.directory_index.specs.Index.{has_room, IsAdded, IsIndexOf};
-ghost use Rattle.directory_index.specs.Standing.{if_at, inserted, nothing, removed, AreKnown, IsFirstFrom, Standing, StandsIn, StandsNowhere};
+ghost use Rattle.std.specs.Option.{IfNone};
+ghost use Rattle.directory_index.specs.Index.{has_room, IsIndexOf};
+ghost use Rattle.directory_index.specs.Keys.{key_of};
+ghost use Rattle.directory_index.specs.Standing.{inserted, nothing, removed, AreKnown, IsFirstFrom, Standing, StandsIn, StandsNowhere};
 
 use crate::children::Children;
 use crate::key::key_of;
-use crate::link::{Link, is_latest, is_latest_in, latest_at, latest_from};
-use crate::names::Names;
+use crate::link::{is_latest_in, latest_from};
+use crate::place_index::PlaceIndex;
 use crate::places::Places;
 use std::alloc::{AllocError, Global};
 
-/// The number at each place, a directory and a name in it, and the numbers that stand in each directory. It stores no
-/// names: `Places` knows where a number stands. The number that was inserted last stays beside the maps until `make_room`
-/// moves it into them, so that `insert` takes no memory.
+/// The number at each place, a directory and a name in it, and the numbers that stand in each directory. The link that
+/// was inserted last stands beside both, until `make_room` moves it into them.
 pub struct DirectoryIndex {
-    names: Names,
+    places: PlaceIndex,
     children: Children,
-    latest: Option<Link>,
 }
 
 impl Drop for DirectoryIndex {
     fn drop(self) {
         let DirectoryIndex {
-            names: _,
+            places: _,
             children: _,
-            latest: _,
         } = self;
     }
 }
@@ -45,9 +44,8 @@ impl DirectoryIndex {
         ensures room { has_room result ≡ true }
     {
         DirectoryIndex {
-            names: Names::for_numbers(alloc, numbers),
+            places: PlaceIndex::for_numbers(alloc, numbers),
             children: Children::new(alloc),
-            latest: None,
         }
     }
 
@@ -56,14 +54,7 @@ impl DirectoryIndex {
         ensures number { (at : Standing) → IsIndexOf at self.now → AreKnown at (P.place places.now)
             → result ≡ at dir name.now }
     {
-        let key = key_of(dir, name);
-        if let Some(number) = standing(places, latest_at(&self.latest, key), dir, name) {
-            return Some(number);
-        }
-        if let Some(number) = standing(places, self.names.at_key(key), dir, name) {
-            return Some(number);
-        }
-        self.names.other(dir, name)
+        self.places.get(places, dir, name)
     }
 
     /// Returns whether a number stands in the directory `dir`.
@@ -73,7 +64,7 @@ impl DirectoryIndex {
         ensures none { (at : Standing) → IsIndexOf at self.now → result ≡ false
             → (name : List ℕ) → at dir name ≡ None }
     {
-        is_latest_in(&self.latest, dir) || self.children.has_any(dir)
+        is_latest_in(&self.places.latest, dir) || self.children.has_any(dir)
     }
 
     /// Returns the first number from `least` on that stands in the directory `dir`, or none. So a directory is listed by
@@ -81,7 +72,7 @@ impl DirectoryIndex {
     pub fn first_from(&self, dir: u64, least: u64) -> Option<u64>
         ensures first { (at : Standing) → IsIndexOf at self.now → IsFirstFrom at dir least result }
     {
-        let latest = latest_from(&self.latest, dir, least);
+        let latest = latest_from(&self.places.latest, dir, least);
         match (self.children.first_from(dir, least), latest) {
             (Some(child), Some(number)) => Some(child.min(number)),
             (Some(child), None) => Some(child),
@@ -98,16 +89,15 @@ impl DirectoryIndex {
         ensures room { OnOk result (has_room self.new ≡ true) }
         ensures unneeded { has_room self.old ≡ true → is_ok result ≡ true }
     {
-        let Some(link) = &self.latest else {
+        let Some(link) = &self.places.latest else {
             return Ok(());
         };
-        let (dir, key, number) = (link.dir, link.key, link.number);
+        let (dir, number) = (link.dir, link.number);
         self.children.add(alloc, dir, number)?;
-        let Ok(()) = name(&mut self.names, alloc, places, link) else {
+        let Ok(()) = self.places.make_room(alloc, places) else {
             self.children.remove(dir, number);
             return Err(AllocError);
         };
-        self.latest = None;
         Ok(())
     }
 
@@ -117,11 +107,7 @@ impl DirectoryIndex {
         ensures inserted { (at : Standing) → IsIndexOf at self.old → at dir name.now ≡ None
             → StandsNowhere at number → IsIndexOf (inserted at dir name.now number) self.new }
     {
-        self.latest = Some(Link {
-            dir,
-            key: key_of(dir, name),
-            number,
-        });
+        self.places.insert(dir, name, number);
     }
 
     /// Removes `number`, which stands under `name` in the directory `dir`. Takes no memory, and leaves the room as it is.
@@ -130,12 +116,25 @@ impl DirectoryIndex {
             → IsIndexOf (removed at dir name.now) self.new }
         ensures room { has_room self.old ≡ true → has_room self.new ≡ true }
     {
-        if is_latest(&self.latest, number) {
-            self.latest = None;
-            return;
-        }
-        self.names.remove(key_of(dir, name), dir, name, number);
-        self.children.remove(dir, number);
+        self.remove_at(key_of(dir, name), dir, name, number);
+    }
+
+    /// Removes the number under `name` in the directory `dir`, and returns it, or none if there is none. `places` knows each
+    /// number of the index. Takes no memory, and leaves the room as it is.
+    pub fn take<P: Places>(&mut self, places: &P, dir: u64, name: &[u8]) -> Option<u64>
+        ensures number { (at : Standing) → IsIndexOf at self.old → AreKnown at (P.place places.now)
+            → result ≡ at dir name.now }
+        ensures removed { (at : Standing) → IsIndexOf at self.old → AreKnown at (P.place places.now)
+            → IsIndexOf (removed at dir name.now) self.new }
+        ensures unchanged { IfNone result (self.new ≡ self.old) }
+        ensures room { has_room self.old ≡ true → has_room self.new ≡ true }
+    {
+        let key = key_of(dir, name);
+        let Some(number) = self.places.find(places, key, dir, name) else {
+            return None;
+        };
+        self.remove_at(key, dir, name, number);
+        Some(number)
     }
 
     /// Gives back the room that no directory takes. What the index is of stays.
@@ -145,35 +144,16 @@ impl DirectoryIndex {
     {
         self.children.trim();
     }
-}
 
-/// Returns `number`, if there is one and it stands under `name` in the directory `dir`.
-fn standing<P: Places>(places: &P, number: Option<u64>, dir: u64, name: &[u8]) -> Option<u64>
-    ensures standing { result ≡ if_at (P.place places.now) dir name.now number }
-{
-    let number = number?;
-    if places.stands(number, dir, name) {
-        return Some(number);
+    /// Removes `number`, which stands under `name` in the directory `dir`. `key` is the key of this place.
+    fn remove_at(&mut self, key: u64, dir: u64, name: &[u8], number: u64)
+        requires key { key ≡ key_of dir name.now }
+        ensures removed { (at : Standing) → IsIndexOf at self.old → at dir name.now ≡ Some number
+            → IsIndexOf (removed at dir name.now) self.new }
+        ensures room { has_room self.old ≡ true → has_room self.new ≡ true }
+    {
+        if self.places.remove(key, dir, name, number) {
+            self.children.remove(dir, number);
+        }
     }
-    None
-}
-
-/// Puts the number of `link` at its key, or under its name if the key is taken. If memory is refused, nothing changes.
-fn name<P: Places>(
-    names: &mut Names,
-    alloc: Global,
-    places: &P,
-    link: &Link,
-) -> Result<(), AllocError>
-    requires stands { (name : List ℕ) × (P.place places.now link.now.number ≡ Some (link.now.dir, name)) }
-    ensures named { (name : List ℕ) → P.place places.now link.now.number ≡ Some (link.now.dir, name)
-        → IsAdded names.old names.new (is_ok result) link.now name }
-{
-    if names.at_key(link.key).is_none() {
-        return names.add_at_key(alloc, link.key, link.number);
-    }
-    let Some(name) = places.name_of(link.number) else {
-        unreachable!()
-    };
-    names.add_other(alloc, link.dir, name, link.number)
 }

@@ -1,6 +1,6 @@
 //! The link that was inserted last.
 ghost use Rattle.std.specs.Prelude.{◌≡◌};
-ghost use Rattle.directory_index.specs.Index.{is_latest, is_latest_in, latest_at, latest_from};
+ghost use Rattle.directory_index.specs.PlaceIndex.{is_latest, is_latest_in, latest_at, latest_from};
 
 /// The link that was inserted last: its directory, the key of its place, and its number.
 #[derive(Drop)]

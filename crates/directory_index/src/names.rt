@@ -1,6 +1,6 @@
 //! The numbers of places, by the keys of the places.
 ghost use Rattle.std.specs.Prelude.{◌≡◌, ℕ, ◌==◌, ◌&&◌, List, None, Some, is_ok, not, if◌then◌else◌};
-ghost use Rattle.directory_index.specs.Names.{at_key, is_at_key, option_is, written};
+ghost use Rattle.directory_index.specs.Names.{at_key, is_at_key, written};
 ghost use Rattle.directory_index.specs.Standing.{is_place};
 
 use key_map::KeyMap;
@@ -85,21 +85,10 @@ impl Names {
             ≡ (if is_place d q dir name.now && not (is_at_key self.old.keys key number)
             then None else written self.old.others d q) }
     {
-        if is_number(self.keys.get(key), number) {
-            self.keys.remove(key);
+        if self.keys.remove(key, number) {
             return;
         }
         remove(&mut self.others, dir, name);
-    }
-}
-
-/// Returns whether `found` is `number`.
-fn is_number(found: Option<u64>, number: u64) -> bool
-    ensures { result ≡ option_is number found }
-{
-    match found {
-        Some(other) => other == number,
-        None => false,
     }
 }
 

@@ -91,20 +91,6 @@ pub Each-kept : {X : Type 0} (P Q : X → Type 0) (xs : List X) → AllByRecursi
 Each-kept P Q [] each keeps = tt
 Each-kept P Q (x ∷ xs) each keeps = (keeps x each.0, Each-kept P Q xs each.1 keeps)
 
-each_in : {X : Type 0} (p : X → Bool) (change : X → X) (P Q : X → Type 0) (x : X) (xs : List X) (b : Bool) → p x ≡ b → AllByRecursion P (x ∷ xs) →
-    ((y : X) → P y → Q y) → ((y : X) → cond b (Some x) (first_where p xs) ≡ Some y → P y → Q (change y)) →
-    (((y : X) → first_where p xs ≡ Some y → P y → Q (change y)) → AllByRecursion Q (changed_where p change xs)) →
-    AllByRecursion Q (cond b (change x ∷ xs) (x ∷ changed_where p change xs))
-each_in p change P Q x xs true e each keeps made rest = (made x refl each.0, Each-kept P Q xs each.1 keeps)
-each_in p change P Q x xs false e each keeps made rest = (keeps x each.0, rest made)
-
--- what a change makes of the members
-pub Each-changed_where : {X : Type 0} (p : X → Bool) (change : X → X) (P Q : X → Type 0) (xs : List X) → AllByRecursion P xs →
-    ((x : X) → P x → Q x) → ((x : X) → first_where p xs ≡ Some x → P x → Q (change x)) → AllByRecursion Q (changed_where p change xs)
-Each-changed_where p change P Q [] each keeps made = tt
-Each-changed_where p change P Q (x ∷ xs) each keeps made = each_in p change P Q x xs (p x) refl each keeps made
-    (λ made'. Each-changed_where p change P Q xs each.1 keeps made')
-
 without_each : {X : Type 0} (P : X → Type 0) (x : X) (xs ys : List X) (b : Bool) → P x → AllByRecursion P xs → AllByRecursion P ys → AllByRecursion P (cond b xs (x ∷ ys))
 without_each P x xs ys true here each rest = each
 without_each P x xs ys false here each rest = (here, rest)

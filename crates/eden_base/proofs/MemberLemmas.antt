@@ -86,10 +86,3 @@ length-without_where (y ∷ xs) p x h = length_in y xs p x (p y) h (length-witho
       (first_where p xs ≡ Some x → suc (length (without_where p xs)) ≡ length xs) → suc (length (cond b xs (y ∷ without_where p xs))) ≡ suc (length xs)
   length_in y xs p x true h rest = refl
   length_in y xs p x false h rest = ap suc (rest h)
-
-pub length-changed_where : {X : Type 0} (p : X → Bool) (change : X → X) (xs : List X) → length (changed_where p change xs) ≡ length xs
-length-changed_where p change [] = refl
-length-changed_where p change (x ∷ xs) = length_in x (change x) xs (changed_where p change xs) (p x) (length-changed_where p change xs) where
-  length_in : {X : Type 0} (x y : X) (xs ys : List X) (b : Bool) → length ys ≡ length xs → length (cond b (y ∷ xs) (x ∷ ys)) ≡ suc (length xs)
-  length_in x y xs ys true e = refl
-  length_in x y xs ys false e = ap suc e

@@ -75,19 +75,6 @@ impl Name {
         }
     }
 
-    /// Makes a name of `bytes` in the memory of `room`, or returns why they are no name.
-    pub fn parse_to(room: NameRoom, bytes: &[u8]) -> Result<Name, NameFault>
-        ensures name { IfOk result (λ name. name ≡ bytes.now) }
-        ensures accepted { OnOk result (IsNameText bytes.now) }
-        ensures refused { IfErr result (λ fault. name_fault bytes.now ≡ Some fault) }
-        ensures never_out_of_memory { ¬ (result ≡ Err NameFault.NoMemory) }
-    {
-        match Name::fault(bytes) {
-            None => Ok(Name::of_to(room, bytes)),
-            Some(fault) => Err(fault),
-        }
-    }
-
     /// Makes a name of `bytes`, which must be a valid name.
     pub fn of(alloc: Global, bytes: &[u8]) -> Result<Name, NoMemory>
         requires { IsNameText bytes.now }

@@ -5,8 +5,8 @@ use crate::{Name, NoMemory};
 use std::alloc::Global;
 use std::marker::Model;
 
-/// Room for any one name, which contracts see as its capacity in bytes. `Name::of_to`, `parse_to` and `copy_to` consume
-/// a room, and so never run out of memory.
+/// Room for any one name, which contracts see as its capacity in bytes. `Name::of_to` and `copy_to` consume a
+/// room, and so never run out of memory.
 #[derive(Drop)]
 pub struct NameRoom {
     pub(crate) bytes: Vec<u8>,

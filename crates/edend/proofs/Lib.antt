@@ -1,3 +1,3 @@
-pub mod ErrandLemmas
-pub mod FailedErrands
-mod NotedErrands
+pub mod CommandLemmas
+pub mod FailedCommands
+mod NotedCommands

@@ -1,13 +1,13 @@
--- The errand that the program's words name, a broker's, a daemon's or a mount's, noted in owned strings. (This project's own.)
+-- The command that the program's words name, a broker's, a daemon's or a mount's, noted in owned strings. (This project's own.)
 use Rattle.std.specs.Prelude.{◌≡◌, Some, Ok, Err, string_bytes}
 use Rattle.std.specs.Io.KnownBytes.{Keeps}
-use Rattle.command_line.specs.declared.errand.BrokerWords.{BrokerWords}
-use Rattle.command_line.specs.declared.errand.DaemonWords.{DaemonWords}
-use Rattle.command_line.specs.declared.errand.Errand.{Errand}
-use Rattle.command_line.specs.declared.errand.Errand.TheVariants as errand
-use Rattle.command_line.specs.declared.errand.MountWords.{MountWords}
-use Rattle.world_script.specs.ProgramEnd.{ErrandEnds, plain}
-use Rattle.world_script.specs.declared.fault.Fault.TheVariants.{NoMemory}
+use Rattle.command_line.specs.declared.server_command.BrokerWords.{BrokerWords}
+use Rattle.command_line.specs.declared.server_command.DaemonWords.{DaemonWords}
+use Rattle.command_line.specs.declared.server_command.ServerCommand.{ServerCommand}
+use Rattle.command_line.specs.declared.server_command.ServerCommand.TheVariants as command
+use Rattle.command_line.specs.declared.server_command.MountWords.{MountWords}
+use Rattle.world_script.specs.ProgramEnd.{CommandEnds, plain}
+use Rattle.world_script.specs.declared.program_fault.ProgramFault.TheVariants.{NoMemory}
 use Rattle.edend.specs.declared.note.Note.{Note}
 use Rattle.edend.specs.declared.note.Noted.{Noted}
 use Rattle.edend.specs.declared.note.Noted.TheVariants.{Broker, Daemon, Mount}
@@ -40,16 +40,16 @@ IsMount noted words =
     × (string_bytes noted.held ≡ words.held.now)
     × (noted.owner ≡ words.owner)
 
--- the noted errand is this one
-abbrev pub IsNoted : Noted → Errand → Type 0
-IsNoted (Broker noted) (errand.Broker words) = IsBroker noted words
-IsNoted (Daemon noted) (errand.Daemon words) = IsDaemon noted words
-IsNoted (Mount noted) (errand.Mount words) = IsMount noted words
+-- the noted command is this one
+abbrev pub IsNoted : Noted → ServerCommand → Type 0
+IsNoted (Broker noted) (command.Broker words) = IsBroker noted words
+IsNoted (Daemon noted) (command.Daemon words) = IsDaemon noted words
+IsNoted (Mount noted) (command.Mount words) = IsMount noted words
 IsNoted _ _ = ⊥
 
--- A run of an errand notes the errand, or memory for that is refused and nothing changes.
-abbrev pub Notes : Note → Note → ErrandEnds
-Notes old new errand (Ok done) before after =
-    ((noted : Noted) × (new.errand ≡ Some noted) × IsNoted noted errand) × Keeps before after
-Notes old new errand (Err failure) before after =
+-- A run of a command notes the command, or memory for that is refused and nothing changes.
+abbrev pub Notes : Note → Note → CommandEnds
+Notes old new command (Ok done) before after =
+    ((noted : Noted) × (new.command ≡ Some noted) × IsNoted noted command) × Keeps before after
+Notes old new command (Err failure) before after =
     (failure ≡ plain NoMemory) × (new ≡ old) × Keeps before after

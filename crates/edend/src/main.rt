@@ -1,21 +1,21 @@
 //! The program: it runs a script of what happens to a mount and its daemons, or is itself the broker or a daemon.
 #![tactic(auto)]
 
-mod errands;
+mod commands;
 mod host;
 mod note;
 mod streams;
 
-use crate::errands::run_edend;
+use crate::commands::run_edend;
 use crate::host::Host;
-use crate::streams::{announce, keep_numbers};
+use crate::streams::{announce, reserve_numbers};
 use non_blocking::Unblock;
 use std::process::ExitCode;
 use world_script::{STANDARD_OUTPUT, System};
-pub use world_script::{DEFAULT_LIMIT, Fault, run_world};
+pub use world_script::{DEFAULT_LIMIT, ProgramFault, run_world};
 
 fn main(rt: HostRuntime) -> ExitCode {
-    let _kept = keep_numbers(&rt);
+    let _reserved = reserve_numbers(&rt);
     announce(&rt, &rt.stdin(), rt.stderr());
     let system = System {
         host: &rt,

@@ -1,11 +1,12 @@
-//! The errand that words ask for, noted until it is run.
+//! The command that words ask for, noted until it is run.
 ghost use Rattle.std.specs.Prelude.{◌≡◌, IfSome, string_bytes};
 ghost use Rattle.edend.specs.Note.{IsBroker, IsDaemon, IsMount, IsNoted, Notes};
 
 use std::alloc::Global;
 use std::io::Write;
 use world_script::{
-    BrokerWords, DaemonWords, Errand, Errands, Failure, Fault, MountWords, Owner, Sources, Start,
+    BrokerWords, CommandHandler, DaemonWords, Failure, MountWords, Owner, ProgramFault,
+    ServerCommand, Sources, StartMode,
 };
 
 /// The words of a broker, with owned strings in place of borrowed ones.
@@ -18,7 +19,7 @@ pub struct NotedBroker {
 /// The words of a daemon, with owned strings in place of borrowed ones.
 #[derive(Drop)]
 pub struct NotedDaemon {
-    pub start: Start,
+    pub start: StartMode,
     pub broker: String,
     pub takeover: String,
     pub manifest: String,
@@ -37,7 +38,7 @@ pub struct NotedMount {
     pub owner: Option<Owner>,
 }
 
-/// An errand, with owned strings in place of borrowed ones.
+/// A command, with owned strings in place of borrowed ones.
 #[derive(Drop)]
 pub enum Noted {
     Broker(NotedBroker),
@@ -45,11 +46,11 @@ pub enum Noted {
     Mount(NotedMount),
 }
 
-/// Notes errands in place of running them, and keeps the last one. A trait's method can't start threads that share the
-/// runtime. So a noted errand is run after the words were answered.
+/// Notes commands in place of running them, and keeps the last one. A trait's method can't start threads that share the
+/// runtime. So a noted command is run after the words were answered.
 #[derive(Drop)]
 pub struct Note {
-    pub errand: Option<Noted>,
+    pub command: Option<Noted>,
 }
 
 /// Copies `text`, and returns none if memory is refused.
@@ -147,43 +148,43 @@ impl NotedMount {
 }
 
 impl Noted {
-    /// Copies `errand`, and returns none if memory is refused.
-    fn of(alloc: Global, errand: &Errand<'_>) -> Option<Noted>
-        ensures same { IfSome result (λ noted. IsNoted noted errand.now) }
+    /// Copies `command`, and returns none if memory is refused.
+    fn of(alloc: Global, command: &ServerCommand<'_>) -> Option<Noted>
+        ensures same { IfSome result (λ noted. IsNoted noted command.now) }
     {
-        match errand {
-            Errand::Broker(words) => Some(Noted::Broker(NotedBroker::of(alloc, words)?)),
-            Errand::Daemon(words) => Some(Noted::Daemon(NotedDaemon::of(alloc, words)?)),
-            Errand::Mount(words) => Some(Noted::Mount(NotedMount::of(alloc, words)?)),
+        match command {
+            ServerCommand::Broker(words) => Some(Noted::Broker(NotedBroker::of(alloc, words)?)),
+            ServerCommand::Daemon(words) => Some(Noted::Daemon(NotedDaemon::of(alloc, words)?)),
+            ServerCommand::Mount(words) => Some(Noted::Mount(NotedMount::of(alloc, words)?)),
         }
     }
 
-    /// Returns the errand.
-    pub fn errand(&self) -> Errand<'_>
+    /// Returns the command.
+    pub fn command(&self) -> ServerCommand<'_>
         ensures same { IsNoted self.now result }
     {
         match self {
-            Noted::Broker(noted) => Errand::Broker(noted.words()),
-            Noted::Daemon(noted) => Errand::Daemon(noted.words()),
-            Noted::Mount(noted) => Errand::Mount(noted.words()),
+            Noted::Broker(noted) => ServerCommand::Broker(noted.words()),
+            Noted::Daemon(noted) => ServerCommand::Daemon(noted.words()),
+            Noted::Mount(noted) => ServerCommand::Mount(noted.words()),
         }
     }
 }
 
-impl Errands for Note {
+impl CommandHandler for Note {
     ghost ends = { Notes };
 
     fn run<'a, S: Sources, W: Write>(
         &mut self,
         alloc: Global,
         _sources: &S,
-        errand: &Errand<'a>,
+        command: &ServerCommand<'a>,
         _out: &mut W,
     ) -> Result<(), Failure<'a>> {
-        let Some(noted) = Noted::of(alloc, errand) else {
-            return Err(Failure::plain(Fault::NoMemory));
+        let Some(noted) = Noted::of(alloc, command) else {
+            return Err(Failure::plain(ProgramFault::NoMemory));
         };
-        self.errand = Some(noted);
+        self.command = Some(noted);
         Ok(())
     }
 }

@@ -13,18 +13,18 @@ const LAST: i32 = 2;
 
 /// Files that keep the numbers of the standard streams which the program was started without.
 #[derive(Drop)]
-pub struct Kept {
+pub struct ReservedNumbers {
     _input: Option<File>,
     _others: [Option<File>; 2],
 }
 
 /// Opens a file in place of each standard stream that the program was started without. So no socket gets its number, and
 /// with that what is printed. Nothing can be read from the first, and nothing written to the others.
-pub fn keep_numbers<R: Files<File = File>>(rt: &R) -> Kept {
+pub fn reserve_numbers<R: Files<File = File>>(rt: &R) -> ReservedNumbers {
     let input = keep_up_to(OpenOptions::new().write(true).open(rt, NULL).ok(), 0);
     let output = keep_up_to(OpenOptions::new().read(true).open(rt, NULL).ok(), LAST);
     let errors = keep_up_to(OpenOptions::new().read(true).open(rt, NULL).ok(), LAST);
-    Kept {
+    ReservedNumbers {
         _input: input,
         _others: [output, errors],
     }

@@ -3,9 +3,9 @@ use Rattle.std.proofs.Common.{◌≡◌, ℕ, zero, suc, ◌+◌, ◌<◌, ◌�
 use Rattle.std.specs.Prelude.{◌==◌}
 use Rattle.std.specs.List.{AllByRecursion}
 use Rattle.std.proofs.lemmas.List.{take_more}
-use Rattle.directory_index.specs.Index.{IsIndexOf}
+use Rattle.directory_index.specs.CountedIndex.{IsCountedOf}
 use Rattle.directory_index.specs.Standing.{inserted, AreKnown, Standing, StandsNowhere}
-use Rattle.directory_index.specs.declared.directory_index.DirectoryIndex.{DirectoryIndex}
+use Rattle.directory_index.specs.declared.counted_index.CountedIndex.{CountedIndex}
 use Rattle.eden_base.specs.First.{first_where}
 use Rattle.eden_base.specs.declared.number.FileId.{FileId}
 use Rattle.eden_base.specs.declared.number.Number.{Number}
@@ -69,15 +69,15 @@ module _ (done : List Kept) (x : Kept) (rest : List Kept) (next : ℕ) (are : Ar
         absurd (some-none (entry_of done x.number.0) k there number-new)
 
   -- an index with it
-  pub indexed-linked : (parent : Number) (name : List ℕ) → x.place ≡ Linked parent name → (old new : DirectoryIndex) → IsIndexed (place_of_number done) old →
-      ((at : Standing) → IsIndexOf at old → at parent.0 name ≡ None → StandsNowhere at x.number.0 → IsIndexOf (inserted at parent.0 name x.number.0) new) →
+  pub indexed-linked : (parent : Number) (name : List ℕ) → x.place ≡ Linked parent name → (old new : CountedIndex) → IsIndexed (place_of_number done) old →
+      ((at : Standing) → IsCountedOf at old → at parent.0 name ≡ None → StandsNowhere at x.number.0 → IsCountedOf (inserted at parent.0 name x.number.0) new) →
       IsIndexed (place_of_number (done ++ x ∷ [])) new
   indexed-linked parent name place old new is put =
       indexed-gained (place_of_number done) (place_of_number (done ++ x ∷ [])) x.number.0 (added-elsewhere done x) old new parent.0 name
       (placed-none done x.number.0 number-new) (added-here done x number-new ∙ ap place_under place) (placed-free done parent.0 name (place-new parent name place)) is put
 
   -- and one that stands under no name
-  pub indexed-unlinked : (file : FileId) → x.place ≡ Unlinked file → (index : DirectoryIndex) → IsIndexed (place_of_number done) index → IsIndexed (place_of_number (done ++ x ∷ [])) index
+  pub indexed-unlinked : (file : FileId) → x.place ≡ Unlinked file → (index : CountedIndex) → IsIndexed (place_of_number done) index → IsIndexed (place_of_number (done ++ x ∷ [])) index
   indexed-unlinked file place index is = indexed-same (place_of_number done) (place_of_number (done ++ x ∷ [])) index (λ n. in_ n (eq-or n x.number.0)) is where
     in_ : (n : ℕ) → (n ≡ x.number.0) ⊎ (n ≡ x.number.0 → ⊥) → place_of_number (done ++ x ∷ []) n ≡ place_of_number done n
     in_ n (inl same) =
@@ -108,7 +108,7 @@ module _ (slots : List (ℕ × Option Entry)) (i : ℕ) (slot : ℕ × Option En
     kept-taken = up_to_it ∙ ap (λ (es : List Kept). before_it ++ es) (kept-front slot h [] full)
 
     -- where each entry before it stands is known among all
-    pub known-among : (next : ℕ) → AreEntries (kept_from slots) next → (index : DirectoryIndex) → (before : IsIndexed (place_of_number before_it) index) → AreKnown before.at (place_of_number (kept_from slots))
+    pub known-among : (next : ℕ) → AreEntries (kept_from slots) next → (index : CountedIndex) → (before : IsIndexed (place_of_number before_it) index) → AreKnown before.at (place_of_number (kept_from slots))
     known-among next are index before dir name n e =
         let parted = subst (λ (es : List Kept). AreEntries es next) kept-cut are in
         subst (λ (es : List Kept). place_of_number es n ≡ under dir name) (sym kept-cut)

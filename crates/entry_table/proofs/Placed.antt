@@ -4,7 +4,7 @@ use Rattle.std.specs.Prelude.{cond}
 use Rattle.std.specs.Option.{option_and_then, option_map}
 use Rattle.std.specs.List.{list_any}
 use Rattle.directory_index.specs.Standing.{StandsIn}
-use Rattle.directory_index.specs.declared.directory_index.DirectoryIndex.{DirectoryIndex}
+use Rattle.directory_index.specs.declared.counted_index.CountedIndex.{CountedIndex}
 use Rattle.eden_base.proofs.MemberLemmas.{any-first, first-none, first-passes}
 use Rattle.eden_base.proofs.NumberTests.{eq-or, eq-true, true-eq}
 use Rattle.eden_base.specs.First.{changed_where, first_where, without_where}
@@ -100,7 +100,7 @@ first-any (y ∷ es) p t = in_ (p y) t (first-any es p) where
   in_ false s rest = rest s
 
 -- what an index of the places says of the entries, whose numbers rise
-module _ (es : List Kept) (low next : ℕ) (are : AreNumbers low next es) (index : DirectoryIndex) (is : IsIndexed (place_of_number es) index) where
+module _ (es : List Kept) (low next : ℕ) (are : AreNumbers low next es) (index : CountedIndex) (is : IsIndexed (place_of_number es) index) where
   -- the number of an entry that is found
   indexed-found : (p : Kept → Bool) (x : Kept) (dir : Number) (name : List ℕ) → first_where p es ≡ Some x → x.place ≡ Linked dir name → is.at dir.0 name ≡ Some x.number.0
   indexed-found p x dir name e l = is.each dir.0 name x.number.0 (placed-linked es x.number.0 x dir name (entry_of-first es low next p x are e) l)

@@ -1,9 +1,9 @@
 -- A table of which an entry was taken out of its slot.
 use Rattle.std.proofs.Common.{◌≡◌, ℕ, List, Option, Some, get_or, refl, sym, ap, ◌∙◌, subst}
 use Rattle.std.specs.Option.{option_map, option_and_then}
-use Rattle.directory_index.specs.Index.{IsIndexOf}
+use Rattle.directory_index.specs.CountedIndex.{IsCountedOf}
 use Rattle.directory_index.specs.Standing.{removed, Standing}
-use Rattle.directory_index.specs.declared.directory_index.DirectoryIndex.{DirectoryIndex}
+use Rattle.directory_index.specs.declared.counted_index.CountedIndex.{CountedIndex}
 use Rattle.eden_base.specs.First.{without_where}
 use Rattle.eden_base.specs.declared.number.FileId.{FileId}
 use Rattle.eden_base.specs.declared.number.Number.{Number}
@@ -52,8 +52,8 @@ module _ {t : Inside} {n : ℕ} {h : Entry} {left : List (ℕ × Option Entry)} 
   here = slot-entry t n h out.is out.found
 
   -- the index without its place, if it had one
-  pub left-lost : (parent : Number) (name : List ℕ) → h.place ≡ Linked parent name → (index : DirectoryIndex) →
-      ((at : Standing) → IsIndexOf at t.index → at parent.0 name ≡ Some n → IsIndexOf (removed at parent.0 name) index) → IsIndexed (place_of_number (kept_from left)) index
+  pub left-lost : (parent : Number) (name : List ℕ) → h.place ≡ Linked parent name → (index : CountedIndex) →
+      ((at : Standing) → IsCountedOf at t.index → at parent.0 name ≡ Some n → IsCountedOf (removed at parent.0 name) index) → IsIndexed (place_of_number (kept_from left)) index
   left-lost parent name place index take = subst (λ (es : List Kept). IsIndexed (place_of_number es) index) (sym left-kept) (indexed-without t n (kept_of n h) out.is here index parent name place take)
 
   pub left-marked : (file : FileId) → h.place ≡ Unlinked file → IsIndexed (place_of_number (kept_from left)) t.index

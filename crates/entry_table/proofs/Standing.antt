@@ -1,9 +1,9 @@
 -- An index of the places of numbers, after one of them came to a place or went from it.
 use Rattle.std.proofs.Common.{◌≡◌, ℕ, List, Option, Some, None, refl, sym, ap, ◌∙◌, inl, inr, ◌⊎◌}
 use Rattle.directory_index.proofs.Standings.{inserted-here, inserted-still, inserted-was, moved, removed-still, removed-was, same-number}
-use Rattle.directory_index.specs.Index.{IsIndexOf}
+use Rattle.directory_index.specs.CountedIndex.{IsCountedOf}
 use Rattle.directory_index.specs.Standing.{inserted, removed, Standing, StandsNowhere}
-use Rattle.directory_index.specs.declared.directory_index.DirectoryIndex.{DirectoryIndex}
+use Rattle.directory_index.specs.declared.counted_index.CountedIndex.{CountedIndex}
 use Rattle.eden_base.proofs.MemberLemmas.{some-none}
 use Rattle.eden_base.proofs.NumberTests.{eq-or}
 use Rattle.entry_table.specs.Standing.{IsIndexed}
@@ -20,7 +20,7 @@ same-place o d dir q name e f =
     (ap (λ (p : ℕ × List ℕ). p.0) pair, ap (λ (p : ℕ × List ℕ). p.1) pair)
 
 -- where each number stands as it stood
-pub indexed-same : (place after : ℕ → Option (ℕ × List ℕ)) (index : DirectoryIndex) → ((n : ℕ) → after n ≡ place n) → IsIndexed place index → IsIndexed after index
+pub indexed-same : (place after : ℕ → Option (ℕ × List ℕ)) (index : CountedIndex) → ((n : ℕ) → after n ≡ place n) → IsIndexed place index → IsIndexed after index
 indexed-same place after index same is = record {
   at = is.at;
   of = is.of;
@@ -29,21 +29,21 @@ indexed-same place after index same is = record {
 }
 
 -- another index of the same
-pub indexed-kept : (place : ℕ → Option (ℕ × List ℕ)) (old new : DirectoryIndex) → (is : IsIndexed place old) → IsIndexOf is.at new → IsIndexed place new
+pub indexed-kept : (place : ℕ → Option (ℕ × List ℕ)) (old new : CountedIndex) → (is : IsIndexed place old) → IsCountedOf is.at new → IsIndexed place new
 indexed-kept place old new is kept = record { at = is.at; of = kept; known = is.known; each = is.each }
 
 -- nothing stands at a place at which no number stands
-pub indexed-free : (place : ℕ → Option (ℕ × List ℕ)) (index : DirectoryIndex) (is : IsIndexed place index) (dir : ℕ) (name : List ℕ) → ((n : ℕ) → place n ≡ Some (dir, name) → ⊥) → is.at dir name ≡ None
+pub indexed-free : (place : ℕ → Option (ℕ × List ℕ)) (index : CountedIndex) (is : IsIndexed place index) (dir : ℕ) (name : List ℕ) → ((n : ℕ) → place n ≡ Some (dir, name) → ⊥) → is.at dir name ≡ None
 indexed-free place index is dir name free = in_ (is.at dir name) refl where
   in_ : (o : Option ℕ) → is.at dir name ≡ o → is.at dir name ≡ None
   in_ None e = e
   in_ (Some n) e = absurd (free n (is.known dir name n e))
 
 -- where each number but one stands as it stood
-module _ (place after : ℕ → Option (ℕ × List ℕ)) (n : ℕ) (others : (m : ℕ) → (m ≡ n → ⊥) → after m ≡ place m) (old new : DirectoryIndex) (dir : ℕ) (name : List ℕ) where
+module _ (place after : ℕ → Option (ℕ × List ℕ)) (n : ℕ) (others : (m : ℕ) → (m ≡ n → ⊥) → after m ≡ place m) (old new : CountedIndex) (dir : ℕ) (name : List ℕ) where
   -- the one came to a free place
   pub indexed-gained : place n ≡ None → after n ≡ Some (dir, name) → ((m : ℕ) → place m ≡ Some (dir, name) → ⊥) → IsIndexed place old →
-      ((at : Standing) → IsIndexOf at old → at dir name ≡ None → StandsNowhere at n → IsIndexOf (inserted at dir name n) new) → IsIndexed after new
+      ((at : Standing) → IsCountedOf at old → at dir name ≡ None → StandsNowhere at n → IsCountedOf (inserted at dir name n) new) → IsIndexed after new
   indexed-gained none there free is put = record {
     at = inserted is.at dir name n;
     of = put is.at is.of empty (λ d q e. some-none (place n) (d, q) (is.known d q n e) none);
@@ -67,7 +67,7 @@ module _ (place after : ℕ → Option (ℕ × List ℕ)) (n : ℕ) (others : (m
 
   -- the one went from its place
   pub indexed-lost : place n ≡ Some (dir, name) → after n ≡ None → IsIndexed place old →
-      ((at : Standing) → IsIndexOf at old → at dir name ≡ Some n → IsIndexOf (removed at dir name) new) → IsIndexed after new
+      ((at : Standing) → IsCountedOf at old → at dir name ≡ Some n → IsCountedOf (removed at dir name) new) → IsIndexed after new
   indexed-lost here none is take = record {
     at = removed is.at dir name;
     of = take is.at is.of stood;

@@ -7,9 +7,9 @@ use Rattle.std.specs.BTreeMap.{is_at}
 use Rattle.std.specs.Option.{option_map}
 use Rattle.eden_base.specs.declared.number.FileId.{FileId}
 use Rattle.eden_base.specs.declared.number.Number.{Number}
-use Rattle.directory_index.specs.Index.{IsIndexOf}
+use Rattle.directory_index.specs.CountedIndex.{IsCountedOf}
 use Rattle.directory_index.specs.Standing.{inserted, removed, Standing, StandsNowhere}
-use Rattle.directory_index.specs.declared.directory_index.DirectoryIndex.{DirectoryIndex}
+use Rattle.directory_index.specs.declared.counted_index.CountedIndex.{CountedIndex}
 use Rattle.eden_base.proofs.NumberTests.{eq-or}
 use Rattle.eden_base.specs.declared.place.Place.TheVariants.{Linked, Unlinked}
 use Rattle.eden_base.specs.First.{changed_where, without_where}
@@ -83,7 +83,7 @@ module _ (t : Inside) (n : ℕ) (x : Kept) (is : IsTable t) (here : entry_of (ke
   abbrev es : List Kept
   es = kept_from t.slots.items
 
-  module _ (new : DirectoryIndex) (dir : Number) (name : List ℕ) (place : x.place ≡ Linked dir name) (take : (at : Standing) → IsIndexOf at t.index → at dir.0 name ≡ Some n → IsIndexOf (removed at dir.0 name) new) where
+  module _ (new : CountedIndex) (dir : Number) (name : List ℕ) (place : x.place ≡ Linked dir name) (take : (at : Standing) → IsCountedOf at t.index → at dir.0 name ≡ Some n → IsCountedOf (removed at dir.0 name) new) where
     -- without its entry
     pub indexed-without : IsIndexed (place_of_number (without_where (has_number n) es)) new
     indexed-without =
@@ -97,8 +97,8 @@ module _ (t : Inside) (n : ℕ) (x : Kept) (is : IsTable t) (here : entry_of (ke
         (placed-linked es n x dir name here place) (changed-here es n (marked file) (λ y. refl) x here) is.indexed take
 
     -- at another place, which was free
-    pub indexed-moved : (parent : Number) (text : List ℕ) (moved : List ℕ) → text ≡ moved → entry_at es parent.0 moved ≡ None → (last : DirectoryIndex) →
-        ((at : Standing) → IsIndexOf at new → at parent.0 text ≡ None → StandsNowhere at n → IsIndexOf (inserted at parent.0 text n) last) → IsIndexed (place_of_number (changed_where (has_number n) (moved_to parent moved) es)) last
+    pub indexed-moved : (parent : Number) (text : List ℕ) (moved : List ℕ) → text ≡ moved → entry_at es parent.0 moved ≡ None → (last : CountedIndex) →
+        ((at : Standing) → IsCountedOf at new → at parent.0 text ≡ None → StandsNowhere at n → IsCountedOf (inserted at parent.0 text n) last) → IsIndexed (place_of_number (changed_where (has_number n) (moved_to parent moved) es)) last
     indexed-moved parent text moved same free last put =
         let others : (m : ℕ) → (m ≡ n → ⊥) → place_of_number (changed_where (has_number n) (moved_to parent moved) es) m ≡ place_of_number (without_where (has_number n) es) m = λ m d.
         changed-elsewhere es n (moved_to parent moved) (λ y. refl) m d ∙ sym (without-elsewhere es n m d) in

@@ -1,6 +1,6 @@
 -- What is always true of the fields of a table.
 use Rattle.std.specs.Prelude.{◌≡◌, ◌+◌, ◌<◌, ◌≤◌, true, vec_len, vec_capacity}
-use Rattle.directory_index.specs.Index.{has_room}
+use Rattle.directory_index.specs.CountedIndex.{has_room}
 use Rattle.entry_table.specs.declared.table.Table.TheInside as table
 use Rattle.entry_table.specs.Slots.{AreSlots, kept_from, spare_of}
 use Rattle.entry_table.specs.Standing.{place_of_number, IsIndexed}

@@ -5,7 +5,7 @@ ghost use Rattle.entry_table.specs.Slots.{kept_from, IsSlots};
 ghost use Rattle.entry_table.specs.Standing.{place_of_number, IsIndexed};
 
 use crate::table::{Slot, held_at};
-use directory_index::{DirectoryIndex, Places};
+use directory_index::{CountedIndex, Places};
 use eden_base::{NoMemory, Number, Place};
 use std::alloc::Global;
 use std::marker::Model;
@@ -63,13 +63,13 @@ impl Places for SlotPlaces<'_> {
 }
 
 /// Makes the index of the entries that stand in `slots`.
-pub(crate) fn index_of_places(alloc: Global, slots: &[Slot]) -> Result<DirectoryIndex, NoMemory>
+pub(crate) fn index_of_places(alloc: Global, slots: &[Slot]) -> Result<CountedIndex, NoMemory>
     requires slots { IsSlots slots.now }
     requires entries { (next : ℕ) × AreEntries (kept_from slots.now) next }
     ensures indexed { IfOk result (IsIndexed (place_of_number (kept_from slots.now))) }
 {
     let places = SlotPlaces::of(slots);
-    let mut index = DirectoryIndex::for_numbers(alloc, slots.len());
+    let mut index = CountedIndex::for_numbers(alloc, slots.len());
     for (number, held) in slots {
         let Some(entry) = held else {
             continue;

@@ -20,7 +20,7 @@ use crate::kept::{Entry, Kept, NamedEntries};
 use crate::slot_places::{SlotPlaces, index_of_places};
 use crate::way::locate;
 use checkout::Tree;
-use directory_index::DirectoryIndex;
+use directory_index::CountedIndex;
 use eden_base::{FileId, GREATEST_COUNT, Name, NoMemory, Number, Place};
 use std::alloc::{AllocError, Global};
 use std::marker::Model;
@@ -34,7 +34,7 @@ pub(crate) type Slot = (u64, Option<Entry>);
 /// follow one another.
 pub struct Table {
     slots: Vec<Slot>,
-    index: DirectoryIndex,
+    index: CountedIndex,
     next: u64,
     is_reserved: bool,
     way: Vec<Number>,
@@ -80,7 +80,7 @@ impl Table {
     {
         Table {
             slots: Vec::new(alloc),
-            index: DirectoryIndex::new(alloc),
+            index: CountedIndex::new(alloc),
             next: 2,
             is_reserved: false,
             way: Vec::new(alloc),

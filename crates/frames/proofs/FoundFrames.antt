@@ -8,8 +8,8 @@ use Rattle.byte_codec.proofs.YieldLemmas.{Only, Yields, Value, then_yields}
 use Rattle.takeover_core.specs.declared.message.Message.{Message}
 use Rattle.frames.specs.declared.fault.FrameFault.TheVariants.{BadBody}
 use Rattle.frames.specs.declared.frame.Frame.{Frame}
-use Rattle.frames.specs.declared.kind.Kind.{Kind}
-use Rattle.frames.specs.declared.kind.Kind.TheVariants as kinds
+use Rattle.frames.specs.declared.kind.FrameKind.{FrameKind}
+use Rattle.frames.specs.declared.kind.FrameKind.TheVariants as kinds
 use Rattle.frames.specs.declared.kind.MessageKind.{MessageKind}
 use Rattle.frames.specs.declared.kind.MessageKind.TheVariants as messages
 use Rattle.frames.specs.FrameText.{Fits, FitsMessage, body_of, kind_of, message_body, message_kind}
@@ -58,12 +58,12 @@ message_yields messages.Part body are =
 message_yields messages.Failed body are = then_yields _ _ (alone_yields four_back body are) (λ session is. Value (record { kind_is = refl; body_is = is.text; fits = is.fits }))
 
 -- a frame of a kind and a body
-pub record IsFrameOf (kind : Kind) (body : List ℕ) (frame : Frame) : Type 0 where
+pub record IsFrameOf (kind : FrameKind) (body : List ℕ) (frame : Frame) : Type 0 where
   pub kind_is : kind_of frame ≡ kind
   pub body_is : body_of frame ≡ body
   pub fits : Fits frame
 
-pub frame_yields : (kind : Kind) (body : List ℕ) → AreBytes body → Yields (Only BadBody) (IsFrameOf kind body) (frame_of kind body)
+pub frame_yields : (kind : FrameKind) (body : List ℕ) → AreBytes body → Yields (Only BadBody) (IsFrameOf kind body) (frame_of kind body)
 unfolding frame_of
 frame_yields kinds.Take body are = then_yields _ _ (alone_yields eight_back body are) (λ n is. Value (record { kind_is = refl; body_is = is.text; fits = is.fits }))
 frame_yields kinds.Ask body are = Value (record { kind_is = refl; body_is = refl; fits = tt })
@@ -104,11 +104,11 @@ message_number_found : (n : ℕ) (kind : MessageKind) → message_kind_with n �
 unfolding message_kind_with
 message_number_found n kind e = first_has message_number n message_kinds None kind (λ none. absurd cc) e
 
-takeover_found : (n : ℕ) (found : Option MessageKind) (kind : Kind) → ((its : MessageKind) → found ≡ Some its → n ≡ message_number its) → of_takeover found ≡ Some kind → n ≡ number_of kind
+takeover_found : (n : ℕ) (found : Option MessageKind) (kind : FrameKind) → ((its : MessageKind) → found ≡ Some its → n ≡ message_number its) → of_takeover found ≡ Some kind → n ≡ number_of kind
 takeover_found n None kind is e = absurd cc
 takeover_found n (Some its) kind is e = is its refl ∙ ap number_of (some_is (kinds.Takeover its) kind e)
 
-pub number_found_again : (n : ℕ) (kind : Kind) → kind_with n ≡ Some kind → n ≡ number_of kind
+pub number_found_again : (n : ℕ) (kind : FrameKind) → kind_with n ≡ Some kind → n ≡ number_of kind
 unfolding kind_with
 number_found_again n kind e =
     first_has number_of n plain_kinds (of_takeover (message_kind_with n)) kind (takeover_found n (message_kind_with n) kind (message_number_found n)) e

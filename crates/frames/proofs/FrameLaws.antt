@@ -8,29 +8,15 @@ use Rattle.takeover_core.specs.declared.message.Message.TheVariants.{Offer, Choi
 use Rattle.frames.specs.declared.fault.FrameFault.TheVariants.{BadBody}
 use Rattle.frames.specs.declared.frame.Frame.{Frame}
 use Rattle.frames.specs.declared.frame.Frame.TheVariants.{Take, Ask, Empty, Post, Posted, Ended, Stale, NotAsked, Claim, Claimed, Unanswered, LastGeneration, Mount, Mounted, Seated, Attach, Attached, Takeover}
-use Rattle.frames.specs.declared.kind.Kind.{Kind}
-use Rattle.frames.specs.declared.kind.Kind.TheVariants as kinds
-use Rattle.frames.specs.declared.kind.MessageKind.{MessageKind}
+use Rattle.frames.specs.declared.kind.FrameKind.{FrameKind}
+use Rattle.frames.specs.declared.kind.FrameKind.TheVariants as kinds
 use Rattle.frames.specs.declared.kind.MessageKind.TheVariants as messages
 use Rattle.frames.specs.FrameText.{Fits, FitsMessage, body_of, kind_of, message_body, message_kind}
-use Rattle.frames.specs.Kind.{kind_with, message_kind_with, message_number, number_of}
+use Rattle.frames.specs.Kind.{kind_with, message_kind_with, number_of}
 use Rattle.frames.specs.Reading.{frame_of, message_of, nothing}
 use Rattle.frames.proofs.FieldLaws.{alone_again, versions_again}
 
--- no two kinds have the same number
-pub message_kind_again : (kind : MessageKind) → message_kind_with (message_number kind) ≡ Some kind
-unfolding message_kind_with
-message_kind_again messages.Offer = refl
-message_kind_again messages.Choice = refl
-message_kind_again messages.NoCommon = refl
-message_kind_again messages.Busy = refl
-message_kind_again messages.Ready = refl
-message_kind_again messages.Pong = refl
-message_kind_again messages.Data = refl
-message_kind_again messages.Failed = refl
-message_kind_again messages.Part = refl
-
-pub kind_again : (kind : Kind) → kind_with (number_of kind) ≡ Some kind
+pub kind_again : (kind : FrameKind) → kind_with (number_of kind) ≡ Some kind
 unfolding kind_with message_kind_with
 kind_again kinds.Take = refl
 kind_again kinds.Ask = refl

@@ -5,7 +5,7 @@ use Rattle.std.proofs.lemmas.List.{take-append-le, drop-append-le}
 use Rattle.frames.specs.declared.fault.FrameFault.{FrameFault}
 use Rattle.frames.specs.declared.fault.FrameFault.TheVariants.{TooLong}
 use Rattle.frames.specs.declared.frame.Frame.{Frame}
-use Rattle.frames.specs.declared.kind.Kind.{Kind}
+use Rattle.frames.specs.declared.kind.FrameKind.{FrameKind}
 use Rattle.frames.specs.FrameText.{longest_body}
 use Rattle.frames.specs.Kind.{kind_with}
 use Rattle.frames.specs.Laws.{grown}
@@ -19,7 +19,7 @@ frame_grows (Err fault) rest more = refl
 abbrev Grows : (List ℕ → Said) → List ℕ → List ℕ → Type 0
 Grows says bytes more = says bytes ≢ NotYet → says (bytes ++ more) ≡ grown (says bytes) more
 
-behind_grows : (kind : Option Kind) (len : ℕ) (bytes more : List ℕ) → Grows (said_behind kind len) bytes more
+behind_grows : (kind : Option FrameKind) (len : ℕ) (bytes more : List ℕ) → Grows (said_behind kind len) bytes more
 behind_grows None len bytes more says = refl
 behind_grows (Some kind) len bytes more says = elim (cases_lt (length bytes) len) [
   | inl lt ↦

@@ -7,7 +7,7 @@ use Rattle.byte_codec.specs.Field.{AreBytes}
 use Rattle.frames.specs.declared.fault.FrameFault.{FrameFault}
 use Rattle.frames.specs.declared.fault.FrameFault.TheVariants.{TooLong, BadKind}
 use Rattle.frames.specs.declared.frame.Frame.{Frame}
-use Rattle.frames.specs.declared.kind.Kind.{Kind}
+use Rattle.frames.specs.declared.kind.FrameKind.{FrameKind}
 use Rattle.frames.specs.FrameText.{longest_body}
 use Rattle.frames.specs.Kind.{kind_with}
 use Rattle.frames.specs.Lacking.{IsHeadFault, lacking, lacking_by}
@@ -23,14 +23,14 @@ few_say_nothing bytes few = rw (lt-ltb (length bytes) 4 few) refl
 
 -- ---- five bytes and more
 
-abbrev lacking_behind : Option Kind → ℕ → ℕ → Result ℕ FrameFault
+abbrev lacking_behind : Option FrameKind → ℕ → ℕ → Result ℕ FrameFault
 lacking_behind None len count = Err BadKind
 lacking_behind (Some kind) len count = Ok (len - count)
 
 abbrev lacking_long : ℕ → ℕ → ℕ → Result ℕ FrameFault
 lacking_long len n count = cond (ltb longest_body len) (Err TooLong) (lacking_behind (kind_with n) len count)
 
-by_kind : (kind : Option Kind) (a b c d n : ℕ) (bytes : List ℕ) → lacking_by kind (a ∷ b ∷ c ∷ d ∷ n ∷ bytes) ≡ lacking_behind kind (of_four a b c d) (length bytes)
+by_kind : (kind : Option FrameKind) (a b c d n : ℕ) (bytes : List ℕ) → lacking_by kind (a ∷ b ∷ c ∷ d ∷ n ∷ bytes) ≡ lacking_behind kind (of_four a b c d) (length bytes)
 by_kind None a b c d n bytes = refl
 by_kind (Some kind) a b c d n bytes =
     let same : 5 + of_four a b c d - length (a ∷ b ∷ c ∷ d ∷ n ∷ bytes) ≡ of_four a b c d - length bytes = omega arith in
@@ -50,21 +50,21 @@ lacks_long a b c d n bytes =
 abbrev pub Shows : Said → FrameFault → Type 0
 Shows what fault = (what ≡ Faulty fault) × IsHeadFault fault
 
-fault_behind : (kind : Option Kind) (len : ℕ) (bytes : List ℕ) (fault : FrameFault) → lacking_behind kind len (length bytes) ≡ Err fault → Shows (said_behind kind len bytes) fault
+fault_behind : (kind : Option FrameKind) (len : ℕ) (bytes : List ℕ) (fault : FrameFault) → lacking_behind kind len (length bytes) ≡ Err fault → Shows (said_behind kind len bytes) fault
 fault_behind None len bytes fault e = let same : BadKind ≡ fault = cc in (ap Faulty same, subst IsHeadFault same tt)
 fault_behind (Some kind) len bytes fault e = absurd cc
 
-fault_long : (over : Bool) (kind : Option Kind) (len : ℕ) (bytes : List ℕ) (fault : FrameFault) → cond over (Err TooLong) (lacking_behind kind len (length bytes)) ≡ Err fault → Shows (cond over (Faulty TooLong) (said_behind kind len bytes)) fault
+fault_long : (over : Bool) (kind : Option FrameKind) (len : ℕ) (bytes : List ℕ) (fault : FrameFault) → cond over (Err TooLong) (lacking_behind kind len (length bytes)) ≡ Err fault → Shows (cond over (Faulty TooLong) (said_behind kind len bytes)) fault
 fault_long true kind len bytes fault e = let same : TooLong ≡ fault = cc in (ap Faulty same, subst IsHeadFault same tt)
 fault_long false kind len bytes fault e = fault_behind kind len bytes fault e
 
-some_behind : (kind : Option Kind) (len n : ℕ) (bytes : List ℕ) → lacking_behind kind len (length bytes) ≡ Ok n → 0 < n → said_behind kind len bytes ≡ NotYet
+some_behind : (kind : Option FrameKind) (len n : ℕ) (bytes : List ℕ) → lacking_behind kind len (length bytes) ≡ Ok n → 0 < n → said_behind kind len bytes ≡ NotYet
 some_behind None len n bytes e some = absurd cc
 some_behind (Some kind) len n bytes e some =
     let same : len - length bytes ≡ n = cc in
     ap (λ (b : Bool). cond b NotYet (said_frame (frame_of kind (take len bytes)) (drop len bytes))) (lt-ltb (length bytes) len (omega (arith, same, some)))
 
-some_long : (over : Bool) (kind : Option Kind) (len n : ℕ) (bytes : List ℕ) → cond over (Err TooLong) (lacking_behind kind len (length bytes)) ≡ Ok n → 0 < n → cond over (Faulty TooLong) (said_behind kind len bytes) ≡ NotYet
+some_long : (over : Bool) (kind : Option FrameKind) (len n : ℕ) (bytes : List ℕ) → cond over (Err TooLong) (lacking_behind kind len (length bytes)) ≡ Ok n → 0 < n → cond over (Faulty TooLong) (said_behind kind len bytes) ≡ NotYet
 some_long true kind len n bytes e some = absurd cc
 some_long false kind len n bytes e some = some_behind kind len n bytes e some
 
@@ -106,11 +106,11 @@ lacking_some (a ∷ b ∷ c ∷ d ∷ x ∷ bytes) n e some =
 
 -- ---- how many, and of which kind
 
-few_behind : (kind : Option Kind) (len n count : ℕ) → len ≤ longest_body → lacking_behind kind len count ≡ Ok n → n ≤ longest_body
+few_behind : (kind : Option FrameKind) (len n count : ℕ) → len ≤ longest_body → lacking_behind kind len count ≡ Ok n → n ≤ longest_body
 few_behind None len n count few e = absurd cc
 few_behind (Some kind) len n count few e = let same : len - count ≡ n = cc in omega (arith, same, few)
 
-few_long : (len n count : ℕ) (kind : Option Kind) (over : Bool) → over ≡ ltb longest_body len → cond over (Err TooLong) (lacking_behind kind len count) ≡ Ok n → n ≤ longest_body
+few_long : (len n count : ℕ) (kind : Option FrameKind) (over : Bool) → over ≡ ltb longest_body len → cond over (Err TooLong) (lacking_behind kind len count) ≡ Ok n → n ≤ longest_body
 few_long len n count kind true is e = absurd cc
 few_long len n count kind false is e = few_behind kind len n count (ltb-false longest_body len (sym is)) e
 
@@ -138,19 +138,19 @@ kind_there (a ∷ b ∷ c ∷ d ∷ []) n five e none = absurd (omega (arith, fi
 kind_there (a ∷ b ∷ c ∷ d ∷ x ∷ bytes) n five e none =
     let over = ltb longest_body (of_four a b c d) in
     let told : cond over (Err TooLong) (lacking_behind None (of_four a b c d) (length bytes)) ≡ Ok n =
-    ap (λ (k : Option Kind). cond over (Err TooLong) (lacking_behind k (of_four a b c d) (length bytes))) (sym none) ∙ sym (lacks_long a b c d x bytes) ∙ e in
+    ap (λ (k : Option FrameKind). cond over (Err TooLong) (lacking_behind k (of_four a b c d) (length bytes))) (sym none) ∙ sym (lacks_long a b c d x bytes) ∙ e in
     none_long over (of_four a b c d) n (length bytes) told
 
 -- ---- a head of five bytes, and a body after it
 
-grown_behind : (kind : Option Kind) (len n : ℕ) (part : List ℕ) → lacking_behind kind len 0 ≡ Ok n → length part ≤ n → lacking_behind kind len (length part) ≡ Ok (n - length part)
+grown_behind : (kind : Option FrameKind) (len n : ℕ) (part : List ℕ) → lacking_behind kind len 0 ≡ Ok n → length part ≤ n → lacking_behind kind len (length part) ≡ Ok (n - length part)
 grown_behind None len n part e few = absurd cc
 grown_behind (Some kind) len n part e few =
     let told : len - 0 ≡ n = cc in
     let same : len ≡ n = omega (arith, told) in
     ap (λ (m : ℕ). Ok (m - length part)) same
 
-grown_long : (over : Bool) (kind : Option Kind) (len n : ℕ) (part : List ℕ) → cond over (Err TooLong) (lacking_behind kind len 0) ≡ Ok n → length part ≤ n → cond over (Err TooLong) (lacking_behind kind len (length part)) ≡ Ok (n - length part)
+grown_long : (over : Bool) (kind : Option FrameKind) (len n : ℕ) (part : List ℕ) → cond over (Err TooLong) (lacking_behind kind len 0) ≡ Ok n → length part ≤ n → cond over (Err TooLong) (lacking_behind kind len (length part)) ≡ Ok (n - length part)
 grown_long true kind len n part e few = absurd cc
 grown_long false kind len n part e few = grown_behind kind len n part e few
 
@@ -171,21 +171,21 @@ pub part_says_nothing : (head part : List ℕ) (n : ℕ) → length head ≡ 5 �
 part_says_nothing head part n five e few =
     lacking_some (head ++ part) (n - length part) (lacking_less head part n five e (omega (arith, few))) (omega (arith, few))
 
-whole_behind : (kind : Kind) (len : ℕ) (body : List ℕ) → len ≡ length body → said_behind (Some kind) len body ≡ said_frame (frame_of kind body) []
+whole_behind : (kind : FrameKind) (len : ℕ) (body : List ℕ) → len ≡ length body → said_behind (Some kind) len body ≡ said_frame (frame_of kind body) []
 whole_behind kind len body same =
     let whole = le-ltb (length body) len (omega (arith, same)) in
     let front : take len body ≡ body = sym (ap (λ (t : List ℕ). take len t) (append-nil body)) ∙ take_at body [] len (sym same) in
     let rest : drop len body ≡ [] = sym (ap (λ (t : List ℕ). drop len t) (append-nil body)) ∙ drop_at body [] len (sym same) in
     rw (whole, front, rest) refl
 
-whole_long : (over : Bool) (kind : Kind) (len : ℕ) (body : List ℕ) → cond over (Err TooLong) (lacking_behind (Some kind) len 0) ≡ Ok (length body) → cond over (Faulty TooLong) (said_behind (Some kind) len body) ≡ said_frame (frame_of kind body) []
+whole_long : (over : Bool) (kind : FrameKind) (len : ℕ) (body : List ℕ) → cond over (Err TooLong) (lacking_behind (Some kind) len 0) ≡ Ok (length body) → cond over (Faulty TooLong) (said_behind (Some kind) len body) ≡ said_frame (frame_of kind body) []
 whole_long true kind len body e = absurd cc
 whole_long false kind len body e =
     let told : len - 0 ≡ length body = cc in
     whole_behind kind len body (omega (arith, told))
 
 -- a whole body says its frame, or its fault
-pub body_says : (head body : List ℕ) (kind : Kind) → length head ≡ 5 → lacking head ≡ Ok (length body) → kind_with (slice_index head 4) ≡ Some kind → said (head ++ body) ≡ said_frame (frame_of kind body) []
+pub body_says : (head body : List ℕ) (kind : FrameKind) → length head ≡ 5 → lacking head ≡ Ok (length body) → kind_with (slice_index head 4) ≡ Some kind → said (head ++ body) ≡ said_frame (frame_of kind body) []
 body_says [] body kind five e is = absurd (omega (arith, five))
 body_says (a ∷ []) body kind five e is = absurd (omega (arith, five))
 body_says (a ∷ b ∷ []) body kind five e is = absurd (omega (arith, five))
@@ -194,9 +194,9 @@ body_says (a ∷ b ∷ c ∷ d ∷ []) body kind five e is = absurd (omega (arit
 body_says (a ∷ b ∷ c ∷ d ∷ x ∷ []) body kind five e is =
     let over = ltb longest_body (of_four a b c d) in
     let told : cond over (Err TooLong) (lacking_behind (Some kind) (of_four a b c d) 0) ≡ Ok (length body) =
-    ap (λ (k : Option Kind). cond over (Err TooLong) (lacking_behind k (of_four a b c d) 0)) (sym is) ∙ sym (lacks_long a b c d x []) ∙ e in
+    ap (λ (k : Option FrameKind). cond over (Err TooLong) (lacking_behind k (of_four a b c d) 0)) (sym is) ∙ sym (lacks_long a b c d x []) ∙ e in
     is_long a b c d x body
-    ∙ ap (λ (k : Option Kind). cond over (Faulty TooLong) (said_behind k (of_four a b c d) body)) is
+    ∙ ap (λ (k : Option FrameKind). cond over (Faulty TooLong) (said_behind k (of_four a b c d) body)) is
     ∙ whole_long over kind (of_four a b c d) body told
 body_says (a ∷ b ∷ c ∷ d ∷ x ∷ y ∷ head) body kind five e is = absurd (omega (arith, five))
 

@@ -1,6 +1,5 @@
 pub mod AnswerLaws
 pub mod EndLaws
-pub mod Ending
 pub mod Examples
 pub mod FieldLaws
 pub mod FoundFields
@@ -10,9 +9,7 @@ pub mod GrowingLaws
 pub mod LackingLaws
 pub mod PartedLaws
 pub mod PartingLaws
-pub mod PlainKinds
 pub mod SaysLaws
 pub mod StreamLaws
-pub mod TextLaws
 pub mod Versions
 pub mod Written

@@ -5,7 +5,7 @@ use Rattle.std.proofs.lemmas.List.{length-drop}
 use Rattle.frames.specs.declared.fault.FrameFault.{FrameFault}
 use Rattle.frames.specs.declared.fault.FrameFault.TheVariants.{TooLong, Torn}
 use Rattle.frames.specs.declared.frame.Frame.{Frame}
-use Rattle.frames.specs.declared.kind.Kind.{Kind}
+use Rattle.frames.specs.declared.kind.FrameKind.{FrameKind}
 use Rattle.frames.specs.FrameText.{longest_body}
 use Rattle.frames.specs.Kind.{kind_with}
 use Rattle.frames.specs.Laws.{AreFirst, FaultyRest, Parts, Rest, Tail, end_with}
@@ -29,7 +29,7 @@ short_rest : (over : Bool) (what : Said) (left : List ℕ) (frame : Frame) → c
 short_rest true what left frame e = absurd cc
 short_rest false what left frame e = e
 
-not_longer : (kind : Option Kind) (len : ℕ) (bytes left : List ℕ) (frame : Frame) → said_behind kind len bytes ≡ First frame left → length left ≤ length bytes
+not_longer : (kind : Option FrameKind) (len : ℕ) (bytes left : List ℕ) (frame : Frame) → said_behind kind len bytes ≡ First frame left → length left ≤ length bytes
 not_longer None len bytes left frame e = absurd cc
 not_longer (Some kind) len bytes left frame e =
     let read = frame_of kind (take len bytes) in

@@ -11,7 +11,7 @@ use Rattle.byte_codec.proofs.YieldLemmas.{faulted, yielded}
 use Rattle.frames.specs.declared.fault.FrameFault.{FrameFault}
 use Rattle.frames.specs.declared.fault.FrameFault.TheVariants.{TooLong, BadKind, BadBody, Torn, Read, Write, NoMemory}
 use Rattle.frames.specs.declared.frame.Frame.{Frame}
-use Rattle.frames.specs.declared.kind.Kind.{Kind}
+use Rattle.frames.specs.declared.kind.FrameKind.{FrameKind}
 use Rattle.frames.specs.FrameText.{body_of, framed, kind_of, longest_body}
 use Rattle.frames.specs.Kind.{kind_with, number_of}
 use Rattle.frames.specs.Reading.{Said, First, Faulty, NotYet, behind, body_in, body_len, frame_of, said}
@@ -25,14 +25,14 @@ are_body bytes are = AreBytes-take (body_len bytes) (drop 5 bytes) (AreBytes-dro
 
 -- ---- what is said is read
 
-no_number : (n : ℕ) (found : Option Kind) → kind_with n ≡ found → ((kind : Kind) → n ≢ number_of kind) → kind_with n ≡ None
+no_number : (n : ℕ) (found : Option FrameKind) → kind_with n ≡ found → ((kind : FrameKind) → n ≢ number_of kind) → kind_with n ≡ None
 no_number n None e none = e
 no_number n (Some kind) e none = absurd (none kind (number_found_again n kind e))
 
-its_kind : (n : ℕ) (kind : Kind) → n ≡ number_of kind → kind_with n ≡ Some kind
+its_kind : (n : ℕ) (kind : FrameKind) → n ≡ number_of kind → kind_with n ≡ Some kind
 its_kind n kind e = ap kind_with e ∙ kind_again kind
 
-no_frame : (kind : Kind) (body : List ℕ) (read : Result Frame FrameFault) → frame_of kind body ≡ read → AreBytes body → IsNoBody kind body → frame_of kind body ≡ Err BadBody
+no_frame : (kind : FrameKind) (body : List ℕ) (read : Result Frame FrameFault) → frame_of kind body ≡ read → AreBytes body → IsNoBody kind body → frame_of kind body ≡ Err BadBody
 no_frame kind body (Ok frame) e are none = let found = yielded (frame_of kind body) frame (frame_yields kind body are) e in absurd (none frame found.fits found.kind_is found.body_is)
 no_frame kind body (Err fault) e are none = let is = faulted (frame_of kind body) fault (frame_yields kind body are) e in cc
 
@@ -44,7 +44,7 @@ bad_kind : (bytes : List ℕ) → HasLength bytes → 5 ≤ length bytes → kin
 unfolding said
 bad_kind bytes len five none = rw (le-ltb (length bytes) 4 len.whole, le-ltb longest_body (body_len bytes) len.few, le-ltb (length bytes) 5 five, none) refl
 
-bad_body : (bytes : List ℕ) (kind : Kind) → HasKind bytes kind → 5 + body_len bytes ≤ length bytes → frame_of kind (body_in bytes) ≡ Err BadBody → said bytes ≡ Faulty BadBody
+bad_body : (bytes : List ℕ) (kind : FrameKind) → HasKind bytes kind → 5 + body_len bytes ≤ length bytes → frame_of kind (body_in bytes) ≡ Err BadBody → said bytes ≡ Faulty BadBody
 unfolding said
 bad_body bytes kind has whole none =
     rw (le-ltb (length bytes) 4 has.len.whole, le-ltb longest_body (body_len bytes) has.len.few, le-ltb (length bytes) 5 has.whole, its_kind (slice_index bytes 4) kind has.number, le-ltb (length bytes) (5 + body_len bytes) whole, none) refl
@@ -58,7 +58,7 @@ unfolding said
 just_four bytes len is =
     rw (le-ltb (length bytes) 4 len.whole, le-ltb longest_body (body_len bytes) len.few, lt-ltb (length bytes) 5 (omega (arith, is))) refl
 
-not_whole : (bytes : List ℕ) (kind : Kind) → HasKind bytes kind → length bytes < 5 + body_len bytes → said bytes ≡ NotYet
+not_whole : (bytes : List ℕ) (kind : FrameKind) → HasKind bytes kind → length bytes < 5 + body_len bytes → said bytes ≡ NotYet
 unfolding said
 not_whole bytes kind has lt =
     rw (le-ltb (length bytes) 4 has.len.whole, le-ltb longest_body (body_len bytes) has.len.few, le-ltb (length bytes) 5 has.whole, its_kind (slice_index bytes 4) kind has.number, lt-ltb (length bytes) (5 + body_len bytes) lt) refl
@@ -87,7 +87,7 @@ five_parts (a ∷ b ∷ c ∷ []) five = absurd (omega (arith, five))
 five_parts (a ∷ b ∷ c ∷ d ∷ []) five = absurd (omega (arith, five))
 five_parts (a ∷ b ∷ c ∷ d ∷ n ∷ bytes) five = refl
 
-in_parts : (bytes : List ℕ) (kind : Kind) → AreBytes bytes → HasKind bytes kind → 5 + body_len bytes ≤ length bytes → bytes ≡ framed kind (body_in bytes) ++ behind bytes
+in_parts : (bytes : List ℕ) (kind : FrameKind) → AreBytes bytes → HasKind bytes kind → 5 + body_len bytes ≤ length bytes → bytes ≡ framed kind (body_in bytes) ++ behind bytes
 in_parts bytes kind are has whole =
     let len = body_len bytes in
     let head = take 4 bytes in
@@ -101,12 +101,12 @@ in_parts bytes kind are has whole =
     ∙ ap (λ (t : List ℕ). t ++ (number_of kind ∷ (body ++ behind bytes))) (sym spelled ∙ ap (number_bytes w32) (sym long))
     ∙ sym (append_assoc (number_bytes w32 (length body)) (number_of kind ∷ body) (behind bytes))
 
-first_is : (bytes : List ℕ) (kind : Kind) (frame : Frame) → AreBytes bytes → HasKind bytes kind → 5 + body_len bytes ≤ length bytes → IsFrameOf kind (body_in bytes) frame → IsFirst bytes frame (behind bytes)
+first_is : (bytes : List ℕ) (kind : FrameKind) (frame : Frame) → AreBytes bytes → HasKind bytes kind → 5 + body_len bytes ≤ length bytes → IsFrameOf kind (body_in bytes) frame → IsFirst bytes frame (behind bytes)
 first_is bytes kind frame are has whole found =
     let body = body_in bytes in
     let few : length body ≤ longest_body = omega (arith, length-take (body_len bytes) (drop 5 bytes), has.len.few) in
     let same : framed (kind_of frame) (body_of frame) ≡ framed kind body =
-    ap (λ (k : Kind). framed k (body_of frame)) found.kind_is ∙ ap (framed kind) found.body_is in
+    ap (λ (k : FrameKind). framed k (body_of frame)) found.kind_is ∙ ap (framed kind) found.body_is in
     let short : ltb longest_body (length (body_of frame)) ≡ false = subst (λ (t : List ℕ). ltb longest_body (length t) ≡ false) (sym found.body_is) (le-ltb longest_body (length body) few) in
     record {
       text = framed (kind_of frame) (body_of frame);
@@ -118,7 +118,7 @@ first_is bytes kind frame are has whole found =
 abbrev Something : List ℕ → Type 0
 Something bytes = (what : Said) × Says bytes what
 
-by_frame : (bytes : List ℕ) (kind : Kind) (read : Result Frame FrameFault) → frame_of kind (body_in bytes) ≡ read → AreBytes bytes → HasKind bytes kind → 5 + body_len bytes ≤ length bytes → Something bytes
+by_frame : (bytes : List ℕ) (kind : FrameKind) (read : Result Frame FrameFault) → frame_of kind (body_in bytes) ≡ read → AreBytes bytes → HasKind bytes kind → 5 + body_len bytes ≤ length bytes → Something bytes
 by_frame bytes kind (Ok frame) e are has whole =
     (First frame (behind bytes), first_is bytes kind frame are has whole (yielded (frame_of kind (body_in bytes)) frame (frame_yields kind (body_in bytes) (are_body bytes are)) e))
 by_frame bytes kind (Err fault) e are has whole = (
@@ -128,12 +128,12 @@ by_frame bytes kind (Err fault) e are has whole = (
     has,
     whole,
     λ frame fits is its.
-        let again : frame_of kind (body_in bytes) ≡ Ok frame = subst (λ (t : List ℕ). frame_of kind t ≡ Ok frame) its (subst (λ (k : Kind). frame_of k (body_of frame) ≡ Ok frame) is (body_again frame fits)) in
+        let again : frame_of kind (body_in bytes) ≡ Ok frame = subst (λ (t : List ℕ). frame_of kind t ≡ Ok frame) its (subst (λ (k : FrameKind). frame_of k (body_of frame) ≡ Ok frame) is (body_again frame fits)) in
         absurd cc,
   ),
 )
 
-by_number : (bytes : List ℕ) (found : Option Kind) → kind_with (slice_index bytes 4) ≡ found → AreBytes bytes → HasLength bytes → 5 ≤ length bytes → Something bytes
+by_number : (bytes : List ℕ) (found : Option FrameKind) → kind_with (slice_index bytes 4) ≡ found → AreBytes bytes → HasLength bytes → 5 ≤ length bytes → Something bytes
 by_number bytes None e are len five =
     (Faulty BadKind, (len, five, λ kind is. let again : kind_with (slice_index bytes 4) ≡ Some kind = its_kind (slice_index bytes 4) kind is in absurd cc))
 by_number bytes (Some kind) e are len five =

@@ -7,7 +7,7 @@ use Rattle.byte_codec.specs.Field.{number_bytes, number_in}
 use Rattle.byte_codec.proofs.FieldLaws.{four}
 use Rattle.frames.specs.declared.fault.FrameFault.TheVariants.{TooLong, BadKind}
 use Rattle.frames.specs.declared.frame.Frame.{Frame}
-use Rattle.frames.specs.declared.kind.Kind.{Kind}
+use Rattle.frames.specs.declared.kind.FrameKind.{FrameKind}
 use Rattle.frames.specs.FrameText.{Fits, body_of, framed, frame_text, kind_of, longest_body}
 use Rattle.frames.specs.Kind.{kind_with, number_of}
 use Rattle.frames.specs.Reading.{Said, First, Faulty, NotYet, frame_of, said, said_by, said_frame}
@@ -18,7 +18,7 @@ abbrev pub of_four : ℕ → ℕ → ℕ → ℕ → ℕ
 of_four a b c d = number_in w32 (a ∷ b ∷ c ∷ d ∷ [])
 
 -- what follows the number of a kind, where a body has this length
-abbrev pub said_behind : Option Kind → ℕ → List ℕ → Said
+abbrev pub said_behind : Option FrameKind → ℕ → List ℕ → Said
 said_behind None len bytes = Faulty BadKind
 said_behind (Some kind) len bytes = cond (ltb (length bytes) len) NotYet (said_frame (frame_of kind (take len bytes)) (drop len bytes))
 
@@ -32,7 +32,7 @@ longer all bytes len e = elim (cases_lt (length bytes) len) [
   | inr le ↦ le-ltb (length all) (5 + len) (omega (arith, le, e)) ∙ sym (le-ltb (length bytes) len le)
 ]
 
-by_kind : (kind : Option Kind) (a b c d n : ℕ) (bytes : List ℕ) → said_by kind (a ∷ b ∷ c ∷ d ∷ n ∷ bytes) ≡ said_behind kind (of_four a b c d) bytes
+by_kind : (kind : Option FrameKind) (a b c d n : ℕ) (bytes : List ℕ) → said_by kind (a ∷ b ∷ c ∷ d ∷ n ∷ bytes) ≡ said_behind kind (of_four a b c d) bytes
 by_kind None a b c d n bytes = refl
 by_kind (Some kind) a b c d n bytes =
     let len = of_four a b c d in
@@ -51,7 +51,7 @@ is_long a b c d n bytes =
 
 -- ---- a text in front
 
-pub front_is : (head body rest : List ℕ) (n : ℕ) (kind : Kind) → length head ≡ 4 → number_in w32 head ≡ length body → length body ≤ longest_body → kind_with n ≡ Some kind → said ((head ++ (n ∷ body)) ++ rest) ≡ said_frame (frame_of kind body) rest
+pub front_is : (head body rest : List ℕ) (n : ℕ) (kind : FrameKind) → length head ≡ 4 → number_in w32 head ≡ length body → length body ≤ longest_body → kind_with n ≡ Some kind → said ((head ++ (n ∷ body)) ++ rest) ≡ said_frame (frame_of kind body) rest
 front_is [] body rest n kind four e few is = absurd (omega (arith, four))
 front_is (a ∷ []) body rest n kind four e few is = absurd (omega (arith, four))
 front_is (a ∷ b ∷ []) body rest n kind four e few is = absurd (omega (arith, four))

@@ -6,8 +6,8 @@ use Rattle.frames.specs.declared.answer.BrokerAnswer.{BrokerAnswer}
 use Rattle.frames.specs.declared.answer.BrokerAnswer.TheVariants as answers
 use Rattle.frames.specs.declared.frame.Frame.{Frame}
 use Rattle.frames.specs.declared.frame.Frame.TheVariants.{Ask, Empty, Posted, Ended, Stale}
-use Rattle.frames.specs.declared.kind.Kind.{Kind}
-use Rattle.frames.specs.declared.kind.Kind.TheVariants as kinds
+use Rattle.frames.specs.declared.kind.FrameKind.{FrameKind}
+use Rattle.frames.specs.declared.kind.FrameKind.TheVariants as kinds
 use Rattle.frames.specs.FrameText.{body_of}
 use Rattle.frames.specs.Says.{IsFirst}
 
@@ -28,7 +28,7 @@ pub record IsAnswer (bytes body : List ℕ) (answer : BrokerAnswer) : Type 0 whe
   pub is_told : answer ≡ answer_of frame
 
 -- the answer that a frame of this kind and with this body is
-abbrev pub answer_by : Kind → List ℕ → BrokerAnswer
+abbrev pub answer_by : FrameKind → List ℕ → BrokerAnswer
 answer_by kinds.Ask body = answers.Ask
 answer_by kinds.Empty body = answers.Empty
 answer_by kinds.Posted body = answers.Posted

@@ -11,8 +11,8 @@ use Rattle.frames.specs.declared.fault.FrameFault.{FrameFault}
 use Rattle.frames.specs.declared.fault.FrameFault.TheVariants.{TooLong, NoMemory}
 use Rattle.frames.specs.declared.frame.Frame.{Frame}
 use Rattle.frames.specs.declared.frame.Frame.TheVariants.{Take, Ask, Empty, Post, Posted, Ended, Stale, NotAsked, Claim, Claimed, Unanswered, LastGeneration, Mount, Mounted, Seated, Attach, Attached, Takeover}
-use Rattle.frames.specs.declared.kind.Kind.{Kind}
-use Rattle.frames.specs.declared.kind.Kind.TheVariants as kinds
+use Rattle.frames.specs.declared.kind.FrameKind.{FrameKind}
+use Rattle.frames.specs.declared.kind.FrameKind.TheVariants as kinds
 use Rattle.frames.specs.declared.kind.MessageKind.{MessageKind}
 use Rattle.frames.specs.declared.kind.MessageKind.TheVariants as messages
 use Rattle.frames.specs.Kind.{number_of}
@@ -34,7 +34,7 @@ message_kind (Data session generation bytes) = messages.Data
 message_kind (Part session generation position count bytes) = messages.Part
 message_kind (Failed session) = messages.Failed
 
-abbrev pub kind_of : Frame → Kind
+abbrev pub kind_of : Frame → FrameKind
 kind_of (Take generation) = kinds.Take
 kind_of (Ask request) = kinds.Ask
 kind_of Empty = kinds.Empty
@@ -98,7 +98,7 @@ body_of (Takeover message) = message_body message
 -- ---- texts
 
 -- the text of a frame with this kind and this body: the length of the body, the number of the kind, the body
-abbrev pub framed : Kind → List ℕ → List ℕ
+abbrev pub framed : FrameKind → List ℕ → List ℕ
 framed kind body = number_bytes w32 (length body) ++ (number_of kind ∷ body)
 
 -- the text of a frame, if its body is not too long

@@ -1,7 +1,7 @@
 -- The kinds of frames, a number for each. (This project's own.)
 use Rattle.std.specs.Prelude.{ℕ, List, [], ◌∷◌, ◌==◌, Option, Some, None, if◌then◌else◌}
-use Rattle.frames.specs.declared.kind.Kind.{Kind}
-use Rattle.frames.specs.declared.kind.Kind.TheVariants as kinds
+use Rattle.frames.specs.declared.kind.FrameKind.{FrameKind}
+use Rattle.frames.specs.declared.kind.FrameKind.TheVariants as kinds
 use Rattle.frames.specs.declared.kind.MessageKind.{MessageKind}
 use Rattle.frames.specs.declared.kind.MessageKind.TheVariants as messages
 
@@ -18,7 +18,7 @@ message_number messages.Failed = 39
 message_number messages.Part = 40
 
 -- the number of each kind of frame
-abbrev pub number_of : Kind → ℕ
+abbrev pub number_of : FrameKind → ℕ
 number_of kinds.Take = 1
 number_of kinds.Ask = 2
 number_of kinds.Empty = 3
@@ -52,16 +52,16 @@ unfoldable pub message_kind_with : ℕ → Option MessageKind
 message_kind_with n = first_with message_number n message_kinds None
 
 -- all kinds of frames but those of messages
-abbrev pub plain_kinds : List Kind
+abbrev pub plain_kinds : List FrameKind
 plain_kinds = kinds.Take ∷ kinds.Ask ∷ kinds.Empty ∷ kinds.Post ∷ kinds.Posted ∷ kinds.Ended ∷ kinds.Stale ∷ kinds.NotAsked ∷ kinds.Claim ∷ kinds.Claimed ∷ kinds.Unanswered ∷ kinds.LastGeneration ∷ kinds.Mount ∷ kinds.Mounted ∷ kinds.Seated ∷ kinds.Attach ∷ kinds.Attached ∷ []
 
 -- the kind of the frames that carry this kind of message
-abbrev pub of_takeover : Option MessageKind → Option Kind
+abbrev pub of_takeover : Option MessageKind → Option FrameKind
 of_takeover None = None
 of_takeover (Some kind) = Some (kinds.Takeover kind)
 
 -- the kind of frame that has this number, if there is one
-unfoldable pub kind_with : ℕ → Option Kind
+unfoldable pub kind_with : ℕ → Option FrameKind
 kind_with n = first_with number_of n plain_kinds (of_takeover (message_kind_with n))
 
 -- ---- frames without bytes of any length
@@ -73,7 +73,7 @@ IsPlainMessage messages.Part = ⊥
 IsPlainMessage kind = Unit {0}
 
 -- a frame of this kind keeps no bytes of its body
-abbrev pub IsPlain : Kind → Type 0
+abbrev pub IsPlain : FrameKind → Type 0
 IsPlain kinds.Ask = ⊥
 IsPlain kinds.Post = ⊥
 IsPlain (kinds.Takeover kind) = IsPlainMessage kind

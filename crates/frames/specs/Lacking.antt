@@ -2,13 +2,13 @@
 use Rattle.std.specs.Prelude.{ℕ, ◌+◌, ◌-◌, nat_lt, List, length, slice_index, Option, Some, None, Result, Ok, Err, if◌then◌else◌}
 use Rattle.frames.specs.declared.fault.FrameFault.{FrameFault}
 use Rattle.frames.specs.declared.fault.FrameFault.TheVariants.{TooLong, BadKind}
-use Rattle.frames.specs.declared.kind.Kind.{Kind}
+use Rattle.frames.specs.declared.kind.FrameKind.{FrameKind}
 use Rattle.frames.specs.FrameText.{longest_body}
 use Rattle.frames.specs.Kind.{kind_with}
 use Rattle.frames.specs.Reading.{body_len}
 
 -- how many bytes of the body are lacking after the number of this kind, or BadKind if the number is of no kind
-abbrev pub lacking_by : Option Kind → List ℕ → Result ℕ FrameFault
+abbrev pub lacking_by : Option FrameKind → List ℕ → Result ℕ FrameFault
 lacking_by None bytes = Err BadKind
 lacking_by (Some kind) bytes = Ok (5 + body_len bytes - length bytes)
 

@@ -1,16 +1,16 @@
 -- How a body is read as a frame, and what is at the front of a stream of bytes. (This project's own.)
-use Rattle.std.specs.Prelude.{◌≡◌, ◌≢◌, ◌≤◌, ◌<◌, IsOkAnd, ℕ, suc, zero, ◌+◌, ◌*◌, ◌==◌, nat_lt, nat_le, ◌&&◌, List, [], ◌∷◌, length, take, drop, slice_index, Option, Some, None, Result, Ok, Err, if◌then◌else◌}
+use Rattle.std.specs.Prelude.{◌≡◌, ℕ, suc, zero, ◌+◌, ◌*◌, ◌==◌, nat_lt, nat_le, ◌&&◌, List, [], ◌∷◌, length, take, drop, slice_index, Option, Some, None, Result, Ok, Err, if◌then◌else◌}
 use Rattle.std.specs.Int.{Width, w16, w32, w64, byte_len}
 use Rattle.byte_codec.specs.Field.{number_in}
 use Rattle.byte_codec.specs.Reading.{◌>>=◌, number_at}
 use Rattle.takeover_core.specs.declared.message.Message.{Message}
 use Rattle.takeover_core.specs.declared.message.Message.TheVariants.{Offer, Choice, NoCommon, Busy, Ready, Pong, Data, Part, Failed}
 use Rattle.frames.specs.declared.fault.FrameFault.{FrameFault}
-use Rattle.frames.specs.declared.fault.FrameFault.TheVariants.{TooLong, BadKind, BadBody, NoMemory}
+use Rattle.frames.specs.declared.fault.FrameFault.TheVariants.{TooLong, BadKind, BadBody}
 use Rattle.frames.specs.declared.frame.Frame.{Frame}
 use Rattle.frames.specs.declared.frame.Frame.TheVariants.{Take, Ask, Empty, Post, Posted, Ended, Stale, NotAsked, Claim, Claimed, Unanswered, LastGeneration, Mount, Mounted, Seated, Attach, Attached, Takeover}
-use Rattle.frames.specs.declared.kind.Kind.{Kind}
-use Rattle.frames.specs.declared.kind.Kind.TheVariants as kinds
+use Rattle.frames.specs.declared.kind.FrameKind.{FrameKind}
+use Rattle.frames.specs.declared.kind.FrameKind.TheVariants as kinds
 use Rattle.frames.specs.declared.kind.MessageKind.{MessageKind}
 use Rattle.frames.specs.declared.kind.MessageKind.TheVariants as messages
 use Rattle.frames.specs.FrameText.{longest_body}
@@ -22,25 +22,6 @@ use Rattle.frames.specs.Kind.{kind_with}
 abbrev pub Is : {X Y : Type 0} → (X → Y) → Result X FrameFault → Result Y FrameFault → Type 0
 Is view (Ok x) read = read ≡ Ok (view x)
 Is view (Err fault) read = (fault ≡ BadBody) × (read ≡ Err BadBody)
-
--- a message carries bytes, at least one, which are copied when the message is read
-abbrev pub HasImage : Message → Type 0
-HasImage (Data session generation bytes) = bytes ≢ []
-HasImage (Part session generation position count bytes) = bytes ≢ []
-HasImage message = ⊥
-
--- a frame carries bytes, at least one, which are copied when the frame is read
-abbrev pub HasBytes : Frame → Type 0
-HasBytes (Ask request) = request ≢ []
-HasBytes (Post generation reply) = reply ≢ []
-HasBytes (Takeover message) = HasImage message
-HasBytes frame = ⊥
-
--- a call returned what `read` is; only instead of a value with bytes to copy may it return NoMemory
-abbrev pub Gives : {X : Type 0} → (X → Type 0) → Result X FrameFault → Result X FrameFault → Type 0
-Gives Copied (Ok x) read = read ≡ Ok x
-Gives Copied (Err NoMemory) read = IsOkAnd read Copied
-Gives Copied (Err fault) read = read ≡ Err fault
 
 -- the number that a body is, if it has as many bytes as the width, else BadBody
 unfoldable pub alone : Width → List ℕ → Result ℕ FrameFault
@@ -97,7 +78,7 @@ abbrev pub bare : Frame → List ℕ → Result Frame FrameFault
 bare frame body = nothing body >>= λ _. Ok frame
 
 -- the frame of this kind with this body, or BadBody
-unfoldable pub frame_of : Kind → List ℕ → Result Frame FrameFault
+unfoldable pub frame_of : FrameKind → List ℕ → Result Frame FrameFault
 frame_of kinds.Take body = alone w64 body >>= λ generation. Ok (Take generation)
 frame_of kinds.Ask body = Ok (Ask body)
 frame_of kinds.Empty body = bare Empty body
@@ -142,7 +123,7 @@ said_frame (Ok frame) rest = First frame rest
 said_frame (Err fault) rest = Faulty fault
 
 -- what is at the front, once the number of the kind is there, by the kind that has the number, if any
-abbrev pub said_by : Option Kind → List ℕ → Said
+abbrev pub said_by : Option FrameKind → List ℕ → Said
 said_by None bytes = Faulty BadKind
 said_by (Some kind) bytes =
     if nat_lt (length bytes) (5 + body_len bytes) then NotYet
@@ -155,39 +136,3 @@ said bytes =
     else if nat_lt longest_body (body_len bytes) then Faulty TooLong
     else if nat_lt (length bytes) 5 then NotYet
     else said_by (kind_with (slice_index bytes 4)) bytes
-
--- the frame at the front has this kind and a body of this length, and is read from that body
-abbrev pub IsFound : List ℕ → Kind × ℕ → Type 0
-IsFound bytes found =
-    (5 + found.1 ≤ length bytes)
-    × (said bytes ≡ said_frame (frame_of found.0 (take found.1 (drop 5 bytes))) (drop (5 + found.1) bytes))
-
--- the frame at the front has this fault, which is not NoMemory
-abbrev pub IsFaulty : List ℕ → FrameFault → Type 0
-IsFaulty bytes NoMemory = ⊥
-IsFaulty bytes fault = said bytes ≡ Faulty fault
-
--- this is found at the front: no whole frame, or a kind and the length of a body, or a fault
-abbrev pub Finds : List ℕ → Result (Option (Kind × ℕ)) FrameFault → Type 0
-Finds bytes (Ok None) = said bytes ≡ NotYet
-Finds bytes (Ok (Some found)) = IsFound bytes found
-Finds bytes (Err fault) = IsFaulty bytes fault
-
--- the frame at the front has bytes that are copied, which takes memory
-abbrev pub SaysCopied : Said → Type 0
-SaysCopied (First frame rest) = HasBytes frame
-SaysCopied what = ⊥
-
--- this is read at the front: no whole frame, or a frame and how many bytes it takes up, or a fault
-abbrev pub Reads : List ℕ → Result (Option (Frame × ℕ)) FrameFault → Type 0
-Reads bytes (Ok None) = said bytes ≡ NotYet
-Reads bytes (Ok (Some first)) = (first.1 ≤ length bytes) × (said bytes ≡ First first.0 (drop first.1 bytes))
-Reads bytes (Err NoMemory) = SaysCopied (said bytes)
-Reads bytes (Err fault) = said bytes ≡ Faulty fault
-
--- this is measured at the front: no whole frame, or the length of a whole frame, or a fault
-abbrev pub Measures : List ℕ → Result (Option ℕ) FrameFault → Type 0
-Measures bytes (Ok None) = said bytes ≡ NotYet
-Measures bytes (Ok (Some used)) =
-    (0 < used) × (used ≤ length bytes) × (frame : Frame) × (said bytes ≡ First frame (drop used bytes))
-Measures bytes (Err fault) = IsFaulty bytes fault

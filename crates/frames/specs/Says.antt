@@ -2,7 +2,7 @@
 use Rattle.std.specs.Prelude.{◌≡◌, ◌≢◌, ◌⊎◌, ◌<◌, ◌≤◌, ℕ, ◌+◌, List, ◌++◌, length, slice_index, Some}
 use Rattle.frames.specs.declared.fault.FrameFault.TheVariants.{TooLong, BadKind, BadBody}
 use Rattle.frames.specs.declared.frame.Frame.{Frame}
-use Rattle.frames.specs.declared.kind.Kind.{Kind}
+use Rattle.frames.specs.declared.kind.FrameKind.{FrameKind}
 use Rattle.frames.specs.FrameText.{Fits, body_of, frame_text, kind_of, longest_body}
 use Rattle.frames.specs.Kind.{number_of}
 use Rattle.frames.specs.Reading.{Said, First, Faulty, NotYet, body_in, body_len}
@@ -20,13 +20,13 @@ pub record HasLength (bytes : List ℕ) : Type 0 where
   pub few : body_len bytes ≤ longest_body
 
 -- such a length is followed by the number of this kind
-pub record HasKind (bytes : List ℕ) (kind : Kind) : Type 0 where
+pub record HasKind (bytes : List ℕ) (kind : FrameKind) : Type 0 where
   pub len : HasLength bytes
   pub whole : 5 ≤ length bytes
   pub number : slice_index bytes 4 ≡ number_of kind
 
 -- no frame of this kind has this body
-abbrev pub IsNoBody : Kind → List ℕ → Type 0
+abbrev pub IsNoBody : FrameKind → List ℕ → Type 0
 IsNoBody kind body = (frame : Frame) → Fits frame → kind_of frame ≡ kind → body_of frame ≢ body
 
 -- what the bytes say, by texts. A frame: its text is in front. TooLong: the length is whole and too long. BadKind: a
@@ -36,11 +36,11 @@ abbrev pub Says : List ℕ → Said → Type 0
 Says bytes (First frame rest) = IsFirst bytes frame rest
 Says bytes (Faulty TooLong) = (4 ≤ length bytes) × (longest_body < body_len bytes)
 Says bytes (Faulty BadKind) =
-    HasLength bytes × (5 ≤ length bytes) × ((kind : Kind) → slice_index bytes 4 ≢ number_of kind)
+    HasLength bytes × (5 ≤ length bytes) × ((kind : FrameKind) → slice_index bytes 4 ≢ number_of kind)
 Says bytes (Faulty BadBody) =
-    (kind : Kind) × HasKind bytes kind × (5 + body_len bytes ≤ length bytes) × IsNoBody kind (body_in bytes)
+    (kind : FrameKind) × HasKind bytes kind × (5 + body_len bytes ≤ length bytes) × IsNoBody kind (body_in bytes)
 Says bytes (Faulty fault) = ⊥
 Says bytes NotYet =
     (length bytes < 4)
     ⊎ ((HasLength bytes × (length bytes ≡ 4))
-    ⊎ ((kind : Kind) × HasKind bytes kind × (length bytes < 5 + body_len bytes)))
+    ⊎ ((kind : FrameKind) × HasKind bytes kind × (length bytes < 5 + body_len bytes)))

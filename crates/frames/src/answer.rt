@@ -8,7 +8,7 @@ ghost use Rattle.frames.specs.Reading.{Faulty, frame_of, said};
 
 use crate::FrameFault;
 use crate::front::{LENGTH, is_body};
-use crate::kind::Kind;
+use crate::kind::FrameKind;
 use byte_codec::u64_in;
 
 /// What the broker answers to a Take or a Post. It holds no memory: the request of an `Ask` is the body of the frame.
@@ -30,17 +30,17 @@ pub enum BrokerAnswer {
 
 /// Returns the answer that a frame of this kind and with this body is.
 #[tactic(auto, unfolding(crate::specs::Reading::frame_of, crate::specs::Reading::alone))]
-fn answer_by(kind: Kind, body: &[u8]) -> BrokerAnswer
+fn answer_by(kind: FrameKind, body: &[u8]) -> BrokerAnswer
     requires whole { is_ok (frame_of kind body.now) ≡ true }
     ensures answer { result ≡ answer_by kind body.now }
     ensures bytes { AreBytes body.now }
 {
     match kind {
-        Kind::Ask => BrokerAnswer::Ask,
-        Kind::Empty => BrokerAnswer::Empty,
-        Kind::Posted => BrokerAnswer::Posted,
-        Kind::Ended => BrokerAnswer::Ended,
-        Kind::Stale => BrokerAnswer::Stale { now: u64_in(body) },
+        FrameKind::Ask => BrokerAnswer::Ask,
+        FrameKind::Empty => BrokerAnswer::Empty,
+        FrameKind::Posted => BrokerAnswer::Posted,
+        FrameKind::Ended => BrokerAnswer::Ended,
+        FrameKind::Stale => BrokerAnswer::Stale { now: u64_in(body) },
         _ => BrokerAnswer::Other,
     }
 }
@@ -56,7 +56,7 @@ impl BrokerAnswer {
         ensures faulty { IfErr result (λ fault. said (head.now ++ body.now) ≡ Faulty fault) }
         ensures bad { IfErr result (λ fault. fault ≡ BadBody) }
     {
-        match Kind::with(head[LENGTH]) {
+        match FrameKind::with(head[LENGTH]) {
             Some(kind) => {
                 if !is_body(kind, body) {
                     return Err(FrameFault::BadBody);

@@ -18,7 +18,7 @@ pub(crate) enum MessageKind {
 
 /// The kind of a frame.
 #[derive(Clone, Copy)]
-pub(crate) enum Kind {
+pub(crate) enum FrameKind {
     Take,
     Ask,
     Empty,
@@ -77,32 +77,32 @@ impl MessageKind {
     }
 }
 
-impl Kind {
+impl FrameKind {
     /// Returns the kind of frame that has this number, if there is one.
     #[tactic(auto, unfolding(crate::specs::Kind::kind_with))]
-    pub(crate) fn with(number: u8) -> Option<Kind>
+    pub(crate) fn with(number: u8) -> Option<FrameKind>
         ensures kind { result ≡ kind_with number }
     {
         match number {
-            1 => Some(Kind::Take),
-            2 => Some(Kind::Ask),
-            3 => Some(Kind::Empty),
-            4 => Some(Kind::Post),
-            5 => Some(Kind::Posted),
-            6 => Some(Kind::Ended),
-            7 => Some(Kind::Stale),
-            8 => Some(Kind::NotAsked),
-            9 => Some(Kind::Claim),
-            10 => Some(Kind::Claimed),
-            11 => Some(Kind::Unanswered),
-            12 => Some(Kind::LastGeneration),
-            13 => Some(Kind::Mount),
-            14 => Some(Kind::Mounted),
-            15 => Some(Kind::Seated),
-            16 => Some(Kind::Attach),
-            17 => Some(Kind::Attached),
+            1 => Some(FrameKind::Take),
+            2 => Some(FrameKind::Ask),
+            3 => Some(FrameKind::Empty),
+            4 => Some(FrameKind::Post),
+            5 => Some(FrameKind::Posted),
+            6 => Some(FrameKind::Ended),
+            7 => Some(FrameKind::Stale),
+            8 => Some(FrameKind::NotAsked),
+            9 => Some(FrameKind::Claim),
+            10 => Some(FrameKind::Claimed),
+            11 => Some(FrameKind::Unanswered),
+            12 => Some(FrameKind::LastGeneration),
+            13 => Some(FrameKind::Mount),
+            14 => Some(FrameKind::Mounted),
+            15 => Some(FrameKind::Seated),
+            16 => Some(FrameKind::Attach),
+            17 => Some(FrameKind::Attached),
             other => match MessageKind::with(other) {
-                Some(kind) => Some(Kind::Takeover(kind)),
+                Some(kind) => Some(FrameKind::Takeover(kind)),
                 None => None,
             },
         }
@@ -113,24 +113,24 @@ impl Kind {
         ensures number { result ≡ number_of self }
     {
         match self {
-            Kind::Take => 1,
-            Kind::Ask => 2,
-            Kind::Empty => 3,
-            Kind::Post => 4,
-            Kind::Posted => 5,
-            Kind::Ended => 6,
-            Kind::Stale => 7,
-            Kind::NotAsked => 8,
-            Kind::Claim => 9,
-            Kind::Claimed => 10,
-            Kind::Unanswered => 11,
-            Kind::LastGeneration => 12,
-            Kind::Mount => 13,
-            Kind::Mounted => 14,
-            Kind::Seated => 15,
-            Kind::Attach => 16,
-            Kind::Attached => 17,
-            Kind::Takeover(kind) => kind.number(),
+            FrameKind::Take => 1,
+            FrameKind::Ask => 2,
+            FrameKind::Empty => 3,
+            FrameKind::Post => 4,
+            FrameKind::Posted => 5,
+            FrameKind::Ended => 6,
+            FrameKind::Stale => 7,
+            FrameKind::NotAsked => 8,
+            FrameKind::Claim => 9,
+            FrameKind::Claimed => 10,
+            FrameKind::Unanswered => 11,
+            FrameKind::LastGeneration => 12,
+            FrameKind::Mount => 13,
+            FrameKind::Mounted => 14,
+            FrameKind::Seated => 15,
+            FrameKind::Attach => 16,
+            FrameKind::Attached => 17,
+            FrameKind::Takeover(kind) => kind.number(),
         }
     }
 }

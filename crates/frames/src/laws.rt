@@ -1,5 +1,5 @@
 //! The laws of frames and streams. Each law is the contract of a function that does nothing, over the definitions that
-//! the contracts of `Frame` and `FrameReader` cite.
+//! the contracts of `Frame` cite.
 ghost use Rattle.frames.specs.Laws.{EndsAsItParts, EndsOneWay, FaultStays, FramesJoin, HasAParting, HasOneParting, MoreChangesNothing, PiecesJoin, ReadsWhatWasWritten, SaysWhatIsRead};
 
 /// States that the text of a frame is read as that frame, whatever bytes follow, and that these bytes are left unread.
@@ -20,7 +20,7 @@ pub fn says_what_is_read()
     ensures law { SaysWhatIsRead }
 {}
 
-/// States that a stream ends in one way only, so that no other result of `FrameReader::finish` would be right.
+/// States that a stream ends in one way only.
 pub fn ends_one_way()
     ensures law { EndsOneWay }
 {}

@@ -10,12 +10,10 @@ mod front;
 mod kind;
 pub mod laws;
 mod parts;
-mod reader;
 mod writer;
 
 pub use answer::BrokerAnswer;
 pub use fault::FrameFault;
 pub use frame::Frame;
 pub use parts::missing;
-pub use reader::FrameReader;
 pub use writer::write_post_to;

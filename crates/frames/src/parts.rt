@@ -2,7 +2,7 @@
 ghost use Rattle.std.specs.Prelude.{◌≡◌, ◌<◌, ◌≤◌, ◌++◌, ℕ, List, [], Ok, length, IfOk, IfErr};
 ghost use Rattle.byte_codec.specs.Field.{AreBytes};
 ghost use Rattle.frames.specs.declared.fault.FrameFault.TheVariants.{BadBody};
-ghost use Rattle.frames.specs.declared.kind.Kind.TheVariants as kinds;
+ghost use Rattle.frames.specs.declared.kind.FrameKind.TheVariants as kinds;
 ghost use Rattle.frames.specs.declared.kind.MessageKind.TheVariants as messages;
 ghost use Rattle.frames.specs.FrameText.{kind_of};
 ghost use Rattle.frames.specs.Kind.{IsPlain};
@@ -12,7 +12,7 @@ ghost use Rattle.frames.specs.Says.{IsFirst};
 
 use crate::body::read_body;
 use crate::front::{BEFORE_BODY, LENGTH, LONGEST_BODY, is_body};
-use crate::kind::{Kind, MessageKind};
+use crate::kind::{FrameKind, MessageKind};
 use crate::{Frame, FrameFault};
 use byte_codec::{Bytes, u32_in, u64_in};
 use std::mem;
@@ -34,7 +34,7 @@ fn lacked(bytes: &[u8]) -> Result<usize, FrameFault>
     if bytes.len() < BEFORE_BODY {
         return Ok(BEFORE_BODY - bytes.len());
     }
-    if Kind::with(bytes[LENGTH]).is_none() {
+    if FrameKind::with(bytes[LENGTH]).is_none() {
         return Err(FrameFault::BadKind);
     }
     Ok((BEFORE_BODY + len).saturating_sub(bytes.len()))
@@ -124,8 +124,8 @@ fn taken(body: &mut Vec<u8>) -> Vec<u8>
 }
 
 /// Reads a frame of this kind from its body. Bytes that the frame keeps stay in the memory of `body`.
-#[tactic(auto, using(crate::proofs::PlainKinds::plain_is), unfolding(crate::specs::Reading::frame_of))]
-fn frame_of(kind: Kind, body: &mut Vec<u8>) -> Result<Frame, FrameFault>
+#[tactic(auto, unfolding(crate::specs::Reading::frame_of))]
+fn frame_of(kind: FrameKind, body: &mut Vec<u8>) -> Result<Frame, FrameFault>
     ensures frame { Is (λ x. x) result (frame_of kind body.old.items) }
     ensures bytes { AreBytes body.old.items }
     ensures plain { IsPlain kind → body.new ≡ body.old }
@@ -134,17 +134,17 @@ fn frame_of(kind: Kind, body: &mut Vec<u8>) -> Result<Frame, FrameFault>
         return Err(FrameFault::BadBody);
     }
     match kind {
-        Kind::Ask => Ok(Frame::Ask(Bytes::of(taken(body)))),
-        Kind::Post => post_of(taken(body)),
-        Kind::Takeover(MessageKind::Data) => match data_of(taken(body)) {
+        FrameKind::Ask => Ok(Frame::Ask(Bytes::of(taken(body)))),
+        FrameKind::Post => post_of(taken(body)),
+        FrameKind::Takeover(MessageKind::Data) => match data_of(taken(body)) {
             Ok(message) => Ok(Frame::Takeover(message)),
             Err(fault) => Err(fault),
         },
-        Kind::Takeover(MessageKind::Part) => match part_of(taken(body)) {
+        FrameKind::Takeover(MessageKind::Part) => match part_of(taken(body)) {
             Ok(message) => Ok(Frame::Takeover(message)),
             Err(fault) => Err(fault),
         },
-        other => read_body(*body.allocator(), other, body.as_slice()),
+        other => read_body(other, body.as_slice()),
     }
 }
 
@@ -160,7 +160,7 @@ impl Frame {
         ensures bad { IfErr result (λ fault. fault ≡ BadBody) }
         ensures plain { IfOk result (λ frame. IsPlain (kind_of frame) → body.new ≡ body.old) }
     {
-        match Kind::with(head[LENGTH]) {
+        match FrameKind::with(head[LENGTH]) {
             Some(kind) => match frame_of(kind, body) {
                 Ok(frame) => Ok(frame),
                 Err(fault) => Err(fault),

@@ -7,7 +7,7 @@ ghost use Rattle.frames.specs.FrameText.{Fits, FitsMessage, FitsVersion, HasRoom
 ghost use Rattle.frames.specs.Reading.{First, said};
 
 use crate::front::{BEFORE_BODY, LONGEST_BODY};
-use crate::kind::{Kind, MessageKind};
+use crate::kind::{FrameKind, MessageKind};
 use crate::{Frame, FrameFault};
 use byte_codec::{put_byte, put_slice, put_u16, put_u32, put_u64};
 use std::alloc::Global;
@@ -34,28 +34,28 @@ fn message_kind(message: &Message) -> MessageKind
 }
 
 /// Returns the kind of `frame`.
-fn kind_of(frame: &Frame) -> Kind
+fn kind_of(frame: &Frame) -> FrameKind
     ensures kind { result ≡ kind_of frame.now }
 {
     match frame {
-        Frame::Take { .. } => Kind::Take,
-        Frame::Ask(_) => Kind::Ask,
-        Frame::Empty => Kind::Empty,
-        Frame::Post { .. } => Kind::Post,
-        Frame::Posted => Kind::Posted,
-        Frame::Ended => Kind::Ended,
-        Frame::Stale { .. } => Kind::Stale,
-        Frame::NotAsked => Kind::NotAsked,
-        Frame::Claim { .. } => Kind::Claim,
-        Frame::Claimed { .. } => Kind::Claimed,
-        Frame::Unanswered { .. } => Kind::Unanswered,
-        Frame::LastGeneration => Kind::LastGeneration,
-        Frame::Mount => Kind::Mount,
-        Frame::Mounted { .. } => Kind::Mounted,
-        Frame::Seated => Kind::Seated,
-        Frame::Attach(_) => Kind::Attach,
-        Frame::Attached(_) => Kind::Attached,
-        Frame::Takeover(message) => Kind::Takeover(message_kind(message)),
+        Frame::Take { .. } => FrameKind::Take,
+        Frame::Ask(_) => FrameKind::Ask,
+        Frame::Empty => FrameKind::Empty,
+        Frame::Post { .. } => FrameKind::Post,
+        Frame::Posted => FrameKind::Posted,
+        Frame::Ended => FrameKind::Ended,
+        Frame::Stale { .. } => FrameKind::Stale,
+        Frame::NotAsked => FrameKind::NotAsked,
+        Frame::Claim { .. } => FrameKind::Claim,
+        Frame::Claimed { .. } => FrameKind::Claimed,
+        Frame::Unanswered { .. } => FrameKind::Unanswered,
+        Frame::LastGeneration => FrameKind::LastGeneration,
+        Frame::Mount => FrameKind::Mount,
+        Frame::Mounted { .. } => FrameKind::Mounted,
+        Frame::Seated => FrameKind::Seated,
+        Frame::Attach(_) => FrameKind::Attach,
+        Frame::Attached(_) => FrameKind::Attached,
+        Frame::Takeover(message) => FrameKind::Takeover(message_kind(message)),
     }
 }
 
@@ -256,7 +256,7 @@ fn put_post(text: &mut Vec<u8>, len: u32, generation: u64, reply: &[u8])
     ensures fits { Fits (APost generation reply.now) }
 {
     put_u32(text, len);
-    put_byte(text, Kind::Post.number());
+    put_byte(text, FrameKind::Post.number());
     put_u64(text, generation);
     put_slice(text, reply);
 }

@@ -14,12 +14,12 @@ use Rattle.fuse_ops.specs.Loading.{LoadsTold}
 use Rattle.fuse_ops.specs.Gifts.{served_over, Gave}
 use Rattle.fuse_ops.specs.Served.{ServedState, plain}
 use Rattle.fuse_ops.specs.Soundness.{IsSound, AreRemembered, AreLoaded}
-use Rattle.fuse_ops.specs.Work.{Finds, IsSamePlainly}
+use Rattle.fuse_ops.specs.Work.{Finds}
 use Rattle.fuse_ops.specs.declared.served.Found.{Found}
 use Rattle.fuse_ops.proofs.Keeping.{found-gave}
 use Rattle.fuse_ops.proofs.Loaded.{attr-content, gave-loaded, given-loaded, plainly-loaded, next-unloaded, load-true, told-new}
 use Rattle.fuse_ops.proofs.Making.{sound-plainly}
-use Rattle.fuse_ops.proofs.Remembering.{gave-entry, gave-remembers, given-remembered, plainly-remembers, remembers-in, remembers-plainly}
+use Rattle.fuse_ops.proofs.Remembering.{gave-entry, gave-remembers, given-remembered, plainly-remembers, remembers-in}
 
 -- what a daemon knows, which the type keeps
 abbrev pub Knows : ServedState → Type 0
@@ -77,11 +77,6 @@ module _ (served : ServedState) (dir : Number) (name : List ℕ) (found : Found)
       plainly-loaded (served_over served.tree map) (served_over served.tree now) (ap (λ (m : MapState). plain (served_over served.tree m)) after) (ap (λ (m : MapState). m.loaded) after) entered-knows.3,
     )
 
-    -- which is plainly what giving makes
-    remembered-plainly : IsSamePlainly (record served { map = given served.map dir name }) (served_over served.tree now)
-    remembered-plainly = remembers-plainly (record served { map = given served.map dir name }) served.tree map now number.0 found.file after
-        (record { plainly = ap (λ (m : MapState). plain (served_over served.tree m)) made; bad_items = ap (λ (m : MapState). m.bad_items) made })
-
     -- nothing was loaded of a number that is new
     remembered-loaded : (now.loaded ≡ served.map.loaded) × (now.limit ≡ served.map.limit)
     remembered-loaded = (
@@ -114,9 +109,6 @@ module _ (served : ServedState) (dir : Number) (name : List ℕ) (found : Found)
         ) where
           names : IsFileOf served.tree now.entries number.0 found.file
           names = subst (λ (m : MapState). IsFileOf served.tree m.entries number.0 found.file) (sym after) gave.names
-
-        pub loaded-plainly : IsSamePlainly (record served { map = given served.map dir name }) (served_over served.tree later)
-        loaded-plainly = record { plainly = plainly ∙ remembered-plainly.plainly; bad_items = ap (λ (m : MapState). m.bad_items) loads ∙ remembered-plainly.bad_items }
 
         pub loaded-told : LoadsTold served.map number attr later
         loaded-told = record {

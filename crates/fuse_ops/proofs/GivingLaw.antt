@@ -17,9 +17,9 @@ use Rattle.entry_table.specs.Entries.{has_number, stands_at, entry_of, entry_at,
 use Rattle.inode_map.specs.InodeMap.{give_fault_at}
 use Rattle.inode_map.specs.declared.inode_map.GiveFault.TheVariants.{NoNumber, TooMany}
 use Rattle.entry_table.specs.declared.kept.Kept.{Kept}
-use Rattle.fuse_ops.specs.Gifts.{served_over, Gave, IsPlaced, GivingLaw, PlaceLaw, NumberAtPlace, NewLaw}
+use Rattle.fuse_ops.specs.Gifts.{served_over, Gave, IsPlaced, GivingLaw, NewLaw}
 use Rattle.fuse_ops.specs.Served.{ServedState}
-use Rattle.fuse_ops.proofs.Fits.{Fits, sound-fits, sound-of_use, fits-sound, place-file, no-place-no_file}
+use Rattle.fuse_ops.proofs.Fits.{Fits, sound-fits, sound-of_use, fits-sound, place-file}
 use Rattle.fuse_ops.proofs.FitsChanged.{fits-changed}
 use Rattle.fuse_ops.proofs.FitsAdded.{IsNewPlace, fits-added, new-file, old-file, other-file}
 
@@ -35,13 +35,6 @@ new-sound tree limit is = record {
   each_of_use = λ n kept e. absurd (let none : ⊥ = cc in none);
   counts_fit = λ n kept e. absurd (let none : ⊥ = cc in none);
 }
-
--- the number of the file at a place
-pub number-at_place : PlaceLaw
-number-at_place served parent name dir file place = in_ (entry_at served.map.entries parent name) refl where
-  in_ : (o : Option Kept) → entry_at served.map.entries parent name ≡ o → NumberAtPlace served.tree served.map o file
-  in_ (Some kept) e = place-file served.tree served.map.next served.map.entries (sound-fits served place.sound) parent kept dir file name place.at place.child e
-  in_ None e = no-place-no_file served.tree served.map.next served.map.entries place.is_tree (sound-fits served place.sound) parent dir file name place.at place.child e
 
 -- the count was not yet the greatest, and a number was left
 below_greatest : (kept : Kept) → (if nat_le greatest_count kept.count then Some TooMany else None) ≡ None → kept.count < greatest_count

@@ -10,16 +10,11 @@ use Rattle.manifest.specs.Tree.{IsTree, file_of as tree_file, root}
 use Rattle.manifest.specs.declared.content.Content.{Content}
 use Rattle.entry_table.proofs.EntryLemmas.{numbers-bound, numbers-entry}
 use Rattle.entry_table.proofs.FileLemmas.{IsFileOf-same, named-known}
-use Rattle.entry_table.proofs.Counting.{counted-entry}
 use Rattle.entry_table.specs.Entries.{entry_of, count_of, is_root}
 use Rattle.entry_table.specs.declared.kept.Kept.{Kept}
 use Rattle.fuse_ops.specs.Served.{ServedState}
 use Rattle.fuse_ops.specs.Soundness.{IsSound, Names}
 use Rattle.fuse_ops.proofs.Fits.{sound-fits, named-apart}
-
--- a number that is counted names a file of the tree
-pub counted-file : (served : ServedState) → IsSound served → (n : ℕ) → 0 < count_of served.map.entries n → (file : FileId) × Names served n file × IsSome (tree_file served.tree file)
-counted-file served sound n some = let e = counted-entry served.map.entries n some in sound.names_a_file n (some-IsSome (entry_of served.map.entries n) e.0 e.1)
 
 -- what names a file is the root or was given
 pub named-range : (served : ServedState) → IsSound served → (n : ℕ) (file : FileId) → Names served n file → (1 ≤ n) × (n < served.map.next)

@@ -53,13 +53,6 @@ used-loaded xs n m a e = in_ (first_where (is_loaded_of n) xs) refl e where
   in_ None f h = h
   in_ (Some x) f h = found x f (x.number.0 == m) refl h
 
--- what is not loaded changes nothing by its use
-pub used-none : (xs : List LoadedAttr) (n : ℕ) → attr_of xs n ≡ None → used xs n ≡ xs
-used-none xs n e = in_ (first_where (is_loaded_of n) xs) e where
-  in_ : (o : Option LoadedAttr) → option_map attr_in o ≡ None → option_map_or (λ (x : LoadedAttr). x ∷ without_where (is_loaded_of n) xs) o xs ≡ xs
-  in_ None h = refl
-  in_ (Some x) h = absurd (let none : ⊥ = cc in none)
-
 -- what is left with some entries was told, and is of one of them
 pub left-loaded : (es : List Kept) (xs : List LoadedAttr) (m : ℕ) (a : Attr) → attr_of (filter (λ (l : LoadedAttr). is_kept es (loaded_number l)) xs) m ≡ Some a → (attr_of xs m ≡ Some a) × (is_kept es m ≡ true)
 left-loaded es [] m a e = absurd (let none : ⊥ = cc in none)

@@ -3,7 +3,6 @@ use Rattle.std.proofs.Common.{◌≡◌, ℕ, ◌<◌, ◌≤◌, Bool, true, fa
 use Rattle.std.specs.Prelude.{nat_le, if◌then◌else◌}
 use Rattle.std.proofs.lemmas.Bool.Decides.{nat_tests}
 use Rattle.eden_base.proofs.MemberLemmas.{some-IsSome, first-passes}
-use Rattle.eden_base.specs.Name.{IsNameText}
 use Rattle.eden_base.specs.Limits.{end_of_files, end_of_numbers}
 use Rattle.eden_base.specs.declared.attr.Attr.{Attr}
 use Rattle.eden_base.specs.declared.attr.Kind.{Kind}
@@ -15,7 +14,7 @@ use Rattle.eden_base.specs.declared.number.FileId.{FileId}
 use Rattle.eden_base.specs.declared.number.Number.{Number}
 use Rattle.checkout.proofs.CreateLaws.{child_of-created}
 use Rattle.manifest.specs.Tree.{Tree, IsTree, child_of, kind_of}
-use Rattle.checkout.specs.ChangedTree.{attr_of, is_unlinked, next_file, created}
+use Rattle.checkout.specs.ChangedTree.{is_unlinked, next_file, created}
 use Rattle.entry_table.proofs.EntryLemmas.{entry_of-first}
 use Rattle.entry_table.proofs.FileLemmas.{IsFileOf-same, linked-child}
 use Rattle.entry_table.proofs.Places.{stands-place}
@@ -125,12 +124,6 @@ module _ (served : ServedState) (dir : Number) (name : List ℕ) (above : FileId
   pub next-refused : (kind : Kind) (perm : Perm) (errno : Errno) (new : ServedState) → IsNextRefusal served.map.next errno → IsSamePlainly served new → Makes served dir name kind perm (Err errno) new
   next-refused kind perm errno new (inl (e, many)) same = makes_so kind perm (Err errno) new ((NoNumber, full_next served.map dir.0 name absent many, e), same)
   next-refused kind perm errno new (inr (e, few)) same = makes_so kind perm (Err errno) new ((NoMemory, (absent, clear_next served.map dir.0 name absent few), e), same)
-
-  -- a file was made, and its number given
-  pub made : (kind : Kind) (perm : Perm) (number : Number) (attr : Attr) (new : ServedState) → served.map.next < end_of_numbers → number ≡ number_given served.map dir.0 name →
-      attr_of (created served.tree above name kind perm) (next_file served.tree) ≡ Some attr → IsNameText name → IsSamePlainly (record { map = given served.map dir name; tree = created served.tree above name kind perm }) new →
-      Makes served dir name kind perm (Ok (number, attr)) new
-  made kind perm number attr new few is is_attr is_name same = makes_so kind perm (Ok (number, attr)) new (clear_next served.map dir.0 name absent few, is, is_attr, is_name, same)
 
   -- what every number names stays as it was
   pub made-keeps : (kind : Kind) (perm : Perm) → KeepsNames served (record served { tree = created served.tree above name kind perm })

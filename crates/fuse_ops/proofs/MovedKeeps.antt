@@ -221,13 +221,6 @@ recalled-child served now from dir name n file same sound remembered above is to
     let is_dir : c.dir_file ≡ dir = IsFileOf-same served.tree es from.0 c.dir_file dir c.at at in
     sym (ap (λ (s : ServedState). child_of s.tree dir name) same) ∙ ap (λ (y : FileId). child_of served.tree y name) (sym is_dir) ∙ c.child
 
--- no number was found
-pub unnumbered : (es : List Kept) (dir : ℕ) (name : List ℕ) → None ≡ option_map number_of_kept (entry_at es dir name) → entry_at es dir name ≡ None
-unnumbered es dir name e = in_ (entry_at es dir name) refl e where
-  in_ : (o : Option Kept) → entry_at es dir name ≡ o → None ≡ option_map number_of_kept o → entry_at es dir name ≡ None
-  in_ None at h = at
-  in_ (Some kept) at h = absurd (let none : ⊥ = cc in none)
-
 -- a file without a number moved
 pub moved-none : (map : MapState) (dir : Number) (name : List ℕ) (to : Number) (to_name : List ℕ) (r q : Option FileId) → entry_at map.entries dir.0 name ≡ None → r ≡ q → option_map_or (name_taken map to to_name) q map ≡ name_moved map dir name to to_name r
 moved-none map dir name to to_name r q none same =

@@ -1,5 +1,5 @@
 -- What the code makes in the room that was made before: a file under a name, its number, and what is remembered of it.
-use Rattle.std.proofs.Common.{◌≡◌, ℕ, ◌+◌, ◌<◌, ◌≤◌, Bool, true, false, List, [], ◌∷◌, ◌++◌, Option, Some, None, is_some, Ok, refl, arith, sym, ap, ◌∙◌, subst}
+use Rattle.std.proofs.Common.{◌≡◌, ℕ, ◌+◌, ◌<◌, ◌≤◌, Bool, true, false, List, [], ◌∷◌, ◌++◌, Option, Some, None, is_some, refl, arith, sym, ap, ◌∙◌, subst}
 use Rattle.std.specs.Prelude.{if◌then◌else◌}
 use Rattle.eden_base.specs.First.{changed_where}
 use Rattle.eden_base.specs.Limits.{end_of_numbers}
@@ -8,7 +8,6 @@ use Rattle.eden_base.specs.declared.attr.Kind.{Kind}
 use Rattle.eden_base.specs.declared.attr.Perm.{Perm}
 use Rattle.eden_base.specs.declared.number.FileId.{FileId}
 use Rattle.eden_base.specs.declared.number.Number.{Number}
-use Rattle.checkout.proofs.CreateLaws.{child_of-created}
 use Rattle.manifest.specs.Tree.{Tree, IsTree}
 use Rattle.checkout.specs.ChangedTree.{attr_of as file_attr, next_file, created}
 use Rattle.entry_table.specs.Entries.{stands_at, once_more, new_entry, entry_of, entry_at, number_of_kept, remembered, IsFileOf}
@@ -20,11 +19,11 @@ use Rattle.fuse_ops.specs.Loading.{LoadsTold}
 use Rattle.fuse_ops.specs.Gifts.{served_over, Gave}
 use Rattle.fuse_ops.specs.Served.{ServedState, PlainState, plain}
 use Rattle.fuse_ops.specs.Soundness.{IsSound}
-use Rattle.fuse_ops.specs.Work.{IsSamePlainly, Makes}
+use Rattle.fuse_ops.specs.Work.{IsSamePlainly}
 use Rattle.std.specs.Prelude.{IsSome}
 use Rattle.fuse_ops.specs.Soundness.{AreRemembered, AreLoaded}
 use Rattle.fuse_ops.proofs.Loaded.{attr-content, gave-loaded, given-loaded, plainly-loaded, stays-loaded, created-has, next-unloaded, load-true, told-new}
-use Rattle.fuse_ops.proofs.Making.{MayMake, sound-plainly, clear_next, absent, made, made-keeps, made-gave}
+use Rattle.fuse_ops.proofs.Making.{MayMake, sound-plainly, clear_next, absent, made-keeps, made-gave}
 use Rattle.fuse_ops.proofs.Remembering.{gave-entry, gave-remembers, given-remembered, plainly-remembers, stays-remembers}
 use Rattle.fuse_ops.specs.Changes.{KeepsNames}
 
@@ -72,14 +71,6 @@ module _ (served : ServedState) (dir : Number) (name : List ℕ) (above : FileId
   made-sound map ready tree r m t is =
       sound-plainly (record { map = given served.map dir name; tree = created served.tree above name kind perm }) (served_over tree map) (made-plainly map ready tree r m t).plainly
       (made-gave served dir name above may kind perm few (subst IsTree t is)).sound
-
-  -- and is what was promised
-  pub made-makes : (map ready : MapState) (tree : Tree) (number : Number) (attr : Attr) → ready ≡ record served.map { spare = 1 } → map ≡ given ready dir name → tree ≡ created served.tree above name kind perm →
-      IsTree tree → number ≡ number_given ready dir.0 name → file_attr tree (next_file served.tree) ≡ Some attr → Makes served dir name kind perm (Ok (number, attr)) (served_over tree map)
-  made-makes map ready tree number attr r m t is_tree is is_attr =
-      made served dir name above may kind perm number attr (served_over tree map) few (is ∙ ap (λ (x : MapState). number_given x dir.0 name) r)
-      (ap (λ (x : Tree). file_attr x (next_file served.tree)) (sym t) ∙ is_attr)
-      ((subst IsTree t is_tree).links_have_names above name (next_file served.tree) (child_of-created served.tree above name kind perm)) (made-plainly map ready tree r m t)
 
   -- the number names the file, and what is remembered is right
   pub made-remembers : (map ready : MapState) (tree : Tree) (number : Number) → ready ≡ record served.map { spare = 1 } → map ≡ given ready dir name → tree ≡ created served.tree above name kind perm →

@@ -22,7 +22,6 @@ use Rattle.fuse_ops.specs.Changes.{KeepsNames, MayLose}
 use Rattle.fuse_ops.specs.Gifts.{served_over, Gave, GaveOldOrNext}
 use Rattle.fuse_ops.specs.Served.{ServedState, PlainState, plain, name_taken}
 use Rattle.fuse_ops.specs.Soundness.{IsSound, Names, AreRemembered}
-use Rattle.fuse_ops.specs.Work.{IsSamePlainly}
 use Rattle.fuse_ops.proofs.ForgettingLaw.{forgets-well}
 use Rattle.fuse_ops.proofs.Keeping.{forgotten-sound}
 use Rattle.fuse_ops.proofs.Known.{named-range}
@@ -73,14 +72,6 @@ remembers served n file names right m f h = in_ (remembered-which served.map.rem
 pub remembers-in : (tree : Tree) (map now : MapState) (n : ℕ) (file : FileId) → now ≡ record map { remembered = remembered map.remembered n file } → IsFileOf tree map.entries n file →
     AreRemembered (served_over tree map) → AreRemembered (served_over tree now)
 remembers-in tree map now n file e names right = subst (λ (m : MapState). AreRemembered (served_over tree m)) (sym e) (remembers (served_over tree map) n file names right)
-
--- which is no part of the plain state
-pub remembers-plainly : (before : ServedState) (tree : Tree) (map now : MapState) (n : ℕ) (file : FileId) → now ≡ record map { remembered = remembered map.remembered n file } → IsSamePlainly before (served_over tree map) →
-    IsSamePlainly before (served_over tree now)
-remembers-plainly before tree map now n file e same = record {
-  plainly = ap (λ (m : MapState). plain (served_over tree m)) e ∙ same.plainly;
-  bad_items = ap (λ (m : MapState). m.bad_items) e ∙ same.bad_items;
-}
 
 -- ---- a number is given
 

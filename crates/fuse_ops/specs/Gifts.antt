@@ -1,14 +1,13 @@
 -- The laws of giving a number and of forgetting one, over a tree that is unchanged: how they change what a daemon
 -- knows. (libfuse's rules for lookup counts, `fuse_lowlevel.h`.)
-use Rattle.std.specs.Prelude.{◌≡◌, ℕ, ◌+◌, ◌-◌, ◌<◌, ◌≤◌, ◌↔◌, ◌⊎◌, true, false, List, Option, Some, None}
+use Rattle.std.specs.Prelude.{◌≡◌, ℕ, ◌+◌, ◌-◌, ◌<◌, ◌≤◌, ◌↔◌, ◌⊎◌, true, false, List, Some, None}
 use Rattle.eden_base.specs.declared.number.FileId.{FileId}
 use Rattle.eden_base.specs.declared.number.Number.{Number}
 use Rattle.manifest.specs.Tree.{Tree, IsTree, child_of}
-use Rattle.entry_table.specs.Entries.{entry_at, count_of, is_bad_item, IsFileOf}
+use Rattle.entry_table.specs.Entries.{count_of, is_bad_item, IsFileOf}
 use Rattle.inode_map.specs.InodeMap.{MapState, new_map, give_fault, number_given, given, forgot, forgotten}
 use Rattle.inode_map.specs.declared.inode_map.Forgot.{Forgot}
 use Rattle.inode_map.specs.declared.inode_map.Forgot.TheVariants.{Lowered, Dropped}
-use Rattle.entry_table.specs.declared.kept.Kept.{Kept}
 use Rattle.fuse_ops.specs.Served.{ServedState}
 use Rattle.fuse_ops.specs.Soundness.{IsSound}
 
@@ -47,17 +46,6 @@ GivingLaw =
     IsPlaced served parent.0 name dir file →
     give_fault served.map parent.0 name ≡ None →
     Gave served.tree served.map (given served.map parent name) (number_given served.map parent.0 name).0 file
-
--- the number of the entry names the file; or there is no entry, and no number names the file
-abbrev pub NumberAtPlace : Tree → MapState → Option Kept → FileId → Type 0
-NumberAtPlace tree map (Some kept) file = IsFileOf tree map.entries kept.number.0 file
-NumberAtPlace tree map None file = (m : ℕ) → IsFileOf tree map.entries m file → ⊥
-
--- the number that a place has names the file there; at a place without a number, no number names the file
-abbrev pub PlaceLaw : Type 0
-PlaceLaw =
-    (served : ServedState) (parent : ℕ) (name : List ℕ) (dir file : FileId) → IsPlaced served parent name dir file →
-    NumberAtPlace served.tree served.map (entry_at served.map.entries parent name) file
 
 -- the count of a number fell by k; entries that are no longer of use are struck, and all else is unchanged
 pub record Forgets (tree : Tree) (old new : MapState) (n k : ℕ) : Type 0 where

@@ -34,10 +34,6 @@ pub u32_below : (bytes : List ℕ) → AreBytes bytes → u32_at bytes < 2 ^ 32
 unfolding u32_at
 u32_below bytes are = little_from-lt 0 4 bytes are
 
-pub u64_below : (bytes : List ℕ) → AreBytes bytes → u64_at bytes < 2 ^ 64
-unfolding u64_at
-u64_below bytes are = little_from-lt 0 8 bytes are
-
 pub u32_front : (bytes : List ℕ) → AreBytes bytes → 4 ≤ length bytes → u32_bytes (u32_at bytes) ++ drop 4 bytes ≡ bytes
 unfolding u32_at u32_bytes
 u32_front bytes are long =

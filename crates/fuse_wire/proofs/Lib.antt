@@ -1,7 +1,6 @@
 pub mod Bodies
 pub mod Errors
 pub mod Fields
-pub mod Forgets
 pub mod ItemLaws
 pub mod ItemsRead
 pub mod Lacking

@@ -158,11 +158,6 @@ answer_is (Attrs number attr) bytes fits len rest =
 answer_is Done bytes fits len rest = let long : length bytes ≡ 16 = omega arith in rw long refl
 answer_is (Error errno) bytes fits len rest = failure_is errno bytes
 
--- a reply is its fields
-pub same_reply : (unique : ℕ) (answer : Answer) (reply : Reply) → unique ≡ reply.unique → answer ≡ reply.answer → record { unique = unique; answer = answer } ≡ reply
-same_reply unique answer reply e f =
-    ap (λ (u : ℕ). let r : Reply = record { unique = u; answer = answer } in r) e ∙ ap (λ (a : Answer). let r : Reply = record { unique = reply.unique; answer = a } in r) f
-
 -- what is read of the text of a reply
 pub record ReadAs (reply : Reply) (bytes : List ℕ) : Type 0 where
   pub long : 16 ≤ length bytes

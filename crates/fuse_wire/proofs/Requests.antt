@@ -9,7 +9,7 @@ use Rattle.byte_codec.proofs.ByteLemmas.{AreBytes-drop}
 use Rattle.fuse_wire.specs.declared.request.Ask.{Ask}
 use Rattle.fuse_wire.specs.declared.fault.WireFault.{WireFault}
 use Rattle.fuse_wire.specs.declared.fault.WireFault.TheVariants.{Short, BadLength}
-use Rattle.fuse_wire.specs.declared.header.Header.{Header}
+use Rattle.fuse_wire.specs.declared.header.InHeader.{InHeader}
 use Rattle.fuse_wire.specs.declared.request.Opcode.{Opcode}
 use Rattle.fuse_wire.specs.Field.{u32_bytes, u64_bytes, u32_at, u64_at}
 use Rattle.byte_codec.specs.Reading.{◌>>=◌}
@@ -44,12 +44,12 @@ header_front bytes are long =
     let regrouped : ((((a ++ b) ++ c) ++ d) ++ o) ++ drop 40 bytes ≡ a ++ (b ++ (c ++ (d ++ (o ++ drop 40 bytes)))) = simp append_assoc in
     regrouped ∙ ap (λ (t : List ℕ). a ++ (b ++ (c ++ (d ++ t)))) e24 ∙ ap (λ (t : List ℕ). a ++ (b ++ (c ++ t))) e16 ∙ ap (λ (t : List ℕ). a ++ (b ++ t)) e8 ∙ ap (λ (t : List ℕ). a ++ t) e4 ∙ e0
 
-pub record HeaderIs (bytes : List ℕ) (h : Header) : Type 0 where
+pub record HeaderIs (bytes : List ℕ) (h : InHeader) : Type 0 where
   pub long : 40 ≤ length bytes
   pub len : u32_at bytes ≡ length bytes
   pub is : h ≡ fields_of bytes
 
-pub header_found : (bytes : List ℕ) (h : Header) → header_of bytes ≡ Ok h → HeaderIs bytes h
+pub header_found : (bytes : List ℕ) (h : InHeader) → header_of bytes ≡ Ok h → HeaderIs bytes h
 unfolding header_of
 header_found bytes h e =
     let g = guard_ok (ltb (length bytes) 40) Short (cond (eqb (u32_at bytes) (length bytes)) (Ok (fields_of bytes)) (Err BadLength)) h e in
@@ -65,9 +65,9 @@ request_found bytes ask are e =
     let b = bind_ok (what_of (opcode_of a.0.opcode) a.0.node (body_of bytes)) (λ what. Ok (record { unique = a.0.unique; what = what })) ask a.2 in
     let found = header_found bytes a.0 a.1 in
     let n = u32_at (drop 4 bytes) in
-    let opcode_is : a.0.opcode ≡ n = ap (λ (h : Header). h.opcode) found.is in
-    let unique_is : a.0.unique ≡ u64_at (drop 8 bytes) = ap (λ (h : Header). h.unique) found.is in
-    let node_is : a.0.node.0 ≡ u64_at (drop 16 bytes) = ap (λ (h : Header). h.node.0) found.is in
+    let opcode_is : a.0.opcode ≡ n = ap (λ (h : InHeader). h.opcode) found.is in
+    let unique_is : a.0.unique ≡ u64_at (drop 8 bytes) = ap (λ (h : InHeader). h.unique) found.is in
+    let node_is : a.0.node.0 ≡ u64_at (drop 16 bytes) = ap (λ (h : InHeader). h.node.0) found.is in
     let what = what_found (opcode_of a.0.opcode) a.0.node (body_of bytes) b.0 (AreBytes-drop 40 bytes are) (ap opcode_of (code-opcode_of a.0.opcode)) b.1 in
     let code_is : code (opcode b.0) ≡ n = ap code what.opcode_is ∙ code-opcode_of a.0.opcode ∙ opcode_is in
     let made : Ask = record { unique = a.0.unique; what = b.0 } in

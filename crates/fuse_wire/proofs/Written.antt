@@ -6,7 +6,7 @@ use Rattle.std.proofs.lemmas.Grind.{common_steps}
 use Rattle.std.proofs.lemmas.List.Concat.{flat_map-cons, flat_map-append}
 use Rattle.std.proofs.lemmas.List.Elements.{All-push}
 use Rattle.fuse_wire.specs.declared.item.Item.{Item}
-use Rattle.fuse_wire.specs.declared.writer.Writer.{Writer}
+use Rattle.fuse_wire.specs.declared.writer.MessageWriter.{MessageWriter}
 use Rattle.fuse_wire.specs.RequestBody.{item_text, FitsItem}
 use Rattle.fuse_wire.specs.Writing.{Writes, Puts}
 use Rattle.fuse_wire.proofs.Lengths.{lengths}
@@ -16,7 +16,7 @@ written_nothing : (old : List ℕ) (at : ℕ) → Writes old old at []
 written_nothing old at =
     sym (ap (λ (t : List ℕ). t ++ drop (at + 0) old) (append-nil (take at old)) ∙ ap (λ (n : ℕ). take at old ++ drop n old) (omega arith) ∙ take-append-drop at old)
 
-pub puts_nothing : (writer : Writer) → Puts writer writer []
+pub puts_nothing : (writer : MessageWriter) → Puts writer writer []
 puts_nothing writer = record { same = refl; field = written_nothing writer.bytes.now writer.at; after = omega arith; len = refl }
 
 -- two texts that were written one after the other are written together
@@ -27,7 +27,7 @@ written_then old mid new at next xs ys is fits first second =
     let later : drop (next + length ys) mid ≡ drop (at + length (xs ++ ys)) old = sym (drop-drop (length ys) next mid) ∙ ap (drop (length ys)) back ∙ drop-drop (length ys) next old ∙ ap (λ (n : ℕ). drop n old) (omega (arith, length-append xs ys)) in
     second ∙ ap (λ (t : List ℕ). (t ++ ys) ++ drop (next + length ys) mid) front ∙ ap (λ (d : List ℕ). ((take at old ++ xs) ++ ys) ++ d) later ∙ ap (λ (t : List ℕ). t ++ drop (at + length (xs ++ ys)) old) (append_assoc (take at old) xs ys)
 
-pub Puts-then : (old mid new : Writer) (xs ys : List ℕ) → Puts mid new ys → Puts old mid xs → old.at ≤ length old.bytes.now → Puts old new (xs ++ ys)
+pub Puts-then : (old mid new : MessageWriter) (xs ys : List ℕ) → Puts mid new ys → Puts old mid xs → old.at ≤ length old.bytes.now → Puts old new (xs ++ ys)
 Puts-then old mid new xs ys second first fits = record {
   same = second.same ∙ first.same;
   field = written_then old.bytes.now mid.bytes.now new.bytes.now old.at mid.at xs ys first.after fits first.field second.field;
@@ -36,12 +36,12 @@ Puts-then old mid new xs ys second first fits = record {
 }
 
 -- what is written at the front
-pub from_front : (old new : Writer) (bytes : List ℕ) (n : ℕ) → old.at ≡ 0 → n ≡ length bytes → Puts old new bytes → new.bytes.now ≡ bytes ++ drop n old.bytes.now
+pub from_front : (old new : MessageWriter) (bytes : List ℕ) (n : ℕ) → old.at ≡ 0 → n ≡ length bytes → Puts old new bytes → new.bytes.now ≡ bytes ++ drop n old.bytes.now
 from_front old new bytes n first is put =
     put.field ∙ ap (λ (k : ℕ). (take k old.bytes.now ++ bytes) ++ drop (k + length bytes) old.bytes.now) first ∙ ap (λ (k : ℕ). bytes ++ drop k old.bytes.now) (omega arith)
 
 -- what fills the whole message
-pub whole : (old new : Writer) (bytes : List ℕ) → old.at ≡ 0 → length old.bytes.now ≡ length bytes → Puts old new bytes → new.bytes.now ≡ bytes
+pub whole : (old new : MessageWriter) (bytes : List ℕ) → old.at ≡ 0 → length old.bytes.now ≡ length bytes → Puts old new bytes → new.bytes.now ≡ bytes
 whole old new bytes first is put =
     let rest : drop (length old.bytes.now) old.bytes.now ≡ [] = drop_all (length old.bytes.now) old.bytes.now (omega arith) in
     from_front old new bytes (length old.bytes.now) first is put ∙ ap (λ (d : List ℕ). bytes ++ d) rest ∙ append-nil bytes
@@ -49,15 +49,12 @@ whole old new bytes first is put =
 pub ruleset written = (puts_nothing, Puts-then, lengths)
 
 -- these items were written after what was there
-pub record AreWritten (before now : Writer) (items : List Item) : Type 0 where
+pub record AreWritten (before now : MessageWriter) (items : List Item) : Type 0 where
   pub lines : Puts before now (flat_map item_text items)
   pub fit : All FitsItem items
 
-pub none_written : (writer : Writer) → AreWritten writer writer []
-none_written writer = record { lines = puts_nothing writer; fit = λ k d lt. absurd (omega arith) }
-
 -- one item more
-pub one_written : (before mid new : Writer) (items : List Item) (i : ℕ) (d : Item) → before.at ≤ length before.bytes.now → i < length items → AreWritten before mid (take i items)
+pub one_written : (before mid new : MessageWriter) (items : List Item) (i : ℕ) (d : Item) → before.at ≤ length before.bytes.now → i < length items → AreWritten before mid (take i items)
     → Puts mid new (item_text (get_or items i d)) → FitsItem (get_or items i d) → AreWritten before new (take (i + 1) items)
 one_written before mid new items i d in_range lt were put fits =
     let item = get_or items i d in

@@ -5,7 +5,7 @@ use Rattle.eden_base.specs.declared.errno.Errno.TheVariants.{ENOMEM, EINVAL, ENA
 use Rattle.eden_base.specs.declared.name.NameFault.TheVariants.{TooLong}
 use Rattle.fuse_wire.specs.declared.fault.WireFault.{WireFault}
 use Rattle.fuse_wire.specs.declared.fault.WireFault.TheVariants.{BadName, NoMemory}
-use Rattle.fuse_wire.specs.declared.header.Header.{Header}
+use Rattle.fuse_wire.specs.declared.header.InHeader.{InHeader}
 use Rattle.fuse_wire.specs.declared.reply.Answer.TheVariants.{Error}
 use Rattle.fuse_wire.specs.declared.reply.Reply.{Reply}
 use Rattle.fuse_wire.specs.Request.{opcode_of, is_forget}
@@ -18,7 +18,7 @@ errno_of_fault NoMemory = ENOMEM
 errno_of_fault fault = EINVAL
 
 -- the reply to a refused request with this header; none for a forget, for which the kernel awaits no reply
-abbrev pub refusal_of : Header → WireFault → Option Reply
+abbrev pub refusal_of : InHeader → WireFault → Option Reply
 refusal_of header fault =
     if is_forget (opcode_of header.opcode) then None
     else Some (record { unique = header.unique; answer = Error (errno_of_fault fault) })

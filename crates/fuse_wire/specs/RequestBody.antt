@@ -195,18 +195,6 @@ what_of opcodes.Forget node body = forget_of node body >>= λ item. Ok (Forget i
 what_of opcodes.BatchForget node body = batch_of body >>= λ items. Ok (BatchForget items)
 what_of (opcodes.Other opcode) node body = Ok (Other opcode node)
 
--- the items of a forget with this operation, this nodeid and this body; BadBody for any other request
-unfoldable pub forgotten_of : Opcode → Number → List ℕ → Result (List Item) WireFault
-forgotten_of opcodes.Forget node body = forget_of node body >>= λ item. Ok (item ∷ [])
-forgotten_of opcodes.BatchForget node body = batch_of body
-forgotten_of opcode node body = Err BadBody
-
--- the items of a request that is a forget; BadBody for any other request
-abbrev pub items_told : Request → Result (List Item) WireFault
-items_told (Forget item) = Ok (item ∷ [])
-items_told (BatchForget items) = Ok items
-items_told request = Err BadBody
-
 -- ---- what takes memory
 
 -- a name takes memory of its own: it has more than the 16 bytes that stand in its value (eden_base: `SHORT`)

@@ -8,7 +8,7 @@ use eden_base::NoMemory;
 use std::alloc::Global;
 use std::marker::Model;
 
-/// The items of a batch, at most 256, in order. They stand in separate memory, so that a `Request` has at most 80
+/// The items of a batch, at most 256, in order. They stand in separate memory, so that a `Request` has at most 88
 /// bytes. With 256 items inside, a `Request` would have 4,112 bytes, which are moved at every step.
 pub struct Batch {
     items: Vec<Item>,
@@ -130,13 +130,6 @@ impl Batch {
         ensures at_most { result ≤ 256 }
     {
         self.as_slice().len()
-    }
-
-    /// Returns whether there are no items.
-    pub fn is_empty(&self) -> bool
-        ensures empty { result ≡ (length self.now == 0) }
-    {
-        self.as_slice().is_empty()
     }
 
     /// Returns whether `self` and `other` have the same items in the same order.

@@ -10,7 +10,7 @@ ghost use Rattle.fuse_wire.specs.Writing.{HasRoom, Puts};
 use crate::layout::{BATCH_FIXED, BATCH_REST_LEN, FORGET_LEN, MODE_LEN, RENAME_FIXED};
 use crate::memory::Memory;
 use crate::reader::Reader;
-use crate::writer::Writer;
+use crate::writer::MessageWriter;
 use crate::{Batch, Item, Items, WireFault, mode};
 use eden_base::{Name, NoMemory, Number, Perm, cut};
 
@@ -26,7 +26,7 @@ pub(crate) fn name_len(name: &Name) -> usize
 
 /// Writes a name and its NUL.
 #[tactic(auto, using(crate::proofs::Written::written))]
-pub(crate) fn put_name(fields: &mut Writer, name: &Name)
+pub(crate) fn put_name(fields: &mut MessageWriter, name: &Name)
     requires { HasRoom fields.old (length (name_text name.now)) }
     ensures { Puts fields.old fields.new (name_text name.now) }
 {
@@ -79,7 +79,13 @@ pub(crate) fn made_len(offset: usize, rest: usize, name: &Name) -> usize
 
 /// Writes `offset` bytes that are 0, a mode, `rest` bytes that are 0, then a name.
 #[tactic(auto, using(crate::proofs::Written::written))]
-pub(crate) fn put_made(fields: &mut Writer, offset: usize, mode: u32, rest: usize, name: &Name)
+pub(crate) fn put_made(
+    fields: &mut MessageWriter,
+    offset: usize,
+    mode: u32,
+    rest: usize,
+    name: &Name,
+)
     requires { HasRoom fields.old (length (made_body offset mode rest name.now)) }
     ensures { Puts fields.old fields.new (made_body offset mode rest name.now) }
 {
@@ -133,7 +139,7 @@ pub(crate) fn move_len(to_dir: Number, name: &Name, to_name: &Name) -> usize
 
 /// Writes the number of the new directory (`struct fuse_rename_in`), and then the old name and the new one.
 #[tactic(auto, using(crate::proofs::Written::written))]
-pub(crate) fn put_move(fields: &mut Writer, to_dir: Number, name: &Name, to_name: &Name)
+pub(crate) fn put_move(fields: &mut MessageWriter, to_dir: Number, name: &Name, to_name: &Name)
     requires { HasRoom fields.old (length (move_body to_dir name.now to_name.now)) }
     ensures body { Puts fields.old fields.new (move_body to_dir name.now to_name.now) }
     ensures fits { to_dir.0 < 2 ^ 64 }
@@ -213,7 +219,7 @@ pub(crate) fn batch_len(items: &[Item]) -> usize
 
 /// Writes the count and a padding, then the items (`struct fuse_batch_forget_in`).
 #[tactic(auto, using(crate::proofs::Written::written))]
-pub(crate) fn put_batch(fields: &mut Writer, items: &[Item])
+pub(crate) fn put_batch(fields: &mut MessageWriter, items: &[Item])
     requires at_most { length items.now ≤ 256 }
     requires room { HasRoom fields.old (length (batch_body items.now)) }
     ensures body { Puts fields.old fields.new (batch_body items.now) }
@@ -226,7 +232,7 @@ pub(crate) fn put_batch(fields: &mut Writer, items: &[Item])
 
 /// Writes the items of a batch, in their order.
 #[tactic(auto, using(crate::proofs::Written::written))]
-fn put_items(fields: &mut Writer, items: &[Item])
+fn put_items(fields: &mut MessageWriter, items: &[Item])
     requires { HasRoom fields.old (length (flat_map item_text items.now)) }
     ensures lines { Puts fields.old fields.new (flat_map item_text items.now) }
     ensures fits { All FitsItem items.now }
@@ -238,7 +244,7 @@ fn put_items(fields: &mut Writer, items: &[Item])
 
 /// Writes an item of a batch (`struct fuse_forget_one`).
 #[tactic(auto, using(crate::proofs::Written::written))]
-fn put_item(fields: &mut Writer, item: Item)
+fn put_item(fields: &mut MessageWriter, item: Item)
     requires { HasRoom fields.old 16 }
     ensures item { Puts fields.old fields.new (item_text item) }
     ensures fits { FitsItem item }

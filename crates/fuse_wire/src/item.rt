@@ -1,6 +1,6 @@
 //! The items of a forget.
-ghost use Rattle.std.specs.Prelude.{◌≡◌, ◌↔◌, ◌<◌, ◌≤◌, ◌+◌, ◌*◌, List, [], ◌∷◌, ◌++◌, length, drop, ◌==◌, nat_eq, IsTrue};
-ghost use Rattle.fuse_wire.specs.RequestBody.{item_at, items_at};
+ghost use Rattle.std.specs.Prelude.{◌≡◌, ◌↔◌, ◌<◌, ◌≤◌, ◌+◌, List, [], ◌∷◌, ◌++◌, length, drop, ◌==◌, nat_eq, IsTrue};
+ghost use Rattle.fuse_wire.specs.RequestBody.{item_at};
 
 use crate::reader::Reader;
 use arrayvec::ArrayVec;
@@ -47,7 +47,7 @@ impl Default for Item {
     }
 }
 
-/// The items of a batch, at most 256, in order. They stand in the value itself, so that `read_items` takes no memory.
+/// The items of a batch, at most 256, in order. They stand in the value itself.
 #[derive(Drop)]
 pub struct Items {
     items: ArrayVec<Item, 256>,
@@ -77,33 +77,12 @@ impl Items {
         }
     }
 
-    /// Returns whether no item can be added.
-    pub fn is_full(&self) -> bool
-        ensures full { result ≡ (length self.now == 256) }
-    {
-        self.items.is_full()
-    }
-
     /// Adds an item at the end.
     pub fn push(&mut self, item: Item)
         requires { length self.old < 256 }
         ensures pushed { self.new ≡ self.old ++ item ∷ [] }
     {
         self.items.push(item);
-    }
-
-    /// Reads `count` items from `bytes`.
-    pub(crate) fn read(count: usize, bytes: &[u8]) -> Items
-        requires whole { length bytes.now ≡ 16 * count }
-        requires at_most { count ≤ 256 }
-        ensures { result ≡ items_at count bytes.now }
-    {
-        let mut fields = Reader::new(bytes);
-        let mut items = Items::new();
-        for _ in 0..count {
-            items.push(Item::read(&mut fields));
-        }
-        items
     }
 
     /// Returns the items in their order.
@@ -121,39 +100,4 @@ impl Items {
     {
         self.items.len()
     }
-
-    /// Returns whether there are no items.
-    pub fn is_empty(&self) -> bool
-        ensures empty { result ≡ (length self.now == 0) }
-    {
-        self.items.is_empty()
-    }
-
-    /// Makes a copy of the list. Takes no memory.
-    pub fn copy(&self) -> Items
-        ensures copy { result ≡ self.now }
-    {
-        Items {
-            items: ArrayVec::try_from(self.items.as_slice()).unwrap(),
-        }
-    }
-}
-
-impl PartialEq for Items {
-    ghost use Rattle.std.specs.Cmp.{partial_equiv_from_equiv};
-    ghost use Rattle.fuse_wire.specs.Item.{same_items, same_items_equiv};
-
-    ghost eq = { λ x y. same_items x y };
-
-    ghost laws = { partial_equiv_from_equiv same_items_equiv };
-
-    fn eq(&self, other: &Items) -> bool {
-        self.as_slice() == other.as_slice()
-    }
-}
-
-impl Eq for Items {
-    ghost use Rattle.fuse_wire.specs.Item.{same_items_equiv};
-
-    ghost laws = { same_items_equiv };
 }

@@ -53,70 +53,82 @@ pub(crate) trait Memory: Drop {
 impl Memory for Global {
     ghost may_lack = { true };
 
+    /// Makes a name, in memory that is asked for if it is long.
     fn name(self, bytes: &[u8]) -> Result<Name, NoMemory> {
         Name::of(self, bytes)
     }
 
+    /// Makes two names, each in memory that is asked for if it is long.
     fn names(self, first: &[u8], second: &[u8]) -> Result<(Name, Name), NoMemory> {
         let first = Name::of(self, first)?;
         let second = Name::of(self, second)?;
         Ok((first, second))
     }
 
+    /// Reads a batch, in memory that is asked for.
     fn batch(self, count: usize, bytes: &[u8]) -> Result<Batch, NoMemory> {
         Batch::read(self, count, bytes)
     }
 
+    /// Copies a name, into memory that is asked for if it is long.
     fn copy_name(self, name: &Name) -> Result<Name, NoMemory> {
         name.copy(self)
     }
 
+    /// Copies two names, each into memory that is asked for if it is long.
     fn copy_names(self, first: &Name, second: &Name) -> Result<(Name, Name), NoMemory> {
         let first = first.copy(self)?;
         let second = second.copy(self)?;
         Ok((first, second))
     }
 
+    /// Copies a batch, into memory that is asked for.
     fn copy_batch(self, batch: &Batch) -> Result<Batch, NoMemory> {
         batch.copy(self)
     }
 }
 
-/// Rooms for the names or the batch of any request.
+/// Buffers that were taken before, for the names or the batch of any request.
 #[derive(Drop)]
-pub(crate) struct Rooms {
+pub(crate) struct RequestBuffers {
     pub first: NameRoom,
     pub second: NameRoom,
     pub batch: BatchRoom,
 }
 
-impl Memory for Rooms {
+impl Memory for RequestBuffers {
     ghost may_lack = { false };
 
+    /// Makes a name in the first room.
     fn name(self, bytes: &[u8]) -> Result<Name, NoMemory> {
         Ok(Name::of_to(self.first, bytes))
     }
 
+    /// Makes two names, in the first room and the second.
     fn names(self, first: &[u8], second: &[u8]) -> Result<(Name, Name), NoMemory> {
         let first = Name::of_to(self.first, first);
         let second = Name::of_to(self.second, second);
         Ok((first, second))
     }
 
+    /// Reads a batch in its room.
     fn batch(self, count: usize, bytes: &[u8]) -> Result<Batch, NoMemory> {
         Ok(Batch::read_to(self.batch, count, bytes))
     }
 
+    /// Copies a name into the first room.
     fn copy_name(self, name: &Name) -> Result<Name, NoMemory> {
         Ok(name.copy_to(self.first))
     }
 
+    /// Copies two names, into the first room and the second.
     fn copy_names(self, first: &Name, second: &Name) -> Result<(Name, Name), NoMemory> {
         let first = first.copy_to(self.first);
         let second = second.copy_to(self.second);
         Ok((first, second))
     }
 
+    /// Copies a batch into its room.
     fn copy_batch(self, batch: &Batch) -> Result<Batch, NoMemory> {
         Ok(batch.copy_to(self.batch))
     }

@@ -7,11 +7,11 @@ use std::marker::Model;
 
 /// The numbers of the files that one request is for: at most two, as a RENAME has.
 #[derive(Drop)]
-pub struct Nodes {
+pub struct NodeIds {
     numbers: ArrayVec<Number, 2>,
 }
 
-impl Model for Nodes {
+impl Model for NodeIds {
     ghost use Rattle.std.specs.Prelude.{◌≤◌, List, length};
     ghost use Rattle.eden_base.specs.declared.number.Number.{Number};
 
@@ -22,33 +22,33 @@ impl Model for Nodes {
     ghost invariant = { λ nodes. length nodes.numbers.items ≤ 2 };
 }
 
-impl Nodes {
+impl NodeIds {
     /// Makes an empty list.
-    pub(crate) fn none() -> Nodes
+    pub(crate) fn none() -> NodeIds
         ensures { result ≡ [] }
     {
-        Nodes {
+        NodeIds {
             numbers: ArrayVec::new(),
         }
     }
 
     /// Makes a list of one number.
-    pub(crate) fn one(number: Number) -> Nodes
+    pub(crate) fn one(number: Number) -> NodeIds
         ensures { result ≡ number ∷ [] }
     {
         let mut numbers = ArrayVec::new();
         numbers.push(number);
-        Nodes { numbers }
+        NodeIds { numbers }
     }
 
     /// Makes a list of two numbers, in this order.
-    pub(crate) fn two(first: Number, second: Number) -> Nodes
+    pub(crate) fn two(first: Number, second: Number) -> NodeIds
         ensures { result ≡ first ∷ second ∷ [] }
     {
         let mut numbers = ArrayVec::new();
         numbers.push(first);
         numbers.push(second);
-        Nodes { numbers }
+        NodeIds { numbers }
     }
 
     /// Returns the numbers in their order.

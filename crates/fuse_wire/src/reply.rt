@@ -13,7 +13,7 @@ pub enum Answer {
     Opened { number: Number, attr: Attr },
     /// To GETATTR.
     Attrs { number: Number, attr: Attr },
-    /// To UNLINK and RMDIR.
+    /// To UNLINK, RMDIR and RENAME.
     Done,
     Error(Errno),
 }

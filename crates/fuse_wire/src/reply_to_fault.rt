@@ -2,7 +2,7 @@
 ghost use Rattle.std.specs.Prelude.{◌≡◌};
 ghost use Rattle.fuse_wire.specs.FaultReply.{errno_of_fault, fault_reply_of};
 
-use crate::header::Header;
+use crate::header::InHeader;
 use crate::request::Opcode;
 use crate::{Answer, Reply, WireFault};
 use eden_base::{Errno, NameFault};
@@ -12,10 +12,10 @@ use eden_base::{Errno, NameFault};
 pub fn fault_reply(bytes: &[u8], fault: &WireFault) -> Option<Reply>
     ensures reply { result ≡ fault_reply_of bytes.now fault.now }
 {
-    if bytes.len() < Header::LEN {
+    if bytes.len() < InHeader::LEN {
         return None;
     }
-    let header = Header::of(bytes);
+    let header = InHeader::of(bytes);
     if Opcode::of(header.opcode).is_forget() {
         return None;
     }

@@ -10,7 +10,7 @@ use crate::layout::{
     OPEN_LEN, OPENED_REPLY_LEN, OWNERS_LEN, REPLY_HEADER_LEN, VALID_LEN,
 };
 use crate::mode::mode_of;
-use crate::writer::Writer;
+use crate::writer::MessageWriter;
 use crate::{Answer, Reply};
 use eden_base::{Attr, Number};
 
@@ -26,7 +26,7 @@ pub fn write_reply(reply: &Reply, out: &mut [u8; MAX_REPLY_LEN]) -> usize
     ensures read_again { reply_of (take result out.new) ≡ Ok reply.now }
 {
     let len = REPLY_HEADER_LEN + payload_len(&reply.answer);
-    let mut fields = Writer::new(out);
+    let mut fields = MessageWriter::new(out);
     put_header(&mut fields, len as u32, reply);
     put_payload(&mut fields, &reply.answer);
     len
@@ -34,7 +34,7 @@ pub fn write_reply(reply: &Reply, out: &mut [u8; MAX_REPLY_LEN]) -> usize
 
 /// Writes the header (`struct fuse_out_header`).
 #[tactic(auto, using(crate::proofs::Written::written))]
-fn put_header(fields: &mut Writer, len: u32, reply: &Reply)
+fn put_header(fields: &mut MessageWriter, len: u32, reply: &Reply)
     requires { HasRoom fields.old 16 }
     ensures header { Puts fields.old fields.new
         (reply_header len (error_field reply.now.answer) reply.now.unique) }
@@ -61,7 +61,7 @@ fn payload_len(answer: &Answer) -> usize
 
 /// Writes what follows the header in a reply with this answer.
 #[tactic(auto, using(crate::proofs::Written::written))]
-fn put_payload(fields: &mut Writer, answer: &Answer)
+fn put_payload(fields: &mut MessageWriter, answer: &Answer)
     requires { HasRoom fields.old (length (payload answer.now)) }
     ensures payload { Puts fields.old fields.new (payload answer.now) }
     ensures fits { FitsAnswer answer.now }
@@ -82,7 +82,7 @@ fn put_payload(fields: &mut Writer, answer: &Answer)
 
 /// Writes a `struct fuse_entry_out`: a number, and its attributes, which the kernel may not cache.
 #[tactic(auto, using(crate::proofs::Written::written))]
-fn put_entry(fields: &mut Writer, number: Number, attr: &Attr)
+fn put_entry(fields: &mut MessageWriter, number: Number, attr: &Attr)
     requires { HasRoom fields.old 128 }
     ensures entry { Puts fields.old fields.new (entry number attr.now) }
     ensures fits { FitsAttr number attr.now }
@@ -94,7 +94,7 @@ fn put_entry(fields: &mut Writer, number: Number, attr: &Attr)
 
 /// Writes a `struct fuse_attr`: a number and its attributes.
 #[tactic(auto, using(crate::proofs::Written::written))]
-fn put_attributes(fields: &mut Writer, number: Number, attr: &Attr)
+fn put_attributes(fields: &mut MessageWriter, number: Number, attr: &Attr)
     requires { HasRoom fields.old 88 }
     ensures attributes { Puts fields.old fields.new (attributes number attr.now) }
     ensures fits { FitsAttr number attr.now }

@@ -3,9 +3,9 @@ ghost use Rattle.std.specs.Prelude.{◌≡◌, ◌≤◌, ◌↔◌, length, IsT
 ghost use Rattle.fuse_wire.specs.Request.{code, opcode, opcode_of, nodeid, is_forget, form_of, is_ask, nodes, item_of, items_of, other_of};
 ghost use Rattle.fuse_wire.specs.RequestBody.{TakesMemory};
 
-use crate::memory::{Memory, Rooms};
+use crate::memory::{Memory, RequestBuffers};
 use crate::same::{same_perm, same_place};
-use crate::{Batch, BatchRoom, Form, Item, Nodes};
+use crate::{Batch, BatchRoom, Form, Item, NodeIds};
 use eden_base::{Name, NameRoom, NoMemory, Number, Perm};
 use std::alloc::Global;
 use std::array;
@@ -154,7 +154,7 @@ impl Request {
     pub fn copy_to(&self, first: NameRoom, second: NameRoom, batch: BatchRoom) -> Request
         ensures copy { result ≡ self.now }
     {
-        let rooms = Rooms {
+        let rooms = RequestBuffers {
             first,
             second,
             batch,
@@ -277,7 +277,7 @@ impl Request {
 
     /// Returns the numbers of the files that the request is for. The list is empty for a forget, whose numbers are in
     /// its items.
-    pub fn nodes(&self) -> Nodes
+    pub fn nodes(&self) -> NodeIds
         ensures nodes { result ≡ nodes self.now }
     {
         match self {
@@ -285,10 +285,10 @@ impl Request {
             | Request::Create { dir, .. }
             | Request::Mkdir { dir, .. }
             | Request::Unlink { dir, .. }
-            | Request::Rmdir { dir, .. } => Nodes::one(*dir),
-            Request::Rename { dir, to_dir, .. } => Nodes::two(*dir, *to_dir),
-            Request::Getattr { node } | Request::Other { node, .. } => Nodes::one(*node),
-            Request::Forget(_) | Request::BatchForget(_) => Nodes::none(),
+            | Request::Rmdir { dir, .. } => NodeIds::one(*dir),
+            Request::Rename { dir, to_dir, .. } => NodeIds::two(*dir, *to_dir),
+            Request::Getattr { node } | Request::Other { node, .. } => NodeIds::one(*node),
+            Request::Forget(_) | Request::BatchForget(_) => NodeIds::none(),
         }
     }
 

@@ -1,24 +1,24 @@
 //! The body of a request: its length, its writing and its reading. Each function has a row for each kind of request.
 ghost use Rattle.std.specs.Prelude.{◌≡◌, ◌≤◌, length};
 ghost use Rattle.fuse_wire.specs.Reading.{Gives, MayLack};
-ghost use Rattle.fuse_wire.specs.Request.{opcode_of, IsSendable};
-ghost use Rattle.fuse_wire.specs.RequestBody.{body, IsBody, FitsBody, forgotten_of};
+ghost use Rattle.fuse_wire.specs.Request.{IsSendable};
+ghost use Rattle.fuse_wire.specs.RequestBody.{body, IsBody, FitsBody};
 ghost use Rattle.fuse_wire.specs.RequestReading.{WantsMemory, asked_of};
 ghost use Rattle.fuse_wire.specs.Writing.{HasRoom, Puts};
 
 use crate::body_form::{
-    batch_len, items_part, made_len, move_len, name_len, put_batch, put_made, put_move, put_name,
-    read_batch, read_forget, read_made, read_move, read_name,
+    batch_len, made_len, move_len, name_len, put_batch, put_made, put_move, put_name, read_batch,
+    read_forget, read_made, read_move, read_name,
 };
-use crate::header::Header;
+use crate::header::InHeader;
 use crate::layout::{
     CREATE_MODE, CREATE_REST_LEN, FORGET_LEN, GETATTR_LEN, MKDIR_MODE, MKDIR_REST_LEN,
 };
 use crate::memory::Memory;
 use crate::mode::mode_of;
 use crate::request::Opcode;
-use crate::writer::Writer;
-use crate::{Ask, Items, Request, WireFault};
+use crate::writer::MessageWriter;
+use crate::{Ask, Request, WireFault};
 use eden_base::Kind;
 
 /// Returns how many bytes follow the header of `request`.
@@ -48,7 +48,7 @@ pub(crate) fn body_len(request: &Request) -> usize
 
 /// Writes what follows the header of `request`. Fields that no reader uses are 0.
 #[tactic(auto, using(crate::proofs::Written::written))]
-pub(crate) fn put_body(fields: &mut Writer, request: &Request)
+pub(crate) fn put_body(fields: &mut MessageWriter, request: &Request)
     requires { HasRoom fields.old (length (body request.now)) }
     ensures body { Puts fields.old fields.new (body request.now) }
     ensures fits { FitsBody request.now }
@@ -79,7 +79,11 @@ pub(crate) fn put_body(fields: &mut Writer, request: &Request)
 
 /// Reads a request from its body, as the opcode in `header` says.
 #[tactic(auto, unfolding(crate::specs::RequestBody::what_of))]
-pub(crate) fn read_body<M: Memory>(memory: M, header: Header, body: &[u8]) -> Result<Ask, WireFault>
+pub(crate) fn read_body<M: Memory>(
+    memory: M,
+    header: InHeader,
+    body: &[u8],
+) -> Result<Ask, WireFault>
     ensures { Gives (MayLack M.may_lack WantsMemory) result (asked_of header body.now) }
 {
     let node = header.node;
@@ -125,25 +129,5 @@ pub(crate) fn read_body<M: Memory>(memory: M, header: Header, body: &[u8]) -> Re
             Ok(header.asks(Request::BatchForget(batch)))
         }
         Opcode::Other(opcode) => Ok(header.asks(Request::Other { opcode, node })),
-    }
-}
-
-/// Returns the items of the forget with this header and this body, or `BadBody` for any other request.
-#[tactic(auto, unfolding(crate::specs::RequestBody::forgotten_of))]
-pub(crate) fn forgotten_items(header: Header, body: &[u8]) -> Result<Items, WireFault>
-    ensures { result ≡ forgotten_of (opcode_of header.opcode) header.node body.now }
-{
-    match Opcode::of(header.opcode) {
-        Opcode::Forget => {
-            let item = read_forget(header.node, body)?;
-            let mut items = Items::new();
-            items.push(item);
-            Ok(items)
-        }
-        Opcode::BatchForget => {
-            let (count, items) = items_part(body)?;
-            Ok(Items::read(count, items))
-        }
-        _ => Err(WireFault::BadBody),
     }
 }

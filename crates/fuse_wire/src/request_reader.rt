@@ -2,14 +2,13 @@
 ghost use Rattle.std.specs.Prelude.{◌≡◌, IfOk, Ok, Err};
 ghost use Rattle.fuse_wire.specs.Reading.{Gives, MayLack};
 ghost use Rattle.fuse_wire.specs.Request.{IsSendable};
-ghost use Rattle.fuse_wire.specs.RequestBody.{items_told};
-ghost use Rattle.fuse_wire.specs.RequestReading.{WantsMemory, request_of, items_of, IsForgetOf};
+ghost use Rattle.fuse_wire.specs.RequestReading.{WantsMemory, request_of};
 ghost use Rattle.fuse_wire.specs.RequestText.{IsRequestText, FitsAsk};
 
-use crate::header::{Header, read_header};
-use crate::memory::{Memory, Rooms};
-use crate::request_body::{forgotten_items, read_body};
-use crate::{Ask, BatchRoom, Items, WireFault};
+use crate::header::{InHeader, read_header};
+use crate::memory::{Memory, RequestBuffers};
+use crate::request_body::read_body;
+use crate::{Ask, BatchRoom, WireFault};
 use eden_base::NameRoom;
 use std::alloc::Global;
 
@@ -19,7 +18,7 @@ fn read_ask<M: Memory>(memory: M, bytes: &[u8]) -> Result<Ask, WireFault>
     ensures { Gives (MayLack M.may_lack WantsMemory) result (request_of bytes.now) }
 {
     let header = read_header(bytes)?;
-    let (_, body) = bytes.split_at(Header::LEN);
+    let (_, body) = bytes.split_at(InHeader::LEN);
     read_body(memory, header, body)
 }
 
@@ -54,32 +53,10 @@ pub fn read_request_to(
     ensures exact { result ≡ request_of bytes.now }
     ensures never_out_of_memory { ¬ (result ≡ Err WireFault.NoMemory) }
 {
-    let rooms = Rooms {
+    let rooms = RequestBuffers {
         first,
         second,
         batch,
     };
     read_ask(rooms, bytes)
-}
-
-/// Reads the items of a forget of either form, without taking memory. Returns `BadBody` for any other request.
-pub fn read_items(bytes: &[u8]) -> Result<Items, WireFault>
-    // The items that are returned are those of the forget that `bytes` are.
-    ensures forget { IfOk result (IsForgetOf bytes.now) }
-    // If `bytes` are read as a request, then its items are returned, or `BadBody` if it is no forget.
-    ensures only { (ask : Ask) → request_of bytes.now ≡ Ok ask → result ≡ items_told ask.what }
-    // The result for any bytes, with the exact fault.
-    ensures exact { result ≡ items_of bytes.now }
-{
-    read_forgotten(bytes)
-}
-
-/// Reads the items as `read_items` does: first the header, and then the items of the body.
-#[tactic(auto, unfolding(crate::specs::RequestReading::items_of))]
-fn read_forgotten(bytes: &[u8]) -> Result<Items, WireFault>
-    ensures { result ≡ items_of bytes.now }
-{
-    let header = read_header(bytes)?;
-    let (_, body) = bytes.split_at(Header::LEN);
-    forgotten_items(header, body)
 }

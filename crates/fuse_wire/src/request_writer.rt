@@ -8,10 +8,10 @@ ghost use Rattle.fuse_wire.specs.RequestText.{header, request_text, IsRequestTex
 ghost use Rattle.fuse_wire.specs.Writing.{HasRoom, Puts};
 
 use crate::Ask;
-use crate::header::Header;
+use crate::header::InHeader;
 use crate::layout::SENDER_LEN;
 use crate::request_body::{body_len, put_body};
-use crate::writer::Writer;
+use crate::writer::MessageWriter;
 use eden_base::NoMemory;
 use std::alloc::Global;
 use std::marker::Model;
@@ -48,20 +48,7 @@ impl RequestRoom {
     }
 }
 
-/// Writes a request. Takes memory only for the bytes that are returned. Fields that no reader uses are 0.
-pub fn write_request(alloc: Global, ask: &Ask) -> Result<Vec<u8>, NoMemory>
-    requires { IsSendable ask.now.what }
-    ensures text { IfOk result (λ bytes. bytes.items ≡ request_text ask.now) }
-    ensures is_text { IfOk result (λ bytes. IsRequestText ask.now bytes.items) }
-    ensures read_again { IfOk result (λ bytes. request_of bytes.items ≡ Ok ask.now) }
-{
-    let len = Header::LEN + body_len(&ask.what);
-    let mut bytes = vec![in alloc; 0; len]?;
-    put_request(bytes.as_mut_slice(), ask);
-    Ok(bytes)
-}
-
-/// Writes a request as `write_request` does, in the memory of `room`.
+/// Writes a request in the memory of `room`. Fields that no reader uses are 0.
 pub fn write_request_to(room: RequestRoom, ask: &Ask) -> Vec<u8>
     requires { IsSendable ask.now.what }
     ensures text { result.items ≡ request_text ask.now }
@@ -69,7 +56,7 @@ pub fn write_request_to(room: RequestRoom, ask: &Ask) -> Vec<u8>
     ensures read_again { request_of result.items ≡ Ok ask.now }
 {
     let RequestRoom { mut bytes } = room;
-    let len = Header::LEN + body_len(&ask.what);
+    let len = InHeader::LEN + body_len(&ask.what);
     bytes.resize(len, 0).unwrap();
     put_request(bytes.as_mut_slice(), ask);
     bytes
@@ -84,14 +71,14 @@ fn put_request(bytes: &mut [u8], ask: &Ask)
     ensures fits { FitsAsk ask.now }
 {
     let len = bytes.len() as u32;
-    let mut fields = Writer::new(bytes);
+    let mut fields = MessageWriter::new(bytes);
     put_header(&mut fields, len, ask);
     put_body(&mut fields, &ask.what);
 }
 
 /// Writes the header (`struct fuse_in_header`) of a request of `len` bytes.
 #[tactic(auto, using(crate::proofs::Written::written))]
-fn put_header(fields: &mut Writer, len: u32, ask: &Ask)
+fn put_header(fields: &mut MessageWriter, len: u32, ask: &Ask)
     requires { HasRoom fields.old 40 }
     ensures header { Puts fields.old fields.new
         (header len (code (opcode ask.now.what)) ask.now.unique (nodeid ask.now.what) ++ zeros 16) }

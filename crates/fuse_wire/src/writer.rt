@@ -7,19 +7,19 @@ use byteorder::{ByteOrder, LittleEndian};
 
 /// The bytes of a message, and the offset of the next field in them.
 #[derive(Drop)]
-pub(crate) struct Writer<'a> {
+pub(crate) struct MessageWriter<'a> {
     pub bytes: &'a mut [u8],
     pub at: usize,
 }
 
-impl<'a> Writer<'a> {
+impl<'a> MessageWriter<'a> {
     /// Makes a writer before the first field.
-    pub(crate) fn new(bytes: &'a mut [u8]) -> Writer<'a>
+    pub(crate) fn new(bytes: &'a mut [u8]) -> MessageWriter<'a>
         ensures same { result.bytes.ghost_name ≡ bytes.entry.ghost_name }
         ensures bytes { result.bytes.now ≡ bytes.old }
         ensures at { result.at ≡ 0 }
     {
-        Writer { bytes, at: 0 }
+        MessageWriter { bytes, at: 0 }
     }
 
     /// Writes a field of four bytes.

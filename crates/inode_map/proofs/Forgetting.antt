@@ -113,6 +113,3 @@ forgotten-lowered map n k are loaded files told =
     let same : left_of_use (lowered map.entries n k) ≡ lowered map.entries n k = left_of_use-all (lowered map.entries n k) 2 map.next kept.numbers kept.of_use in
     let other : (n == 1) ≡ false = told.other in let good : is_bad_item map.entries n k ≡ false = told.good in
     rw (other, good) (sym (ap (λ (es : List Kept). left_with es map) same ∙ left_with-all (lowered map.entries n k) map loaded files))
-
-pub forgotten-dropped : (map : MapState) (n k : ℕ) → IsTold map n k true → left_with (left_of_use (lowered map.entries n k)) map ≡ forgotten map n k
-forgotten-dropped map n k told = let other : (n == 1) ≡ false = told.other in let good : is_bad_item map.entries n k ≡ false = told.good in rw (other, good) refl

@@ -1,5 +1,5 @@
 -- What is loaded or remembered of numbers, where entries change or leave.
-use Rattle.std.proofs.Common.{◌≡◌, ℕ, zero, suc, Bool, true, false, cond, List, [], ◌∷◌, ◌++◌, take, Option, Some, None, IsSome, is_some, refl, sym, ap, ◌∙◌, subst, inl, inr, ◌⊎◌}
+use Rattle.std.proofs.Common.{◌≡◌, ℕ, Bool, true, false, cond, List, [], ◌∷◌, ◌++◌, Option, Some, None, IsSome, is_some, refl, sym, ap, ◌∙◌, subst, inl, inr, ◌⊎◌}
 use Rattle.std.specs.Prelude.{not}
 use Rattle.std.specs.List.{filter}
 use Rattle.std.specs.Option.{option_map, option_map_or}
@@ -78,16 +78,6 @@ module _ {X : Type 0} (number : X → ℕ) where
           both_in true =
               ap (λ d. cond (not d) (x ∷ filter (λ (y : X). is_other n (number y)) old) (filter (λ (y : X). is_other n (number y)) old)) (eq-false (number x) n other) ∙ ap (λ (ys : List X). x ∷ ys) rest
           both_in false = rest
-
-  pub of-taken : (es : List Kept) (k : ℕ) (xs : List X) → AreOfKept number es xs → AreOfKept number es (take k xs)
-  of-taken es k [] all = none_in k where
-    none_in : (i : ℕ) → AreOfKept number es (take i [])
-    none_in zero = tt
-    none_in (suc i) = tt
-  of-taken es k (x ∷ xs) all = some_in k (λ i. of-taken es i xs all.1) where
-    some_in : (i : ℕ) → ((j : ℕ) → AreOfKept number es (take j xs)) → AreOfKept number es (take i (x ∷ xs))
-    some_in zero rest = tt
-    some_in (suc i) rest = (all.0, rest i)
 
 -- what is used is loaded
 pub loaded-kept : (es : List Kept) (n : ℕ) (xs : List LoadedAttr) (x : LoadedAttr) → AreOfKept loaded_number es xs → first_where (is_loaded_of n) xs ≡ Some x → is_kept es (loaded_number x) ≡ true

@@ -174,15 +174,6 @@ attr-none n xs none = in_ (first_where (is_loaded_of n) xs) none where
   in_ None e = refl
   in_ (Some l) e = absurd (let no : ⊥ = cc in no)
 
-pub first-taken : (p : LoadedAttr → Bool) (k : ℕ) (xs : List LoadedAttr) → first_where p xs ≡ None → first_where p (take k xs) ≡ None
-first-taken p zero [] none = refl
-first-taken p zero (x ∷ xs) none = refl
-first-taken p (suc k) [] none = refl
-first-taken p (suc k) (x ∷ xs) none = in_ (p x) none (first-taken p k xs) where
-  in_ : (b : Bool) → cond b (Some x) (first_where p xs) ≡ None → (first_where p xs ≡ None → first_where p (take k xs) ≡ None) → cond b (Some x) (first_where p (take k xs)) ≡ None
-  in_ true e rest = absurd (let no : ⊥ = cc in no)
-  in_ false e rest = rest e
-
 -- such a number has no note
 pub unnoted : (notes : List (ℕ × ℕ)) (nodes : Arena LoadedAttr) (n : ℕ) → AreNamed notes nodes → IsDistinct is_slot (slots_of nodes) → first_where (is_loaded_of n) (attrs_in nodes) ≡ None → note_of notes n ≡ None
 unnoted notes nodes n named distinct none = in_ (note_of notes n) refl where

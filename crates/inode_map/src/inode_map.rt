@@ -1,5 +1,5 @@
 //! What a daemon remembers for the kernel.
-ghost use Rattle.std.specs.Prelude.{◌≡◌, ℕ, ◌+◌, ◌<◌, ◌≤◌, ◌^◌, None, Some, IsSome, true, nat_lt, length, MatchOption, IfOk, IfErr, OnOk, OnErr};
+ghost use Rattle.std.specs.Prelude.{◌≡◌, ℕ, ◌+◌, ◌<◌, ◌≤◌, ◌^◌, None, Some, IsSome, true, length, MatchOption, IfOk, IfErr, OnOk, OnErr};
 ghost use Rattle.std.specs.List.{AllByRecursion, filter};
 ghost use Rattle.std.specs.Option.{option_map, option_copied, IfSome};
 ghost use Rattle.eden_base.specs.Limits.{end_of_numbers};
@@ -9,18 +9,18 @@ ghost use Rattle.inode_map.specs.declared.loaded.LoadedAttr.{LoadedAttr};
 ghost use Rattle.inode_map.specs.Words.{forgot_name};
 ghost use Rattle.entry_table.specs.EntryPlaces.{AreOfUseBut, IsNamedEntry, is_linked_entry};
 ghost use Rattle.entry_table.specs.Entries.{entry_of, entry_at, count_of, number_after, number_of_kept, place_of_kept, is_known, is_bad_item, lowered, IsFileOf, AreNumbers, AreEntries, file_remembered, remembered};
-ghost use Rattle.inode_map.specs.InodeMap.{new_map, map_of, give_fault, number_given, given, IsGiveRefusal, forgot, forgotten, is_useless, attr_of, used, load, without_oldest, loaded_number, left_of_use};
+ghost use Rattle.inode_map.specs.InodeMap.{new_map, map_of, give_fault, number_given, given, IsGiveRefusal, forgot, forgotten, is_useless, attr_of, used, load, loaded_number, left_of_use};
 ghost use Rattle.entry_table.specs.Table.{AreOfKept, file_number};
 ghost use Rattle.inode_map.specs.Loaded.{attrs_in, AreNamed};
 ghost use Rattle.inode_map.specs.Pruned.{of_kept, pruned};
 
 mod places;
 
-use crate::loaded::{LoadedAttr, attr_at, load_attr, nodes_of, strike, unload_oldest};
+use crate::loaded::{LoadedAttr, attr_at, load_attr, nodes_of, strike};
 use checkout::Tree;
 use eden_base::{Attr, END_OF_NUMBERS, FileId, Name, NoMemory, Number, Place};
 use entry_table::{Kept, NamedEntries, Table};
-use node_arena::Nodes;
+use node_arena::NodeArena;
 use std::alloc::Global;
 use std::marker::Model;
 use thiserror::Error;
@@ -67,7 +67,7 @@ pub enum GiveFault {
 pub struct InodeMap {
     table: Table,
     bad_items: u64,
-    loaded: Nodes<LoadedAttr>,
+    loaded: NodeArena<LoadedAttr>,
 }
 
 impl Drop for InodeMap {
@@ -360,14 +360,6 @@ impl InodeMap {
         load_attr(&mut self.table, &mut self.loaded, number, attr);
     }
 
-    /// Unloads the attributes that were used longest ago, and returns whether there were any.
-    pub fn unload_oldest(&mut self) -> bool
-        ensures some { result ≡ nat_lt 0 (length self.old.loaded) }
-        ensures unloaded { self.new ≡ record self.old { loaded = without_oldest self.old.loaded } }
-    {
-        unload_oldest(&mut self.table, &mut self.loaded)
-    }
-
     /// Remembers that `number` names `file`. A number never names another file.
     pub fn remember(&mut self, number: Number, file: FileId)
         requires entry { IsSome (entry_of self.old.entries number.0) }
@@ -410,7 +402,7 @@ fn is_useless(table: &Table, number: Number) -> bool
 }
 
 /// Removes the entry of `number` if it has count 0 and no child, and then each such entry above it.
-fn prune(table: &mut Table, loaded: &mut Nodes<LoadedAttr>, number: Number)
+fn prune(table: &mut Table, loaded: &mut NodeArena<LoadedAttr>, number: Number)
     requires numbers { AreNumbers 2 table.old.next table.old.entries }
     requires others_of_use { AreOfUseBut (Some number.0) table.old.entries }
     requires loaded { AreOfKept loaded_number table.old.entries (attrs_in loaded.old) }
@@ -428,7 +420,7 @@ fn prune(table: &mut Table, loaded: &mut Nodes<LoadedAttr>, number: Number)
 }
 
 /// Removes the entry of `number`, which has count 0 and no child, and then each such entry above it.
-fn drop_upwards(table: &mut Table, loaded: &mut Nodes<LoadedAttr>, number: Number)
+fn drop_upwards(table: &mut Table, loaded: &mut NodeArena<LoadedAttr>, number: Number)
     requires numbers { AreNumbers 2 table.old.next table.old.entries }
     requires useless { is_useless table.old.entries number.0 ≡ true }
     requires others_of_use { AreOfUseBut (Some number.0) table.old.entries }

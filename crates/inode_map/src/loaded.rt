@@ -1,5 +1,5 @@
 //! The attributes of the numbers that were used last, each in a node whose slot the entry of its number notes.
-ghost use Rattle.std.specs.Prelude.{◌≡◌, ◌-◌, ◌≤◌, ◌<◌, [], ◌∷◌, None, Some, IsSome, take, length, nat_lt, IfOk, MatchOption};
+ghost use Rattle.std.specs.Prelude.{◌≡◌, ◌-◌, ◌≤◌, ◌<◌, [], ◌∷◌, None, Some, IsSome, take, length, IfOk, MatchOption};
 ghost use Rattle.std.specs.List.{filter};
 ghost use Rattle.std.specs.Option.{option_map};
 ghost use Rattle.inode_map.specs.declared.loaded.LoadedAttr.{LoadedAttr};
@@ -12,7 +12,7 @@ ghost use Rattle.node_arena.specs.Arena.{arena, IsSound};
 
 use eden_base::{Attr, NoMemory, Number, Place};
 use entry_table::Table;
-use node_arena::{Nodes, Slot};
+use node_arena::{NodeArena, Slot};
 use std::alloc::Global;
 
 /// The greatest limit of loaded attributes.
@@ -26,14 +26,14 @@ pub struct LoadedAttr {
 }
 
 /// Takes the memory for `limit` attributes. Refuses a `limit` above 65,536, also with `NoMemory`.
-pub(crate) fn nodes_of(alloc: Global, limit: usize) -> Result<Nodes<LoadedAttr>, NoMemory>
+pub(crate) fn nodes_of(alloc: Global, limit: usize) -> Result<NodeArena<LoadedAttr>, NoMemory>
     requires { 1 ≤ limit }
     ensures { IfOk result (λ nodes. nodes ≡ arena [] limit) }
 {
     if limit > MOST_LOADED {
         return Err(NoMemory);
     }
-    Ok(Nodes::new(alloc, limit)?)
+    Ok(NodeArena::new(alloc, limit)?)
 }
 
 /// Returns the slot that the entry of `number` notes, if any.
@@ -46,7 +46,11 @@ fn slot_of(table: &Table, number: Number) -> Option<Slot>
 }
 
 /// Returns the loaded attributes of `number`, if any, and makes them the most recent.
-pub(crate) fn attr_at(table: &Table, nodes: &mut Nodes<LoadedAttr>, number: Number) -> Option<Attr>
+pub(crate) fn attr_at(
+    table: &Table,
+    nodes: &mut NodeArena<LoadedAttr>,
+    number: Number,
+) -> Option<Attr>
     requires named { AreNamed table.now.notes nodes.old }
     ensures attr { result ≡ attr_of (attrs_in nodes.old) number.0 }
     ensures used { attrs_in nodes.new ≡ used (attrs_in nodes.old) number.0 }
@@ -60,29 +64,10 @@ pub(crate) fn attr_at(table: &Table, nodes: &mut Nodes<LoadedAttr>, number: Numb
     Some(attr)
 }
 
-/// Unloads the attributes that were used longest ago, and returns whether there were any.
-pub(crate) fn unload_oldest(table: &mut Table, nodes: &mut Nodes<LoadedAttr>) -> bool
-    requires entries { AreOfKept loaded_number table.old.entries (attrs_in nodes.old) }
-    requires named { AreNamed table.old.notes nodes.old }
-    ensures some { result ≡ nat_lt 0 (length (attrs_in nodes.old)) }
-    ensures unloaded { attrs_in nodes.new ≡ without_oldest (attrs_in nodes.old) }
-    ensures capacity { nodes.new.capacity ≡ nodes.old.capacity }
-    ensures table { table.new ≡ record table.old { notes = table.new.notes } }
-    ensures still_named { AreNamed table.new.notes nodes.new }
-{
-    nodes.slots_are_apart();
-    let Some(slot) = nodes.oldest() else {
-        return false;
-    };
-    let loaded = nodes.remove(slot);
-    table.note(loaded.number, None);
-    true
-}
-
 /// Puts `number` and `attr` into the node of the attributes that were used longest ago, which are unloaded. They become
 /// the most recent.
 #[inline(always)]
-fn replace_oldest(table: &mut Table, nodes: &mut Nodes<LoadedAttr>, number: Number, attr: Attr)
+fn replace_oldest(table: &mut Table, nodes: &mut NodeArena<LoadedAttr>, number: Number, attr: Attr)
     requires entry { IsSome (entry_of table.old.entries number.0) }
     requires unloaded { attr_of (attrs_in nodes.old) number.0 ≡ None }
     requires some { 0 < length nodes.old.entries }
@@ -107,7 +92,7 @@ fn replace_oldest(table: &mut Table, nodes: &mut Nodes<LoadedAttr>, number: Numb
 
 /// Adds `loaded` as the most recent, where the limit isn't reached.
 #[inline(never)]
-fn add(table: &mut Table, nodes: &mut Nodes<LoadedAttr>, loaded: LoadedAttr)
+fn add(table: &mut Table, nodes: &mut NodeArena<LoadedAttr>, loaded: LoadedAttr)
     requires entry { IsSome (entry_of table.old.entries loaded.number.0) }
     requires unloaded { attr_of (attrs_in nodes.old) loaded.number.0 ≡ None }
     requires room { length nodes.old.entries < nodes.old.capacity }
@@ -128,7 +113,7 @@ fn add(table: &mut Table, nodes: &mut Nodes<LoadedAttr>, loaded: LoadedAttr)
 #[inline(always)]
 pub(crate) fn load_attr(
     table: &mut Table,
-    nodes: &mut Nodes<LoadedAttr>,
+    nodes: &mut NodeArena<LoadedAttr>,
     number: Number,
     attr: Attr,
 )
@@ -150,7 +135,7 @@ pub(crate) fn load_attr(
 }
 
 /// Removes the entry of `number` with its loaded attributes, and returns its place.
-pub(crate) fn strike(table: &mut Table, nodes: &mut Nodes<LoadedAttr>, number: Number) -> Place
+pub(crate) fn strike(table: &mut Table, nodes: &mut NodeArena<LoadedAttr>, number: Number) -> Place
     requires entry { IsSome (entry_of table.old.entries number.0) }
     requires named { AreNamed table.old.notes nodes.old }
     ensures place { option_map place_of_kept (entry_of table.old.entries number.0) ≡ Some result }

@@ -57,3 +57,9 @@ put_behind first rest key k number true first_new rest_new only free same put =
     ap (λ (o : Option ℕ). option_or o rest_new) (same ∙ ap first (only refl) ∙ free) ∙ put
 put_behind first rest key k number false first_new rest_new only free same put =
     ap (λ (o : Option ℕ). option_or o rest_new) same ∙ ap (option_or (first k)) put
+
+-- four cells from which a key goes
+pub cells-removed : (t : Bool) (a b c d : Option ℕ) {a' b' c' d' : Option ℕ} → a' ≡ (if t then None else a) → b' ≡ (if t then None else b) → c' ≡ (if t then None else c) → d' ≡ (if t then None else d) →
+    option_or a' (option_or b' (option_or c' d')) ≡ (if t then None else option_or a (option_or b (option_or c d)))
+cells-removed true a b c d e f g h = rw (e, f, g, h) refl
+cells-removed false a b c d e f g h = rw (e, f, g, h) refl

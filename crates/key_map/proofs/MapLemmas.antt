@@ -1,5 +1,5 @@
 -- The map that tiers are: what it has at each key, and when two are the same.
-use Rattle.std.proofs.Common.{arith, zero, suc, ◌≡◌, ℕ, ◌==◌, ◌||◌, ◌&&◌, Bool, true, false, cond, List, [], ◌∷◌, ◌++◌, Option, Some, None, if◌then◌else◌, refl, sym, ap, ◌∙◌, subst, inl, inr, ◌⊎◌}
+use Rattle.std.proofs.Common.{arith, zero, suc, ◌≡◌, ℕ, ◌==◌, ◌||◌, ◌&&◌, Bool, true, false, cond, List, [], ◌∷◌, ◌++◌, Option, Some, None, if◌then◌else◌, refl, sym, ap, ◌∙◌, inl, inr, ◌⊎◌}
 use Rattle.std.specs.Cmp.{nat_cmp_total, unsigned_ties}
 use Rattle.std.specs.FinMap.{empty, get, get-empty, get-insert, get-remove, insert, nat_cmp-IsAntisymmetric, remove, same_map}
 use Rattle.std.specs.List.{list_any}
@@ -9,8 +9,8 @@ use Rattle.std.specs.Option.{option_or}
 use Rattle.std.specs.Ordering.{eq_by_cmp, nat_cmp}
 use Rattle.std.specs.Prelude.{nat_lt, slice_index_or}
 use Rattle.std.proofs.lemmas.Bool.Decides.{nat_tests}
-use Rattle.key_map.specs.Cells.{empty_bucket, empty_cell, home, in_bucket, in_cell, kept}
-use Rattle.key_map.specs.Map.{all_keys, collected, in_tiers, keys_of, numbers_of, with_some, Numbers}
+use Rattle.key_map.specs.Cells.{empty_bucket, empty_cell, in_bucket, in_cell, kept}
+use Rattle.key_map.specs.Map.{all_keys, collected, in_tiers, keys_of, numbers_of, with_some}
 use Rattle.key_map.specs.declared.bucket.Bucket.{Bucket}
 use Rattle.key_map.specs.declared.cells.Cell.{Cell}
 use Rattle.key_map.specs.declared.key_map.KeyMap.TheInside.{Inside}

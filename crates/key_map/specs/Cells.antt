@@ -1,6 +1,6 @@
 -- The buckets of a tier, of four cells each. Each key has one bucket; a cell with number 0 is empty.
-use Rattle.std.specs.Prelude.{ℕ, ◌*◌, ◌/◌, ◌%◌, ◌^◌, ◌==◌, ◌&&◌, List, length, Option, Some, None, nat_lt, slice_index_or, if◌then◌else◌}
-use Rattle.std.specs.Option.{option_or}
+use Rattle.std.specs.Prelude.{◌≡◌, ℕ, ◌*◌, ◌/◌, ◌%◌, ◌^◌, ◌==◌, ◌&&◌, Bool, false, List, length, Option, Some, None, nat_lt, slice_index_or, if◌then◌else◌}
+use Rattle.std.specs.Option.{option_map_or, option_or}
 use Rattle.key_map.specs.declared.bucket.Bucket.{Bucket}
 use Rattle.key_map.specs.declared.cells.Cell.{Cell}
 
@@ -53,3 +53,11 @@ bucket_at shift len place bucket = record {
 abbrev pub spread : List Bucket → ℕ → ℕ → ℕ → Bucket
 spread buckets shift len place =
     bucket_at shift len place (slice_index_or buckets (place % length buckets) empty_bucket)
+
+-- whether what was found is this number
+abbrev pub is_number : ℕ → Option ℕ → Bool
+is_number number found = option_map_or (λ (n : ℕ). n == number) found false
+
+-- no key has a number in both
+abbrev pub AreApart : (ℕ → Option ℕ) → (ℕ → Option ℕ) → Type 0
+AreApart above below = (key number : ℕ) → above key ≡ Some number → below key ≡ None

@@ -1,10 +1,10 @@
 -- A map as it is seen: the number at each key, whichever tier has it.
-use Rattle.std.specs.Prelude.{ℕ, List, [], ◌∷◌, ◌++◌, Option, None, Some}
+use Rattle.std.specs.Prelude.{⊤, ℕ, List, [], ◌∷◌, ◌++◌, Option, None, Some}
 use Rattle.std.specs.BTreeMap.{get, keys}
 use Rattle.std.specs.FinMap.{FinMap, empty, insert}
 use Rattle.std.specs.Option.{option_or}
 use Rattle.std.specs.Ordering.{nat_cmp}
-use Rattle.key_map.specs.Cells.{kept}
+use Rattle.key_map.specs.Cells.{kept, AreApart}
 use Rattle.key_map.specs.declared.bucket.Bucket.{Bucket}
 use Rattle.key_map.specs.declared.key_map.KeyMap.TheInside.{Inside}
 
@@ -46,3 +46,16 @@ all_keys map =
 -- the number at each key
 unfoldable pub numbers_of : Inside → Numbers
 numbers_of map = collected (in_tiers map) (all_keys map)
+
+-- no key has a number in two tiers, or in a tier and in the tree
+abbrev pub IsSingle : Inside → Type 0
+IsSingle map =
+    AreApart (kept map.tiers.buckets.items map.tiers.shift) (λ key.
+    option_or (kept map.tiers.rest.buckets.items map.tiers.rest.shift key)
+    (option_or (kept map.tiers.rest.rest.buckets.items map.tiers.rest.rest.shift key)
+    (get nat_cmp map.tiers.rest.rest.rest.numbers key)))
+    × (AreApart (kept map.tiers.rest.buckets.items map.tiers.rest.shift) (λ key.
+    option_or (kept map.tiers.rest.rest.buckets.items map.tiers.rest.rest.shift key)
+    (get nat_cmp map.tiers.rest.rest.rest.numbers key))
+    × (AreApart (kept map.tiers.rest.rest.buckets.items map.tiers.rest.rest.shift) (get nat_cmp map.tiers.rest.rest.rest.numbers)
+    × ⊤))

@@ -1,6 +1,6 @@
 //! Buckets of four cells.
 ghost use Rattle.std.specs.Prelude.{◌≡◌, ℕ, ◌<◌, ◌==◌, ◌&&◌, None, Some, if◌then◌else◌};
-ghost use Rattle.key_map.specs.Cells.{in_bucket, bucket_at};
+ghost use Rattle.key_map.specs.Cells.{in_bucket, is_number, bucket_at};
 
 use crate::cells::Cell;
 
@@ -56,14 +56,21 @@ impl Bucket {
         self.fourth.put(key, number)
     }
 
-    /// Empties each cell with the key `key`.
-    pub(crate) fn take(&mut self, key: u64)
-        ensures taken { (k : ℕ) → in_bucket k self.new ≡ (if k == key then None else in_bucket k self.old) }
+    /// Removes `number` from `key`, if it is there, and returns whether it was.
+    pub(crate) fn remove(&mut self, key: u64, number: u64) -> bool
+        ensures had { result ≡ is_number number (in_bucket key self.old) }
+        ensures removed { (k : ℕ) → in_bucket k self.new
+            ≡ (if result && k == key then None else in_bucket k self.old) }
     {
-        self.first.take(key);
-        self.second.take(key);
-        self.third.take(key);
-        self.fourth.take(key);
+        match self.get(key) {
+            Some(there) if there == number => {}
+            _ => return false,
+        }
+        self.first.empty(key);
+        self.second.empty(key);
+        self.third.empty(key);
+        self.fourth.empty(key);
+        true
     }
 
     /// Returns a copy of the bucket with only those cells whose key has the bucket at index `place` of `len` buckets.

@@ -1,6 +1,6 @@
 //! The buckets of a tier: each key has one, by some of its bits.
 ghost use Rattle.std.specs.Prelude.{◌≡◌, ℕ, ◌<◌, ◌==◌, ◌&&◌, List, None, Some, IfOk, length, if◌then◌else◌};
-ghost use Rattle.key_map.specs.Cells.{kept, spread};
+ghost use Rattle.key_map.specs.Cells.{is_number, kept, spread};
 
 use crate::bucket::Bucket;
 use crate::cells::home_of;
@@ -30,16 +30,17 @@ pub(crate) fn put(buckets: &mut Vec<Bucket>, shift: u32, key: u64, number: u64) 
     buckets[home].put(key, number)
 }
 
-/// Empties the cells with the key `key`.
-pub(crate) fn take(buckets: &mut Vec<Bucket>, shift: u32, key: u64)
-    ensures taken { (k : ℕ) → kept buckets.new.items shift k
-        ≡ (if k == key then None else kept buckets.old.items shift k) }
+/// Removes `number` from `key`, if it is there, and returns whether it was.
+pub(crate) fn remove(buckets: &mut Vec<Bucket>, shift: u32, key: u64, number: u64) -> bool
+    ensures had { result ≡ is_number number (kept buckets.old.items shift key) }
+    ensures removed { (k : ℕ) → kept buckets.new.items shift k
+        ≡ (if result && k == key then None else kept buckets.old.items shift k) }
 {
     if buckets.is_empty() {
-        return;
+        return false;
     }
     let home = home_of(buckets.len(), shift, key);
-    buckets[home].take(key);
+    buckets[home].remove(key, number)
 }
 
 /// Returns twice as many buckets with the same numbers.

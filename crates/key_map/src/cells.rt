@@ -52,8 +52,8 @@ impl Cell {
     }
 
     /// Empties the cell, if its key is `key`.
-    pub(crate) fn take(&mut self, key: u64)
-        ensures taken { (k : ℕ) → in_cell k self.new ≡ (if k == key then None else in_cell k self.old) }
+    pub(crate) fn empty(&mut self, key: u64)
+        ensures emptied { (k : ℕ) → in_cell k self.new ≡ (if k == key then None else in_cell k self.old) }
     {
         if self.key == key {
             *self = Cell::EMPTY;

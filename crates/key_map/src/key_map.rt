@@ -1,10 +1,11 @@
 //! A map from keys to numbers.
-ghost use Rattle.std.specs.Prelude.{◌≡◌, None, OnOk, OnErr};
+ghost use Rattle.std.specs.Prelude.{◌≡◌, None, OnOk, OnErr, if◌then◌else◌};
 ghost use Rattle.std.specs.FinMap.{empty, get, insert, remove};
+ghost use Rattle.key_map.specs.Cells.{is_number};
 
 use crate::numbers::Numbers;
+use crate::ordered_numbers::OrderedNumbers;
 use crate::tier::Tier;
-use crate::tree::Tree;
 use std::alloc::{AllocError, Global};
 use std::marker::Model;
 
@@ -15,7 +16,7 @@ const CELLS: usize = 4;
 /// if none had. Of 64,000 keys of names none stands in the tree, and a search for one looks at 1.2 buckets. However
 /// keys are chosen, a search looks at three buckets and goes one way down the tree.
 pub struct KeyMap {
-    tiers: Tier<Tier<Tier<Tree>>>,
+    tiers: Tier<Tier<Tier<OrderedNumbers>>>,
     /// How many numbers there are.
     held: usize,
 }
@@ -30,9 +31,11 @@ impl Model for KeyMap {
 
     ghost coded = { code coded_ℕ coded_ℕ };
 
-    ghost use Rattle.key_map.specs.Map.{numbers_of};
+    ghost use Rattle.key_map.specs.Map.{numbers_of, IsSingle};
 
     ghost view = { numbers_of };
+
+    ghost invariant = { IsSingle };
 }
 
 impl Drop for KeyMap {
@@ -55,7 +58,7 @@ impl KeyMap {
         ensures empty { result ≡ empty }
     {
         let buckets = numbers / CELLS;
-        let third = Tier::over(alloc, 0, buckets / 8 + 1, Tree::new(alloc));
+        let third = Tier::over(alloc, 0, buckets / 8 + 1, OrderedNumbers::new(alloc));
         let second = Tier::over(alloc, 16, buckets / 2 + 4, third);
         let tiers = Tier::over(alloc, 32, buckets + 8, second);
         KeyMap { tiers, held: 0 }
@@ -90,11 +93,15 @@ impl KeyMap {
         Ok(())
     }
 
-    /// Removes the number at `key`, if there is one. Takes no memory.
-    pub fn remove(&mut self, key: u64)
-        ensures removed { self.new ≡ remove self.old key }
+    /// Removes `number` from `key`, if it is there, and returns whether it was. Takes no memory.
+    pub fn remove(&mut self, key: u64, number: u64) -> bool
+        ensures had { result ≡ is_number number (get self.old key) }
+        ensures removed { self.new ≡ (if result then remove self.old key else self.old) }
     {
-        self.tiers.remove(key);
-        self.held = self.held.saturating_sub(1);
+        let had = self.tiers.remove(key, number);
+        if had {
+            self.held = self.held.saturating_sub(1);
+        }
+        had
     }
 }

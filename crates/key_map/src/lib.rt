@@ -6,7 +6,7 @@ mod buckets;
 mod cells;
 mod key_map;
 mod numbers;
+mod ordered_numbers;
 mod tier;
-mod tree;
 
 pub use key_map::KeyMap;

@@ -1,10 +1,10 @@
 //! A tier of buckets, over the numbers whose buckets were full in it.
-ghost use Rattle.std.specs.Prelude.{◌≡◌, ℕ, ◌==◌, [], None, Some, OnOk, OnErr, if◌then◌else◌};
+ghost use Rattle.std.specs.Prelude.{◌≡◌, ℕ, ◌==◌, ◌&&◌, [], None, Some, OnOk, OnErr, if◌then◌else◌};
 ghost use Rattle.std.specs.Option.{option_or};
-ghost use Rattle.key_map.specs.Cells.{kept};
+ghost use Rattle.key_map.specs.Cells.{is_number, kept, AreApart};
 
 use crate::bucket::Bucket;
-use crate::buckets::{number_at, put, take, widened};
+use crate::buckets::{number_at, put, remove, widened};
 use crate::numbers::Numbers;
 use std::alloc::{AllocError, Global};
 
@@ -42,6 +42,8 @@ impl<R> Tier<R> {
 impl<R: Numbers> Numbers for Tier<R> {
     ghost at = { λ t k. option_or (kept t.buckets.items t.shift k) (R.at t.rest k) };
 
+    ghost IsSingle = { λ t. AreApart (kept t.buckets.items t.shift) (R.at t.rest) × R.IsSingle t.rest };
+
     fn get(&self, key: u64) -> Option<u64> {
         if let Some(number) = number_at(self.buckets.as_slice(), self.shift, key) {
             return Some(number);
@@ -56,9 +58,11 @@ impl<R: Numbers> Numbers for Tier<R> {
         self.rest.insert(key, number)
     }
 
-    fn remove(&mut self, key: u64) {
-        take(&mut self.buckets, self.shift, key);
-        self.rest.remove(key);
+    fn remove(&mut self, key: u64, number: u64) -> bool {
+        if remove(&mut self.buckets, self.shift, key, number) {
+            return true;
+        }
+        self.rest.remove(key, number)
     }
 
     fn widen(&mut self, alloc: Global) -> Result<(), AllocError> {

@@ -9,8 +9,8 @@ use Rattle.frames.specs.FrameText.{IsNotMemory, body_of, frame_text, longest_bod
 use Rattle.links.specs.Channel.{Answers, ConnectionState, Hears, IsAnswered, NotHeard, Takes, Heard, NoRoom, Unanswered, Unheard, take_of, text_of}
 use Rattle.links.specs.Reading.{GivesAnswer, IsFault, Took}
 use Rattle.links.specs.Writing.{Sends}
-use Rattle.workers.specs.declared.channel.Taken.{Taken}
-use Rattle.workers.specs.declared.channel.Taken.TheVariants as took
+use Rattle.workers.specs.declared.channel.NextAsk.{NextAsk}
+use Rattle.workers.specs.declared.channel.NextAsk.TheVariants as took
 
 by_length : (over : Bool) (text frame : List ℕ) → cond over None (Some frame) ≡ Some text → text ≡ frame
 by_length true text frame e = absurd cc
@@ -52,12 +52,12 @@ unheard old new said fault memory sends took = NotHeard (Err fault) sends memory
 
 -- ---- a look for an ask, from a state that making room left as it was
 
-hears_frame : (mid new : ConnectionState) (answer : BrokerAnswer) (body : List ℕ) (heard : Frame) (taken : Taken) → answer ≡ answer_of heard → body_of heard ≡ body → Hears mid answer body taken new → Hears mid (answer_of heard) (body_of heard) taken new
+hears_frame : (mid new : ConnectionState) (answer : BrokerAnswer) (body : List ℕ) (heard : Frame) (taken : NextAsk) → answer ≡ answer_of heard → body_of heard ≡ body → Hears mid answer body taken new → Hears mid (answer_of heard) (body_of heard) taken new
 hears_frame mid new answer body heard taken told its hears =
     let by_answer = subst (λ (a : BrokerAnswer). Hears mid a body taken new) told hears in
     subst (λ (t : List ℕ). Hears mid (answer_of heard) t taken new) (sym its) by_answer
 
-pub takes_heard : (old start mid new : ConnectionState) (answer : BrokerAnswer) (body : List ℕ) (taken : Taken) → start ≡ old → IsAnswered start mid (take_of start) answer body → Hears mid answer body taken new → Takes old taken new
+pub takes_heard : (old start mid new : ConnectionState) (answer : BrokerAnswer) (body : List ℕ) (taken : NextAsk) → start ≡ old → IsAnswered start mid (take_of start) answer body → Hears mid answer body taken new → Takes old taken new
 takes_heard old start mid new answer body taken same is hears =
     let P : ConnectionState → Type 0 = λ state. Takes state taken new in
     subst P same (Heard mid is.heard is.exchanged (hears_frame mid new answer body is.heard taken is.is_told is.has_body hears))

@@ -44,18 +44,6 @@ pub room_same : (old mid new : Option (List ℕ)) (held k : ℕ) (xs ys : List �
 room_same old mid new held k xs ys within first kept =
     subst (Consumes old new) (sym (room_kept held k xs ys within)) (Consumes-kept old mid new (take held xs) first kept)
 
--- the end, after what was read
-pub room_ended : (old mid new : Option (List ℕ)) (held k : ℕ) (xs ys : List ℕ) → held ≤ length xs → Consumes old mid (take held xs) → Consumes mid new (take 0 ys) → Consumes old new (take held (put_mid held k xs ys))
-room_ended old mid new held k xs ys within first then =
-    subst (Consumes old new) (append-nil (take held xs) ∙ sym (room_kept held k xs ys within)) (Consumes-trans old mid new (take held xs) [] first then)
-
--- what was read before a read failed
-pub read_before : (old new : Option (List ℕ)) (held enough : ℕ) (xs : List ℕ) → held < enough → Consumes old new (take held xs) → Took old new (λ bytes. length bytes < enough)
-read_before old new held enough xs few first = record { bytes = take held xs; taken = first; holds = omega (arith, few, length-take held xs) }
-
-pub read_failed : (old mid new : Option (List ℕ)) (held enough : ℕ) (xs : List ℕ) → held < enough → Consumes old mid (take held xs) → Keeps mid new → Took old new (λ bytes. length bytes < enough)
-read_failed old mid new held enough xs few first kept = read_before old new held enough xs few (Consumes-kept old mid new (take held xs) first kept)
-
 -- ---- a fault after a front
 
 pub head_fault : (bytes : List ℕ) (left : Option (List ℕ)) (fault : FrameFault) → IsHeadFault fault → said bytes ≡ Faulty fault → IsFault bytes left fault

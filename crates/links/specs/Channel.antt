@@ -22,8 +22,8 @@ use Rattle.links.specs.Writing.{Writes}
 use Rattle.links.specs.declared.socket_channel.SocketChannel.{SocketChannel}
 use Rattle.workers.specs.declared.channel.Posted.{Posted}
 use Rattle.workers.specs.declared.channel.Posted.TheVariants as post
-use Rattle.workers.specs.declared.channel.Taken.{Taken}
-use Rattle.workers.specs.declared.channel.Taken.TheVariants as took
+use Rattle.workers.specs.declared.channel.NextAsk.{NextAsk}
+use Rattle.workers.specs.declared.channel.NextAsk.TheVariants as took
 
 -- a channel: the generation at which it serves; why the broker has no more for it, if it said so; and, if they are
 -- known, the bytes that are to come in and those that went out
@@ -112,7 +112,7 @@ Posts old reply posted new =
 
 -- a request that cannot be read is answered by an error, if the kernel waits for a reply; otherwise the result is
 -- Broken
-abbrev pub Refuses : ConnectionState → List ℕ → WireFault → Taken → ConnectionState → Type 0
+abbrev pub Refuses : ConnectionState → List ℕ → WireFault → NextAsk → ConnectionState → Type 0
 Refuses old bytes fault took.Empty new =
     (reply : Reply) × (fault_reply_of bytes fault ≡ Some reply) × Posts old reply post.Done new
 Refuses old bytes fault took.Broken new =
@@ -121,16 +121,16 @@ Refuses old bytes fault took.Broken new =
 Refuses old bytes fault taken new = ⊥
 
 -- the outcome of a request that was handed out, as its bytes are read
-abbrev pub Serves : ConnectionState → List ℕ → Result Ask WireFault → Taken → ConnectionState → Type 0
+abbrev pub Serves : ConnectionState → List ℕ → Result Ask WireFault → NextAsk → ConnectionState → Type 0
 Serves old bytes (Ok ask) taken new = (taken ≡ took.Ask ask) × (new ≡ old)
 Serves old bytes (Err fault) taken new = Refuses old bytes fault taken new
 
 -- the channel stops for this cause
-abbrev pub Stops : ConnectionState → TakeFault → Taken → ConnectionState → Type 0
+abbrev pub Stops : ConnectionState → TakeFault → NextAsk → ConnectionState → Type 0
 Stops old why taken new = (taken ≡ took.Stopped) × (new ≡ record old { ended = Some why })
 
 -- the outcome of the answer to a Take, whose frame has this body
-abbrev pub Hears : ConnectionState → BrokerAnswer → List ℕ → Taken → ConnectionState → Type 0
+abbrev pub Hears : ConnectionState → BrokerAnswer → List ℕ → NextAsk → ConnectionState → Type 0
 Hears old answers.Ask body taken new = Serves old body (request_of body) taken new
 Hears old answers.Empty body taken new = (taken ≡ took.Empty) × (new ≡ old)
 Hears old answers.Ended body taken new = Stops old refused.Ended taken new
@@ -143,8 +143,8 @@ take_of channel = frames.Take channel.generation
 
 -- The outcome of taking an ask: the broker was asked, and its answer decides; or it was asked and did not answer; or
 -- nothing was asked, since there is no room for what may come.
-pub data Takes : ConnectionState → Taken → ConnectionState → Type 0 where
-  Heard : {old new : ConnectionState} {taken : Taken} (mid : ConnectionState) (heard : Frame) →
+pub data Takes : ConnectionState → NextAsk → ConnectionState → Type 0 where
+  Heard : {old new : ConnectionState} {taken : NextAsk} (mid : ConnectionState) (heard : Frame) →
       Exchanged old mid (take_of old) heard → Hears mid (answer_of heard) (body_of heard) taken new → Takes old taken new
   Unheard : {old new : ConnectionState} → Unanswered old (take_of old) new → Takes old took.Broken new
   NoRoom : {channel : ConnectionState} → Takes channel took.Empty channel

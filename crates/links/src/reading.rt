@@ -138,7 +138,7 @@ fn fill_body<R: Read>(
     Ok(())
 }
 
-/// Reads the body after `head` into `room`, and returns the frame.
+/// Reads the body after `head` into `room` by at most `left` reads, and returns the frame.
 #[tactic(auto, using(crate::proofs::ReadingLaws::bad_not_memory))]
 fn read_body<R: Read>(
     reader: &mut R,

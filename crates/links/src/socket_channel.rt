@@ -10,23 +10,23 @@ use frames::BrokerAnswer;
 use fuse_wire::{Ask, BatchRoom, Reply, WireFault, fault_reply, read_request, read_request_to};
 use std::alloc::Global;
 use std::io::{Read, Write};
-use workers::{Channel, Posted, Taken};
+use workers::{Channel, NextAsk, Posted};
 
-/// Room for two names and a batch. A request holds a name or a batch at most.
+/// Buffers for two names and a batch. A request holds a name or a batch at most.
 #[derive(Drop)]
-struct Rooms {
+struct ChannelBuffers {
     first: NameRoom,
     second: NameRoom,
     batch: BatchRoom,
 }
 
-impl Rooms {
+impl ChannelBuffers {
     /// Takes memory for any one request.
-    fn new(alloc: Global) -> Result<Rooms, NoMemory> {
+    fn new(alloc: Global) -> Result<ChannelBuffers, NoMemory> {
         let first = NameRoom::new(alloc)?;
         let second = NameRoom::new(alloc)?;
         let batch = BatchRoom::new(alloc)?;
-        Ok(Rooms {
+        Ok(ChannelBuffers {
             first,
             second,
             batch,
@@ -50,7 +50,7 @@ pub struct SocketChannel<R, W> {
     writer: W,
     generation: u64,
     ended: Option<TakeFault>,
-    rooms: Option<Rooms>,
+    rooms: Option<ChannelBuffers>,
     frame_room: FrameRoom,
 }
 
@@ -74,7 +74,7 @@ impl<R: Read, W: Write> SocketChannel<R, W> {
               outgoing = W.contents writer;
             }) }
     {
-        let rooms = Rooms::new(alloc)?;
+        let rooms = ChannelBuffers::new(alloc)?;
         let frame_room = FrameRoom::new(alloc)?;
         Ok(SocketChannel {
             alloc,
@@ -140,7 +140,7 @@ impl<R: Read, W: Write> SocketChannel<R, W> {
         if self.rooms.is_some() {
             return true;
         }
-        match Rooms::new(self.alloc) {
+        match ChannelBuffers::new(self.alloc) {
             Ok(rooms) => {
                 self.rooms = Some(rooms);
                 true
@@ -169,68 +169,68 @@ impl<R: Read, W: Write> SocketChannel<R, W> {
 
     /// Answers a request that came and cannot be read by an error, if the kernel waits for a reply. Otherwise returns
     /// Broken.
-    fn refuse(&mut self, fault: WireFault) -> Taken
+    fn refuse(&mut self, fault: WireFault) -> NextAsk
         ensures refuses { Refuses (state_of R.remaining W.contents self.old) self.old.frame_room fault result
             (state_of R.remaining W.contents self.new) }
     {
         let Some(reply) = fault_reply(self.frame_room.body(), &fault) else {
-            return Taken::Broken;
+            return NextAsk::Broken;
         };
         match self.post(reply) {
-            Posted::Done => Taken::Empty,
-            Posted::Broken => Taken::Broken,
+            Posted::Done => NextAsk::Empty,
+            Posted::Broken => NextAsk::Broken,
         }
     }
 
     /// Returns the ask that came. A request that cannot be read is refused.
-    fn serve(&mut self) -> Taken
+    fn serve(&mut self) -> NextAsk
         requires rooms { IsSome self.old.rooms }
         ensures serves { Serves (state_of R.remaining W.contents self.old) self.old.frame_room
             (request_of self.old.frame_room) result (state_of R.remaining W.contents self.new) }
     {
         match self.read() {
-            Ok(ask) => Taken::Ask(ask),
+            Ok(ask) => NextAsk::Ask(ask),
             Err(fault) => self.refuse(fault),
         }
     }
 
     /// Notes why the channel stopped, and returns Stopped.
-    fn stop(&mut self, why: TakeFault) -> Taken
+    fn stop(&mut self, why: TakeFault) -> NextAsk
         ensures stops { Stops (state_of R.remaining W.contents self.old) why result
             (state_of R.remaining W.contents self.new) }
     {
         self.ended = Some(why);
-        Taken::Stopped
+        NextAsk::Stopped
     }
 
     /// Takes in the broker's answer to a Take, and returns the result of the `take`.
-    fn hear(&mut self, answer: BrokerAnswer) -> Taken
+    fn hear(&mut self, answer: BrokerAnswer) -> NextAsk
         requires rooms { IsSome self.old.rooms }
         ensures hears { Hears (state_of R.remaining W.contents self.old) answer self.old.frame_room result
             (state_of R.remaining W.contents self.new) }
     {
         match answer {
             BrokerAnswer::Ask => self.serve(),
-            BrokerAnswer::Empty => Taken::Empty,
+            BrokerAnswer::Empty => NextAsk::Empty,
             BrokerAnswer::Ended => self.stop(TakeFault::Ended),
             BrokerAnswer::Stale { now } => self.stop(TakeFault::Stale(now)),
-            _ => Taken::Broken,
+            _ => NextAsk::Broken,
         }
     }
 
     /// Takes the next ask from the broker. First makes room for any request. If that is refused, asks nothing and
     /// returns Empty, so that no request is lost for lack of memory. A request that can't be read is answered by its
     /// error, and Empty is returned. If the result is Broken, close the connection.
-    pub fn take(&mut self) -> Taken
+    pub fn take(&mut self) -> NextAsk
         ensures takes { Takes (state_of R.remaining W.contents self.old) result
             (state_of R.remaining W.contents self.new) }
     {
         if !self.has_rooms() {
-            return Taken::Empty;
+            return NextAsk::Empty;
         }
         match self.ask_next() {
             Some(answer) => self.hear(answer),
-            None => Taken::Broken,
+            None => NextAsk::Broken,
         }
     }
 
@@ -278,11 +278,11 @@ impl<R: Read, W: Write> Channel for SocketChannel<R, W> {
     ghost posts = { λ before reply posted after. Posts (state_of R.remaining W.contents before) reply posted
         (state_of R.remaining W.contents after) };
 
-    ghost tells = { false };
+    ghost reports = { false };
 
-    ghost told = { λ _. record { taken = []; posted = [] } };
+    ghost reported = { λ _. record { taken = []; posted = [] } };
 
-    fn take(&mut self) -> Taken {
+    fn take(&mut self) -> NextAsk {
         SocketChannel::take(self)
     }
 

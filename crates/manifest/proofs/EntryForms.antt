@@ -3,7 +3,7 @@ use Rattle.std.proofs.Common.{◌≡◌, ℕ, true, false, nat_eq, take, drop, L
 use Rattle.manifest.proofs.FieldForms.{mode_text-mode_of, decimal_text-size_of}
 use Rattle.manifest.proofs.PartsLaws.{joined-cut}
 use Rattle.manifest.specs.ManifestForm.{IsSayable, fields_text, mode_text}
-use Rattle.manifest.specs.ManifestText.{Entry, dir_entry, file_entry, entry_of, entry_fault}
+use Rattle.manifest.specs.ManifestText.{ManifestEntry, dir_entry, file_entry, entry_of, entry_fault}
 use Rattle.manifest.specs.Text.{after, front, mode_of, size_of}
 use Rattle.manifest.specs.Tree.{dir_perm}
 use Rattle.manifest.specs.declared.fault.ManifestFaultKind.TheVariants.{BadMode, BadSize}
@@ -30,7 +30,7 @@ append-after front text rest h =
     ] refl h
 
 -- an entry that a line says
-pub record IsEntry (text : List ℕ) (e : Entry) (perm : Perm) (size : ℕ) : Type 0 where
+pub record IsEntry (text : List ℕ) (e : ManifestEntry) (perm : Perm) (size : ℕ) : Type 0 where
   pub perm_is : e.perm ≡ Some perm
   pub size_is : e.size ≡ Some size
   pub is : text ≡ fields_text e.kind perm size ++ e.path
@@ -47,7 +47,7 @@ module _ (text rest mode more size path : List ℕ) (front_is : text ≡ codes "
       front_is ∙ ap (λ xs. codes "file " ++ xs) (first ∙ ap (λ xs. mode ++ 32 ∷ xs) second ∙ (λ i. a i ++ 32 ∷ (b i ++ 32 ∷ path)))
       ∙ ap (λ xs. codes "file " ++ mode_text perm ++ 32 ∷ xs) (sym (append_assoc (decimal n) (32 ∷ []) path))
 
-  abbrev said : Entry
+  abbrev said : ManifestEntry
   said = record { kind = RegularFile; perm = mode_of mode; size = size_of size; path = path }
 
   file_form : entry_fault (Some said) ≡ None → (perm : Perm) × (n : ℕ) × IsEntry text said perm n
@@ -60,7 +60,7 @@ module _ (text rest mode more size path : List ℕ) (front_is : text ≡ codes "
         ] refl g
       ] refl h
 
-file_entry_form : (text rest : List ℕ) (e : Entry) → text ≡ codes "file " ++ rest → file_entry rest ≡ Some e → entry_fault (Some e) ≡ None → (perm : Perm) × (n : ℕ) × IsEntry text e perm n
+file_entry_form : (text rest : List ℕ) (e : ManifestEntry) → text ≡ codes "file " ++ rest → file_entry rest ≡ Some e → entry_fault (Some e) ≡ None → (perm : Perm) × (n : ℕ) × IsEntry text e perm n
 file_entry_form text rest e front_is h ok =
     elim (cut 32 rest) as (λ o. cut 32 rest ≡ o → option_and_then (λ (m : List ℕ × List ℕ). option_map (λ (s : List ℕ × List ℕ). record { kind = RegularFile; perm = mode_of m.0; size = size_of s.0; path = s.1 }) (cut 32 m.1)) o ≡ Some e → (perm : Perm) × (n : ℕ) × IsEntry text e perm n) [
       | None ↦ λ k g. absurd (cc)
@@ -70,16 +70,16 @@ file_entry_form text rest e front_is h ok =
             let first = joined-cut 32 rest m.0 m.1 k in
             let second = joined-cut 32 m.1 s.0 s.1 l in
             let same : said text rest m.0 m.1 s.0 s.1 front_is first second ≡ e = cc in
-            subst (λ (x : Entry). entry_fault (Some x) ≡ None → (perm : Perm) × (n : ℕ) × IsEntry text x perm n) same (file_form text rest m.0 m.1 s.0 s.1 front_is first second) ok
+            subst (λ (x : ManifestEntry). entry_fault (Some x) ≡ None → (perm : Perm) × (n : ℕ) × IsEntry text x perm n) same (file_form text rest m.0 m.1 s.0 s.1 front_is first second) ok
       ] refl g
     ] refl h
 
-pub entry_form : (text : List ℕ) (e : Entry) → entry_of text ≡ Some e → entry_fault (Some e) ≡ None → (perm : Perm) × (n : ℕ) × IsEntry text e perm n
+pub entry_form : (text : List ℕ) (e : ManifestEntry) → entry_of text ≡ Some e → entry_fault (Some e) ≡ None → (perm : Perm) × (n : ℕ) × IsEntry text e perm n
 entry_form text e h ok =
     elim (after (codes "dir ") text) as (λ o. after (codes "dir ") text ≡ o → option_or (option_map dir_entry o) (option_and_then file_entry (after (codes "file ") text)) ≡ Some e → (perm : Perm) × (n : ℕ) × IsEntry text e perm n) [
       | Some path ↦ λ k g.
           let same : dir_entry path ≡ e = cc in
-          subst (λ (x : Entry). (perm : Perm) × (n : ℕ) × IsEntry text x perm n) same (dir_perm, 0, dir_entry-is text path k)
+          subst (λ (x : ManifestEntry). (perm : Perm) × (n : ℕ) × IsEntry text x perm n) same (dir_perm, 0, dir_entry-is text path k)
       | None ↦ λ k g. elim (after (codes "file ") text) as (λ o. after (codes "file ") text ≡ o → option_and_then file_entry o ≡ Some e → (perm : Perm) × (n : ℕ) × IsEntry text e perm n) [
         | None ↦ λ l w. absurd (cc)
         | Some rest ↦ λ l w. file_entry_form text rest e (append-after (codes "file ") text rest l) w ok

@@ -5,7 +5,7 @@ use Rattle.manifest.proofs.PartsLaws.{has, joined-parts, front-last, split_from_
 use Rattle.manifest.proofs.TextLemmas.{some_part}
 use Rattle.manifest.specs.Manifest.{Line, Manifest, most_lines}
 use Rattle.manifest.specs.ManifestForm.{joined, IsHexText, IsManifestForm, IsLineForm, AreLinesForm, fields_text, path_text}
-use Rattle.manifest.specs.ManifestText.{Entry, entry_of, entry_fault, names_of, tree_so_far, only_dir, parent_of, place_fault, line_said, placed, line_of_entry, line_of_text, on_line, read_on, fault_at, commit_of, digest_of, after_commit, with_commit, manifest_of_lines, manifest_of}
+use Rattle.manifest.specs.ManifestText.{ManifestEntry, entry_of, entry_fault, names_of, tree_so_far, only_dir, parent_of, place_fault, line_said, placed, line_of_entry, line_of_text, on_line, read_on, fault_at, commit_of, digest_of, after_commit, with_commit, manifest_of_lines, manifest_of}
 use Rattle.manifest.specs.Names.{is_name}
 use Rattle.manifest.specs.Text.{after, parts, front, last}
 use Rattle.manifest.specs.Tree.{Tree, root, file_at, kind_of, child_of, is_dir, dir_perm}
@@ -47,12 +47,12 @@ place_from_none above path h =
 
 -- ---- lines
 
-placed-ok : (above : List Line) (e : Entry) (f g : Option ManifestFaultKind) (line : Line) → placed above e (option_or f g) ≡ Ok line → (f ≡ None) × (g ≡ None) × (line_said above e ≡ line)
+placed-ok : (above : List Line) (e : ManifestEntry) (f g : Option ManifestFaultKind) (line : Line) → placed above e (option_or f g) ≡ Ok line → (f ≡ None) × (g ≡ None) × (line_said above e ≡ line)
 placed-ok above e None None line h = (refl, refl, cc)
 placed-ok above e None (Some fault) line h = absurd (cc)
 placed-ok above e (Some fault) g line h = absurd (cc)
 
-form_of_entry : (above : List Line) (text : List ℕ) (e : Entry) (line : Line) → entry_of text ≡ Some e → line_of_entry above (Some e) ≡ Ok line → has 10 text ≡ false → IsLineForm above line text
+form_of_entry : (above : List Line) (text : List ℕ) (e : ManifestEntry) (line : Line) → entry_of text ≡ Some e → line_of_entry above (Some e) ≡ Ok line → has 10 text ≡ false → IsLineForm above line text
 form_of_entry above text e line is h one =
     let p = placed-ok above e (entry_fault (Some e)) (place_fault above e.path) line h in
     let q = entry_form text e is p.0 in

@@ -19,7 +19,7 @@ use Rattle.eden_base.specs.declared.name.NameFault.TheVariants.{Empty, TooLong, 
 use Rattle.eden_base.specs.declared.number.FileId.{FileId}
 use Rattle.manifest.specs.Manifest.{File, Line, Manifest, IsLine, AreLines, IsManifest, most_lines}
 use Rattle.manifest.specs.ManifestForm.{IsManifestForm, IsLineForm, AreLinesForm, IsSayable, fields_text, path_text, mode_text}
-use Rattle.manifest.specs.ManifestText.{Entry, entry_of, names_of, tree_so_far, only_dir, parent_of, place_fault, placed, line_of_entry, line_of_text, on_line, read_on, fault_at, lines_of, commit_of, after_commit, with_commit, manifest_of_lines, manifest_of}
+use Rattle.manifest.specs.ManifestText.{ManifestEntry, entry_of, names_of, tree_so_far, only_dir, parent_of, place_fault, placed, line_of_entry, line_of_text, on_line, read_on, fault_at, lines_of, commit_of, after_commit, with_commit, manifest_of_lines, manifest_of}
 use Rattle.manifest.specs.Names.{is_name}
 use Rattle.manifest.specs.Text.{front, last, mode_of, size_of}
 use Rattle.manifest.specs.Tree.{Tree, root, file_at, kind_of, child_of, is_dir, files_from}
@@ -60,7 +60,7 @@ names-without (n ∷ ns) h = let p = and_parts (is_name n) (list_all is_name ns)
 -- ---- entries
 
 -- the entry that a line says
-abbrev entry : Kind → Option Perm → Option ℕ → List ℕ → Entry
+abbrev entry : Kind → Option Perm → Option ℕ → List ℕ → ManifestEntry
 entry kind perm size path = record { kind = kind; perm = perm; size = size; path = path }
 
 entry-file : (perm : Perm) (size : ℕ) (path : List ℕ) → size ≤ greatest_size → entry_of (fields_text RegularFile perm size ++ path) ≡ Some (entry RegularFile (Some perm) (Some size) path)

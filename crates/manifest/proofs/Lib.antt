@@ -6,12 +6,10 @@ pub mod FormReads
 pub mod HexForms
 pub mod LineCounts
 pub mod ListLemmas
-pub mod ListedLinks
 pub mod ManifestIsTree
 pub mod ManifestTree
 pub mod MapLemmas
 pub mod MoreLines
-pub mod OpenedDirectories
 pub mod OrderedMaps
 pub mod PartsLaws
 pub mod PathLaws

@@ -1,5 +1,5 @@
 -- The files and links of a manifest's lines, line by line.
-use Rattle.std.proofs.Common.{◌≡◌, ℕ, zero, suc, ◌+◌, ◌-◌, ◌<◌, ◌≤◌, true, false, nat_lt, if◌then◌else◌, List, [], ◌∷◌, ◌++◌, length, take, Some, None, refl, sym, ap, ◌∙◌, ◌⊎◌, inl, inr, arith}
+use Rattle.std.proofs.Common.{◌≡◌, ℕ, zero, suc, ◌+◌, ◌-◌, ◌<◌, ◌≤◌, true, false, nat_lt, if◌then◌else◌, List, [], ◌∷◌, ◌++◌, length, Some, None, refl, sym, ap, ◌∙◌, ◌⊎◌, inl, inr, arith}
 use Rattle.std.proofs.lemmas.Bool.Decides.{nat_tests}
 use Rattle.std.specs.List.{slice_get}
 use Rattle.std.specs.Option.{option_map}
@@ -157,39 +157,3 @@ links_from-push id lines l new =
     links_from-numbered id (lines ++ l ∷ []) ∙ ap from_entries (numbered-push id lines l)
     ∙ from_entries_push link_cmp_total link_cmp-same (numbered id lines) (l.dir.0, l.name) (file_with (id + length lines)) none
     ∙ ap (λ m. insert m (l.dir.0, l.name) (file_with (id + length lines))) (sym (links_from-numbered id lines))
-
-slice_get-take : (lines : List Line) (i j : ℕ) (line : Line) → slice_get (take i lines) j ≡ Some line → (j < i) × (slice_get lines j ≡ Some line)
-slice_get-take lines zero j line h = absurd (cc)
-slice_get-take [] (suc i) j line h = absurd (cc)
-slice_get-take (l ∷ ls) (suc i) zero line h = (omega arith, h)
-slice_get-take (l ∷ ls) (suc i) (suc j) line h = let r = slice_get-take ls i j line h in (omega (arith, r.0), r.1)
-
-length-front : (lines : List Line) (i : ℕ) (line : Line) → slice_get lines i ≡ Some line → length (take i lines) ≡ i
-length-front [] i line h = absurd (cc)
-length-front (l ∷ ls) zero line h = refl
-length-front (l ∷ ls) (suc i) line h = let e = length-front ls i line h in omega arith
-
-take-push : (lines : List Line) (i : ℕ) (line : Line) → slice_get lines i ≡ Some line → take (suc i) lines ≡ take i lines ++ line ∷ []
-take-push [] i line h = absurd (cc)
-take-push (l ∷ ls) zero line h = let same : l ≡ line = cc in ap (λ x. x ∷ []) same
-take-push (l ∷ ls) (suc i) line h = ap (λ xs. l ∷ xs) (take-push ls i line h)
-
--- nothing stands yet at the place of a later line
-place_is_new : (lines : List Line) (i : ℕ) (line : Line) → AreApart lines → slice_get lines i ≡ Some line → get (links_from 2 (take i lines)) (line.dir.0, line.name) ≡ None
-place_is_new lines i line h here =
-    elim (get (links_from 2 (take i lines)) (line.dir.0, line.name)) as (λ o. get (links_from 2 (take i lines)) (line.dir.0, line.name) ≡ o → o ≡ None) [
-      | None ↦ λ e. refl
-      | Some file ↦ λ e.
-          let r = line_of_link (take i lines) 2 line.dir.0 line.name file e in
-          let t = slice_get-take lines i r.place r.line r.here in
-          absurd (h.apart i r.place line r.line t.0 here t.1 (same_id r.line.dir line.dir r.dir_is) r.name_is)
-    ] refl
-
--- one more line adds its link
-pub links_from-more : (lines : List Line) (i : ℕ) (line : Line) → AreApart lines → slice_get lines i ≡ Some line → links_from 2 (take (i + 1) lines) ≡ insert (links_from 2 (take i lines)) (line.dir.0, line.name) (file_with (i + 2))
-links_from-more lines i line h here =
-    let next : i + 1 ≡ suc i = omega arith in
-    let id : 2 + length (take i lines) ≡ i + 2 = let e = length-front lines i line here in omega arith in
-    ap (λ n. links_from 2 (take n lines)) next ∙ ap (links_from 2) (take-push lines i line here)
-    ∙ links_from-push 2 (take i lines) line (place_is_new lines i line h here)
-    ∙ ap (λ n. insert (links_from 2 (take i lines)) (line.dir.0, line.name) (file_with n)) id

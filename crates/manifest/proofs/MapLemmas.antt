@@ -1,5 +1,5 @@
 -- Lookups in a finite map after an insertion, and its entries.
-use Rattle.std.proofs.Common.{◌≡◌, Bool, true, false, cond, ◌||◌, T, List, [], ◌∷◌, length, Some, None, refl, sym, ap, ◌∙◌, ◌⊎◌, inl, inr}
+use Rattle.std.proofs.Common.{◌≡◌, Bool, true, false, cond, ◌||◌, T, List, [], ◌∷◌, Some, None, refl, sym, ap, ◌∙◌, ◌⊎◌, inl, inr}
 use Rattle.std.proofs.Math.Bool.{or-true}
 use Rattle.std.proofs.Math.Facts.{and_yes}
 use Rattle.std.specs.List.{list_any}
@@ -7,7 +7,7 @@ use Rattle.std.specs.Ordering.{is_eq, is_lt, eq_by_cmp, ordering_reverse}
 use Rattle.std.specs.declared.cmp.Ordering.{Ordering}
 use Rattle.std.specs.declared.cmp.Ordering.TheVariants.{Less, Equal, Greater}
 use Rattle.std.specs.Cmp.{IsTotalOrder, tied_itself}
-use Rattle.std.specs.FinMap.{FinMap, entries, entries_sorted, get, insert, find, empty, remove, get-entries, get-insert, get-remove, same_map, empty_of_len, len-entries, IsAntisymmetric}
+use Rattle.std.specs.FinMap.{FinMap, entries, entries_sorted, get, insert, find, remove, get-entries, get-insert, get-remove, same_map, IsAntisymmetric}
 use Rattle.std.specs.FinMap.Entries.{below_all, is_sorted}
 
 tie : (o : Ordering) → is_eq o ≡ true → o ≡ Equal
@@ -155,11 +155,3 @@ found_value {K} {X} {R} o p (e ∷ es) rise h =
 
 pub value_from_any : {K X : Type 0} {R : K → K → Ordering} (o : IsTotalOrder R) (p : X → Bool) (m : FinMap R X) → list_any (λ (e : K × X). p e.1) (entries m) ≡ true → (k : K) × (v : X) × (get m k ≡ Some v) × (p v ≡ true)
 value_from_any o p m h = let r = found_value o p (entries m) (entries_sorted m) h in (r.key, r.value, get-entries m r.key ∙ r.found, r.passes)
-
--- a map with entries finds the first of them
-pub empty_or_found : {K X : Type 0} {R : K → K → Ordering} (o : IsTotalOrder R) (m : FinMap R X) → (m ≡ empty) ⊎ ((k : K) × (v : X) × (get m k ≡ Some v))
-empty_or_found {K} {X} {R} o m =
-    elim (entries m) as (λ es. entries m ≡ es → (m ≡ empty) ⊎ ((k : K) × (v : X) × (get m k ≡ Some v))) [
-      | [] ↦ λ e. inl (empty_of_len m (len-entries m ∙ ap length e))
-      | x ∷ xs ↦ λ e. inr (x.0, x.1, get-entries m x.0 ∙ ap (find R x.0) e ∙ ap (λ r. cond (is_eq r) (Some x.1) (find R x.0 xs)) (tied_itself o x.0))
-    ] refl

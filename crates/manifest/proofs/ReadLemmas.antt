@@ -75,19 +75,6 @@ length_taken lines text new h =
       | Err fault ↦ λ e. absurd e
     ] h
 
--- the same after the commit's line
-pub refusal-with_commit : (digest commit : List ℕ) (r : Result (List Line) ManifestFault) (n : ℕ) (kind : ManifestFaultKind) → IsRefusal r n kind → IsRefusal (with_commit digest commit r) n kind
-refusal-with_commit digest commit (Ok lines) n NoMemory h = tt
-refusal-with_commit digest commit (Err f) n NoMemory h = h
-refusal-with_commit digest commit r n NoCommit h = ap (with_commit digest commit) h
-refusal-with_commit digest commit r n BadLine h = ap (with_commit digest commit) h
-refusal-with_commit digest commit r n BadMode h = ap (with_commit digest commit) h
-refusal-with_commit digest commit r n BadSize h = ap (with_commit digest commit) h
-refusal-with_commit digest commit r n BadPath h = ap (with_commit digest commit) h
-refusal-with_commit digest commit r n NoParent h = ap (with_commit digest commit) h
-refusal-with_commit digest commit r n Twice h = ap (with_commit digest commit) h
-refusal-with_commit digest commit r n TooManyLines h = ap (with_commit digest commit) h
-
 -- a line after the first, and before the last, may have any fault
 pub among_lines : (count line : ℕ) (kind : ManifestFaultKind) → 1 < line → line < count → IsAmongLines count line kind
 among_lines count line NoMemory low high = (omega arith, high, λ first. absurd (omega (arith, first)))

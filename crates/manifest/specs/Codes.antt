@@ -3,7 +3,6 @@ use Rattle.std.specs.Prelude.{ℕ, List, refl}
 use Rattle.std.specs.Coded.{Coded, code_by, coded×, coded_ℕ, coded_list}
 use Rattle.std.specs.FinMap as map
 use Rattle.std.specs.Ordering.{nat_cmp}
-use Rattle.std.specs.Cmp.Lexicographic.{slice_cmp}
 use Rattle.eden_base.specs.contracts.attr.Kind as kind
 use Rattle.eden_base.specs.contracts.attr.Perm as perm
 use Rattle.eden_base.specs.declared.attr.Kind.{Kind}
@@ -42,10 +41,6 @@ manifest_code =
     code_by (List ℕ × (List ℕ × List Line))
     (coded× (coded_list coded_ℕ) (coded× (coded_list coded_ℕ) (coded_list line_code)))
     (λ m. (m.commit, (m.digest, m.lines))) (λ p. record { commit = p.0; digest = p.1.0; lines = p.1.1 }) (λ _. refl)
-
--- the coding of a directory: its names, with their files
-abbrev pub directory_code : Coded (map.FinMap (slice_cmp nat_cmp) FileId)
-directory_code = map.code (coded_list coded_ℕ) file_id_code
 
 -- the coding of links: directories and names, with their files
 abbrev pub links_code : Coded (map.FinMap link_cmp FileId)

@@ -1,5 +1,4 @@
 pub mod Codes
-pub mod Flat
 pub mod Links
 pub mod Manifest
 pub mod ManifestForm

@@ -29,18 +29,18 @@ commit_of line =
     option_and_then (λ (digits : List ℕ). result_ok (decode_sized digits 20)) (after (codes "commit ") line)
 
 -- what a line says: the kind of its file, the permissions and the size if they are well written, and the path
-pub record Entry : Type 0 where
+pub record ManifestEntry : Type 0 where
   pub kind : Kind
   pub perm : Option Perm
   pub size : Option ℕ
   pub path : List ℕ
 
 -- the entry of a line `dir PATH`: only the owner may write the directory, and its size is 0
-abbrev pub dir_entry : List ℕ → Entry
+abbrev pub dir_entry : List ℕ → ManifestEntry
 dir_entry path = record { kind = Dir; perm = Some dir_perm; size = Some 0; path = path }
 
 -- the entry of what follows `file ` in a line, `MODE SIZE PATH`, if it has these fields
-abbrev pub file_entry : List ℕ → Option Entry
+abbrev pub file_entry : List ℕ → Option ManifestEntry
 file_entry rest =
     option_and_then (λ (m : List ℕ × List ℕ).
     option_map
@@ -49,7 +49,7 @@ file_entry rest =
     (cut 32 rest)
 
 -- the entry that a line says, if the line is a directory's or a file's
-abbrev pub entry_of : List ℕ → Option Entry
+abbrev pub entry_of : List ℕ → Option ManifestEntry
 entry_of line =
     option_or (option_map dir_entry (after (codes "dir ") line))
     (option_and_then file_entry (after (codes "file ") line))
@@ -59,7 +59,7 @@ abbrev pub names_of : List ℕ → List (List ℕ)
 names_of path = parts 47 path
 
 -- the first fault of a line's fields, in this order, if there is one
-abbrev pub entry_fault : Option Entry → Option ManifestFaultKind
+abbrev pub entry_fault : Option ManifestEntry → Option ManifestFaultKind
 entry_fault None = Some BadLine
 entry_fault (Some e) =
     if is_none e.perm then Some BadMode
@@ -93,7 +93,7 @@ place_fault lines path =
     else None
 
 -- the line that an entry makes after these lines
-abbrev pub line_said : List Line → Entry → Line
+abbrev pub line_said : List Line → ManifestEntry → Line
 line_said lines e = record {
   dir = unwrap_or (parent_of lines e.path) root;
   name = last (names_of e.path);
@@ -101,12 +101,12 @@ line_said lines e = record {
 }
 
 -- the line that an entry makes after these lines, or this fault if there is one
-abbrev pub placed : List Line → Entry → Option ManifestFaultKind → Result Line ManifestFaultKind
+abbrev pub placed : List Line → ManifestEntry → Option ManifestFaultKind → Result Line ManifestFaultKind
 placed lines e None = Ok (line_said lines e)
 placed lines e (Some fault) = Err fault
 
 -- the line that an entry makes after these lines, or its first fault
-abbrev pub line_of_entry : List Line → Option Entry → Result Line ManifestFaultKind
+abbrev pub line_of_entry : List Line → Option ManifestEntry → Result Line ManifestFaultKind
 line_of_entry lines None = Err BadLine
 line_of_entry lines (Some e) = placed lines e (option_or (entry_fault (Some e)) (place_fault lines e.path))
 

@@ -7,18 +7,18 @@ use crate::ManifestFaultKind;
 use crate::field::{after, mode_of, size_of};
 use eden_base::{Kind, Perm, cut};
 
-/// A file's kind, permissions and size, and its path.
+/// An entry of a manifest: a file's kind, permissions and size, and its path.
 #[derive(Drop)]
-pub struct Entry<'a> {
+pub struct ManifestEntry<'a> {
     pub kind: Kind,
     pub perm: Perm,
     pub size: u64,
     pub path: &'a [u8],
 }
 
-impl<'a> Entry<'a> {
+impl<'a> ManifestEntry<'a> {
     /// Reads a line, which is given without its LF.
-    pub fn read(line: &'a [u8]) -> Result<Entry<'a>, ManifestFaultKind>
+    pub fn read(line: &'a [u8]) -> Result<ManifestEntry<'a>, ManifestFaultKind>
         ensures entry { IfOk result (λ e. entry_of line.now ≡ Some (record {
           kind = e.kind;
           perm = Some e.perm;
@@ -29,7 +29,7 @@ impl<'a> Entry<'a> {
         ensures refused { IfErr result (λ fault. entry_fault (entry_of line.now) ≡ Some fault) }
     {
         if let Some(path) = after(b"dir ".as_slice(), line) {
-            return Ok(Entry {
+            return Ok(ManifestEntry {
                 kind: Kind::Dir,
                 perm: Perm::DIRECTORY,
                 size: 0,
@@ -37,13 +37,13 @@ impl<'a> Entry<'a> {
             });
         }
         if let Some(rest) = after(b"file ".as_slice(), line) {
-            return Entry::of_file(rest);
+            return ManifestEntry::of_file(rest);
         }
         Err(ManifestFaultKind::BadLine)
     }
 
     /// Reads what follows `file ` in a line: `MODE SIZE PATH`.
-    fn of_file(rest: &'a [u8]) -> Result<Entry<'a>, ManifestFaultKind>
+    fn of_file(rest: &'a [u8]) -> Result<ManifestEntry<'a>, ManifestFaultKind>
         ensures entry { IfOk result (λ e. file_entry rest.now ≡ Some (record {
           kind = e.kind;
           perm = Some e.perm;
@@ -65,7 +65,7 @@ impl<'a> Entry<'a> {
         let Some(size) = size_of(size) else {
             return Err(ManifestFaultKind::BadSize);
         };
-        Ok(Entry {
+        Ok(ManifestEntry {
             kind: Kind::File,
             perm,
             size,

@@ -2,13 +2,12 @@
 #![tactic(auto)]
 
 mod content;
-mod directory;
 mod entry;
 mod fault;
 mod field;
 mod line;
 mod lines;
-mod links;
+mod link_change;
 mod manifest;
 mod places;
 mod tally;
@@ -17,6 +16,6 @@ pub use content::{Content, nlink_of_kind};
 pub use fault::{ManifestFault, ManifestFaultKind};
 pub use field::mode_of;
 pub use line::{Line, line_of};
-pub use links::{LinkChange, Links};
+pub use link_change::LinkChange;
 pub use manifest::Manifest;
 pub use tally::Tally;

@@ -73,7 +73,7 @@ pub fn content_of(lines: &[Line], file: FileId) -> Option<Content>
     Some(line.content())
 }
 
-/// Returns the kind of `file`, if it is the root or has a line.
+/// Returns the kind of `file`, if it is the root or has one of `lines`. A tree asks this of the files of its manifest.
 pub fn kind_of(lines: &[Line], file: FileId) -> Option<Kind>
     ensures { result ≡ option_map (λ (f : File). f.kind) (get (files_from 2 lines.now) file.0) }
 {

@@ -7,7 +7,7 @@ ghost use Rattle.manifest.specs.ManifestText.{line_of_text, IsLineRefusal, paren
 ghost use Rattle.manifest.specs.Text.{front, last};
 ghost use Rattle.manifest.specs.Tree.{file_at, links_from, root};
 
-use crate::entry::Entry;
+use crate::entry::ManifestEntry;
 use crate::field::is_path;
 use crate::line::kind_of;
 use crate::places::LinePlaces;
@@ -100,7 +100,7 @@ impl Lines {
             self.new ≡ self.old ++ line ∷ [])) }
         ensures refused { IfErr result (IsLineRefusal (line_of_text self.old text.now)) }
     {
-        let entry = Entry::read(text)?;
+        let entry = ManifestEntry::read(text)?;
         let (dir, bytes) = self.place(entry.path)?;
         let Ok(name) = Name::parse(alloc, bytes) else {
             return Err(ManifestFaultKind::NoMemory);

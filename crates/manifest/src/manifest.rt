@@ -94,7 +94,7 @@ impl Manifest {
         self.digest
     }
 
-    /// Returns the lines: that of the file with id 2, and so on.
+    /// Returns the lines, for who reads all files: by rising file id, from 2 on. The root is file 1, and has no line.
     pub fn lines(&self) -> &[Line]
         ensures lines { result.now ≡ self.now.lines }
         ensures is_manifest { IsManifest self.now }

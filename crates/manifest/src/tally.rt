@@ -38,7 +38,7 @@ impl Tally {
         }
     }
 
-    /// Makes a tally with room for this many numbers, from 0.
+    /// Makes a tally with room for the numbers below `room`, so that `raise` takes no memory for them.
     pub fn with_room(alloc: Global, room: usize) -> Result<Tally, NoMemory>
         ensures { IfOk result (λ tally. tally ≡ record { counts = []; room = room }) }
     {

@@ -47,12 +47,6 @@ module _ (tree : Tree) (entries : List Kept) (found : List (Option FileId)) (are
   within : i < length found
   within = omega (arith, slice_get_within entries i at.kept at.stands, are.len)
 
-  -- what was found at the place of a number is its file
-  pub known_file : get_or found i None ≡ Some file → IsFileOf tree entries n file
-  known_file is =
-      let there : slice_get found i ≡ Some (Some file) = slice_get-get_or found i None within ∙ ap Some is in
-      subst (λ (m : ℕ). IsFileOf tree entries m file) (entry_of-number entries n at.kept at.entry) (are.each i at.kept file at.stands there)
-
   -- the file of a number is written at its place
   pub one_found : IsFileOf tree entries n file → AreFound tree entries (set found i (Some file))
   one_found names = record {

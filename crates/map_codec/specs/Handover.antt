@@ -11,7 +11,7 @@ use Rattle.map_image.specs.declared.fault.ImageFault.{ImageFault}
 use Rattle.map_image.specs.declared.fault.ImageFault.TheVariants as reading
 use Rattle.map_image.specs.declared.fault.WriteFault.{WriteFault}
 use Rattle.map_image.specs.declared.fault.WriteFault.TheVariants as writing
-use Rattle.map_image.specs.declared.header.Header.{Header}
+use Rattle.map_image.specs.declared.header.ImageHeader.{ImageHeader}
 use Rattle.map_codec.specs.Raising.{IsRaisable, IsRaised, IsRaiseRefusal}
 use Rattle.map_codec.specs.Taking.{IsImageOf, IsNameOf}
 use Rattle.map_image.specs.Writing.{refusal}
@@ -79,14 +79,14 @@ CannotBeTakenOver manifest at bytes =
 
 -- the header of the bytes is whole and right, of this generation and of the manifest
 pub record HasRightHeader (manifest : Manifest) (at : ℕ) (bytes : List ℕ) : Type 0 where
-  pub header : Header
+  pub header : ImageHeader
   pub is : header_of_bytes bytes ≡ Ok header
   pub generation : header.generation ≡ at
   pub name : IsNameOf manifest header.name
 
 -- the header of the bytes is whole and right, and names another manifest
 pub record NamesAnother (manifest : Manifest) (bytes : List ℕ) : Type 0 where
-  pub header : Header
+  pub header : ImageHeader
   pub is : header_of_bytes bytes ≡ Ok header
   pub another : IsNameOf manifest header.name → ⊥
 

@@ -19,7 +19,8 @@ fn is_right_mark(tree: &Tree, place: &Place) -> bool
     }
 }
 
-/// Returns whether each file that a mark names is an unlinked file of `tree`.
+/// Returns whether each entry of an unlinked file is right. Such an entry has a mark: the file's id, where others have a
+/// directory and a name. It has to be a file of `tree` that stands under no name.
 pub(crate) fn are_right_marks(tree: &Tree, entries: &[Kept]) -> bool
     ensures { result ≡ are_right_marks tree.now entries.now }
 {

@@ -76,7 +76,7 @@ fn tree_told(alloc: Global, image: &Image, manifest: &Manifest) -> Result<Tree, 
     }
 }
 
-/// Returns the files of the entries, or the fault that was found in them, or `NoMemory` if memory was refused.
+/// Makes one result of what `entry_files` found, which returns refused memory apart from a fault of the entries.
 fn entries_told(
     found: Result<Result<Vec<FileId>, RaiseFault>, NoMemory>,
 ) -> Result<Vec<FileId>, RaiseFault>
@@ -109,7 +109,7 @@ fn raisable_tree(alloc: Global, image: &Image, manifest: &Manifest) -> Result<Na
     }
 }
 
-/// Returns the entries of `image`, and drops the rest.
+/// Returns the entries of `image`, and drops the rest: by then the tree has been made of it.
 fn entries_of(image: Image) -> Vec<Kept>
     ensures { result.items ≡ image.entries }
 {

@@ -25,7 +25,7 @@ fn has_right_header(bytes: &[u8], manifest: &Manifest, generation: u64) -> bool
 }
 
 /// Returns whether `bytes` begin with the header of an image that names another manifest than `manifest`. So it can be
-/// told why nothing is taken over.
+/// told why there is no takeover.
 pub fn names_another(bytes: &[u8], manifest: &Manifest) -> bool
     ensures another { IsTrue result ↔ NamesAnother manifest.now bytes.now }
 {
@@ -122,8 +122,8 @@ pub fn take_over(
     served_again(alloc, image, manifest, limit)
 }
 
-/// Takes over from the bytes that a reader took, as `take_over` does. Memory is taken only if the image is whole and of
-/// this generation.
+/// Takes over what the bytes that `reader` has read tell over `manifest`, as `take_over` does: at most `limit` attributes
+/// are loaded at once. Memory is allocated only if the image is whole and of this generation.
 pub fn take_over_read(
     alloc: Global,
     reader: ImageReader,

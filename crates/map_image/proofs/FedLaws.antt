@@ -1,12 +1,11 @@
 -- What a reader keeps from piece to piece, and what its answers tell of the bytes that it took.
-use Rattle.std.proofs.Common.{◌≡◌, ℕ, suc, zero, ◌<◌, Bool, true, false, cond, eqb, List, [], ◌∷◌, ◌++◌, length, Option, Some, None, Result, Ok, Err, refl, sym, ap, subst, ◌∙◌, append_assoc, arith}
+use Rattle.std.proofs.Common.{◌≡◌, ℕ, suc, zero, ◌<◌, Bool, true, false, eqb, List, [], ◌∷◌, ◌++◌, length, Option, Some, None, Result, Err, refl, sym, ap, subst, ◌∙◌, append_assoc, arith}
 use Rattle.std.proofs.lemmas.List.{append-nil, nil_from_length}
 use Rattle.std.proofs.lemmas.Bool.{eqb-true}
 use Rattle.byte_codec.specs.Field.{AreBytes}
 use Rattle.byte_codec.specs.Reading.{bytes_at}
 use Rattle.map_image.specs.declared.fault.ImageFault.{ImageFault}
 use Rattle.map_image.specs.declared.fault.ImageFault.TheVariants as faults
-use Rattle.map_image.specs.declared.image.Image.{Image}
 use Rattle.map_image.specs.declared.reading.Reading.{Reading}
 use Rattle.map_image.specs.declared.reading.Stage.{Stage}
 use Rattle.map_image.specs.declared.reading.Stage.TheVariants.{AtFront, AtEntries, AtMade, AtLinks}
@@ -86,10 +85,6 @@ unchanged old new taken tail rest is same kept = record {
 }
 
 -- ---- answers
-
-seen : (b : Bool) (image : Image) → standing (cond b (Ok image) (Err faults.ZeroUse)) ≡ None
-seen true image = refl
-seen false image = refl
 
 not_whole : (s : Stage) (b : ℕ) (tail : List ℕ) → is_whole s (b ∷ tail) ≡ false
 not_whole AtFront b tail = refl
@@ -220,7 +215,3 @@ no_tail tail is_empty is so = nil_from_length tail (eqb-true (length tail) 0 (sy
 
 pub at_last : (r : Reading) (taken tail : List ℕ) (fault : Option ImageFault) (is_empty : Bool) → fault ≡ None → IsReader taken r tail fault → is_empty ≡ eqb (length tail) 0 → is_empty ≡ true → IsReading taken r []
 at_last r taken tail fault is_empty none reader is so = subst (IsReading taken r) (no_tail tail is_empty is so) (subst (IsReader taken r tail) none reader)
-
-pub are_taken : (r : Reading) (taken tail : List ℕ) (fault : Option ImageFault) → IsReader taken r tail fault → AreBytes taken
-are_taken r taken tail None is = is.are
-are_taken r taken tail (Some fault) is = is.are

@@ -4,18 +4,18 @@ use Rattle.std.specs.Prelude.{is_some}
 use Rattle.std.specs.Int.{w16, w32, w64}
 use Rattle.std.proofs.lemmas.Bool.{ltb-false}
 use Rattle.std.proofs.lemmas.Bool.Decides.{nat_tests}
-use Rattle.byte_codec.specs.Field.{AreBytes, byte_text, number_bytes}
-use Rattle.byte_codec.specs.Reading.{◌>>=◌, bytes_at, number_at}
+use Rattle.byte_codec.specs.Field.{byte_text, number_bytes}
+use Rattle.byte_codec.specs.Reading.{bytes_at, number_at}
 use Rattle.byte_codec.proofs.FieldLaws.{IsBelow, two, four, eight, two_back, four_back, eight_back}
 use Rattle.byte_codec.proofs.PairLaws.{HasLen, IsCodec, codec_as, of_byte, of_bytes, of_number, pair, seen, tested}
-use Rattle.byte_codec.proofs.YieldLemmas.{Any, Yields, Value, unless_yields, yielded}
+use Rattle.byte_codec.proofs.YieldLemmas.{Any, Yields, Value, unless_yields}
 use Rattle.eden_base.specs.declared.name.NameFault.{NameFault}
 use Rattle.eden_base.specs.Name.{IsNameText, name_fault}
 use Rattle.map_image.specs.declared.fault.ImageFault.{ImageFault}
 use Rattle.map_image.specs.declared.fault.ImageFault.TheVariants.{Short, BadMark, BadName}
 use Rattle.map_image.specs.ImageText.{name_text}
 use Rattle.map_image.specs.ImageReading.{mark_at, count_at, counted_at, named, name_at}
-use Rattle.map_image.specs.Versions.{IsForm, first_form, limit_of, width_of}
+use Rattle.map_image.specs.Versions.{IsForm, limit_of, width_of}
 use Rattle.map_image.specs.declared.version.CountWidth.{CountWidth}
 use Rattle.map_image.specs.declared.version.CountWidth.TheVariants.{Four, Eight}
 use Rattle.map_image.specs.declared.version.VersionForm.{VersionForm}
@@ -54,16 +54,6 @@ of_count form is =
     (λ n fits. refl)
     (λ n fits. at_most n form.greatest_count fits.1)
     (λ n le. let room = is.count_has_room in (omega (arith, le, room), is_at_most n form.greatest_count le))
-
--- each whole count of version 1 is read: none is above the greatest
-pub first_count : (bytes : List ℕ) → AreBytes bytes → count_at first_form bytes ≡ number_at Short (width_of Four) bytes
-unfolding count_at
-first_count bytes are = in_ (number_at Short (width_of Four) bytes) refl where
-  in_ : (read : Result (ℕ × List ℕ) ImageFault) → number_at Short (width_of Four) bytes ≡ read → (read >>= λ count. cond (nat_le count.0 first_form.greatest_count) (Ok count) (Err BadMark)) ≡ read
-  in_ (Ok count) is =
-      let below = (yielded (number_at Short (width_of Four) bytes) count (of_four.found bytes are) is).good in
-      rw (is_at_most count.0 first_form.greatest_count (omega (arith, below))) refl
-  in_ (Err fault) is = refl
 
 -- ---- marks
 

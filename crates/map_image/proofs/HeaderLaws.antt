@@ -2,7 +2,7 @@
 use Rattle.std.proofs.Common.{◌≡◌, ℕ, ltb, List, length, Ok, refl}
 use Rattle.byte_codec.proofs.YieldLemmas.{Any, Yields, Value, if_yields, its_value, then_yields, unless_yields, yielded}
 use Rattle.map_image.specs.declared.fault.ImageFault.TheVariants.{Rest, ZeroUse}
-use Rattle.map_image.specs.declared.header.Header.{Header}
+use Rattle.map_image.specs.declared.header.ImageHeader.{ImageHeader}
 use Rattle.map_image.specs.declared.image.Image.{Image}
 use Rattle.map_image.specs.ImageText.{IsImageText}
 use Rattle.map_image.specs.declared.version.VersionForm.{VersionForm}
@@ -11,13 +11,13 @@ use Rattle.map_image.proofs.ImageLaws.{image_again}
 
 -- what an image has of its header
 pub record IsHeaded (bytes : List ℕ) (image : Image) : Type 0 where
-  pub header : Header
+  pub header : ImageHeader
   pub is : header_of_bytes bytes ≡ Ok header
   pub name : header.name ≡ image.name
   pub generation : header.generation ≡ image.generation
 
 -- the fields in front of the lists, one after the other
-header_read : (bytes fields : List ℕ) (form : VersionForm × List ℕ) (header : Header × List ℕ) → magic_at bytes ≡ Ok fields → form_at fields ≡ Ok form → header_at form.0.named_by form.1 ≡ Ok header → header_of_bytes bytes ≡ Ok header.0
+header_read : (bytes fields : List ℕ) (form : VersionForm × List ℕ) (header : ImageHeader × List ℕ) → magic_at bytes ≡ Ok fields → form_at fields ≡ Ok form → header_at form.0.named_by form.1 ≡ Ok header → header_of_bytes bytes ≡ Ok header.0
 unfolding header_of_bytes
 header_read bytes fields form header first second third = rw (first, second, third) refl
 

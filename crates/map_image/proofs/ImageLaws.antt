@@ -14,13 +14,13 @@ use Rattle.byte_codec.proofs.PairLaws.{IsCodec, codec_as, made, of_bytes, pair}
 use Rattle.byte_codec.proofs.YieldLemmas.{Any, Yields, Value, Fault, if_yields, then_yields, unless_yields, yielded, yields_as}
 use Rattle.eden_base.specs.Name.{IsNameText}
 use Rattle.checkout.specs.declared.changes.Made.{Made}
-use Rattle.manifest.specs.declared.links.LinkChange.{LinkChange}
+use Rattle.manifest.specs.declared.link_change.LinkChange.{LinkChange}
 use Rattle.checkout.specs.declared.changes.Changes.{Changes}
 use Rattle.checkout.proofs.ChangeLists.{all_weaker}
 use Rattle.entry_table.specs.declared.kept.Kept.{Kept}
 use Rattle.map_image.specs.declared.fault.ImageFault.{ImageFault}
 use Rattle.map_image.specs.declared.fault.ImageFault.TheVariants.{Short, BadMagic, Rest, ZeroUse}
-use Rattle.map_image.specs.declared.header.Header.{Header}
+use Rattle.map_image.specs.declared.header.ImageHeader.{ImageHeader}
 use Rattle.map_image.specs.declared.image.Image.{Image}
 use Rattle.entry_table.specs.EntryPlaces.{HasName}
 use Rattle.map_image.specs.Fit.{entry_follows, made_follows, link_follows, IsFit}
@@ -95,10 +95,10 @@ form_again version form rest is =
 
 -- ---- name and numbers
 
-abbrev pub text_of_header : Header → List ℕ
+abbrev pub text_of_header : ImageHeader → List ℕ
 text_of_header h = h.name.bytes ++ (number_bytes w64 h.generation ++ (number_bytes w64 h.next_number ++ number_bytes w64 h.next_file))
 
-pub record GoodHeader (by : NamedBy) (h : Header) : Type 0 where
+pub record GoodHeader (by : NamedBy) (h : ImageHeader) : Type 0 where
   pub named : h.name.by ≡ by
   pub name : length h.name.bytes ≡ 20
   pub generation : h.generation < 2 ^ 64
@@ -106,7 +106,7 @@ pub record GoodHeader (by : NamedBy) (h : Header) : Type 0 where
   pub next_file : h.next_file < 2 ^ 64
 
 -- the fields of a header that were read
-record IsHeader (by : NamedBy) (name : List ℕ) (generation number : ℕ) (h : Header) : Type 0 where
+record IsHeader (by : NamedBy) (name : List ℕ) (generation number : ℕ) (h : ImageHeader) : Type 0 where
   by_is : h.name.by ≡ by
   name_is : h.name.bytes ≡ name
   generation_is : h.generation ≡ generation
@@ -117,10 +117,10 @@ of_header : (by : NamedBy) → IsCodec text_of_header (GoodHeader by) (header_at
 unfolding header_at
 of_header by =
     codec_as text_of_header (GoodHeader by) (
-    pair (λ (h : Header). h.name.bytes) _ _ _ (of_bytes Short 20) (λ c h is. is.1.1.name_is) (λ name.
-    pair (λ (h : Header). h.generation) _ _ _ of_eight (λ g h is. is.1.generation_is) (λ generation.
-    pair (λ (h : Header). h.next_number) _ (IsHeader by name generation) _ of_eight (λ n h is. is.number_is) (λ number.
-    made (IsHeader by name generation number) (λ (h : Header). h.next_file) (λ file. record { name = record { by = by; bytes = name }; generation = generation; next_number = number; next_file = file }) of_eight
+    pair (λ (h : ImageHeader). h.name.bytes) _ _ _ (of_bytes Short 20) (λ c h is. is.1.1.name_is) (λ name.
+    pair (λ (h : ImageHeader). h.generation) _ _ _ of_eight (λ g h is. is.1.generation_is) (λ generation.
+    pair (λ (h : ImageHeader). h.next_number) _ (IsHeader by name generation) _ of_eight (λ n h is. is.number_is) (λ number.
+    made (IsHeader by name generation number) (λ (h : ImageHeader). h.next_file) (λ file. record { name = record { by = by; bytes = name }; generation = generation; next_number = number; next_file = file }) of_eight
     (λ file low. (refl, record { by_is = refl; name_is = refl; generation_is = refl; number_is = refl; file = low }))
     (λ h is. (is.file, rw (sym is.by_is, sym is.name_is, sym is.generation_is, sym is.number_is) refl))))))
     (λ h is. refl)
@@ -165,11 +165,11 @@ pub record GoodImage (form : VersionForm) (image : Image) : Type 0 where
   pub made : IsGoodList FitsMade made_follows image.changes.made
   pub links : IsGoodList GoodLink link_follows image.changes.links
 
-abbrev header_of : Image → Header
+abbrev header_of : Image → ImageHeader
 header_of image = record { name = image.name; generation = image.generation; next_number = image.next_number; next_file = image.changes.next_file.0 }
 
 -- the fields of an image that were read
-record IsBody (h : Header) (entries : List Kept) (image : Image) : Type 0 where
+record IsBody (h : ImageHeader) (entries : List Kept) (image : Image) : Type 0 where
   header_is : header_of image ≡ h
   entries_are : image.entries ≡ entries
   changes : GoodChanges image.changes.next_file.0 image.changes
@@ -181,19 +181,19 @@ behind_form form bytes = header_at form.named_by bytes >>= λ header. list_at (e
 abbrev body_text : CountWidth → Image → List ℕ
 body_text width image = text_of_header (header_of image) ++ (list_text (entry_text width) image.entries ++ changes_text image.changes)
 
-body_made : (h : Header) (entries : List Kept) (c : Changes) → GoodChanges h.next_file c → IsBody h entries (image_with h entries c)
+body_made : (h : ImageHeader) (entries : List Kept) (c : Changes) → GoodChanges h.next_file c → IsBody h entries (image_with h entries c)
 body_made h entries c good = record {
   header_is = ap (λ (file : ℕ). header_with h file) good.next_file;
   entries_are = refl;
   changes = record { next_file = refl; made = good.made; links = good.links };
 } where
-  header_with : Header → ℕ → Header
+  header_with : ImageHeader → ℕ → ImageHeader
   header_with h file = record { name = h.name; generation = h.generation; next_number = h.next_number; next_file = file }
 
-body_back : (h : Header) (entries : List Kept) (image : Image) → IsBody h entries image → GoodChanges h.next_file image.changes × (image_with h entries image.changes ≡ image)
+body_back : (h : ImageHeader) (entries : List Kept) (image : Image) → IsBody h entries image → GoodChanges h.next_file image.changes × (image_with h entries image.changes ≡ image)
 body_back h entries image is = (
-  subst (λ (h : Header). GoodChanges h.next_file image.changes) is.header_is is.changes,
-  ap (λ (h : Header). image_with h entries image.changes) (sym is.header_is) ∙ ap (λ (es : List Kept). image_with (header_of image) es image.changes) (sym is.entries_are),
+  subst (λ (h : ImageHeader). GoodChanges h.next_file image.changes) is.header_is is.changes,
+  ap (λ (h : ImageHeader). image_with h entries image.changes) (sym is.header_is) ∙ ap (λ (es : List Kept). image_with (header_of image) es image.changes) (sym is.entries_are),
 )
 
 of_body : (form : VersionForm) → IsForm form → IsCodec (body_text form.count_width) (GoodImage form) (behind_form form)

@@ -1,4 +1,5 @@
 pub mod CountLaws
+pub mod CuttingSteps
 pub mod FedLaws
 pub mod FieldLaws
 pub mod Ghosts
@@ -14,7 +15,6 @@ pub mod PartReaderLaws
 pub mod PartsLaws
 pub mod Perms
 pub mod ReadingLaws
-pub mod RiseLaws
 pub mod SteadyLaws
 pub mod SteadyMembers
 pub mod UsageLaws

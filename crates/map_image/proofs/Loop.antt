@@ -1,5 +1,5 @@
 -- Members read one after the other, as a loop does, as far as they are whole.
-use Rattle.std.proofs.Common.{◌≡◌, ℕ, suc, ◌+◌, ◌-◌, ◌<◌, ◌≤◌, List, [], ◌∷◌, ◌++◌, length, Option, Some, Result, Ok, Err, inl, inr, refl, sym, ap, ◌∙◌, append_assoc, length-append, arith}
+use Rattle.std.proofs.Common.{◌≡◌, ℕ, suc, ◌+◌, ◌-◌, ◌<◌, List, [], ◌∷◌, ◌++◌, length, Option, Some, Result, Ok, Err, inl, inr, refl, sym, ap, ◌∙◌, append_assoc, length-append, arith}
 use Rattle.std.specs.Prelude.{slice_get}
 use Rattle.std.proofs.lemmas.List.{append-nil}
 use Rattle.byte_codec.specs.Reading.{◌>>=◌}
@@ -86,12 +86,6 @@ pub cuts : {X : Type 0} (member : Member X) (old : List X) (count : ℕ) (bytes 
 cuts member old count bytes new i rest lt h so_far =
     let k : count - i ≡ suc (count - (i + 1)) = omega arith in
     record { goes_on = so_far.goes_on; cut = λ some. ap (λ (n : ℕ). members_from member new n rest) k ∙ fault_on member new (count - (i + 1)) rest faults.Short h }
-
--- each was taken
-pub ends : {X : Type 0} (member : Member X) (old : List X) (count : ℕ) (bytes : List ℕ) (new : List X) (i : ℕ) (rest : List ℕ) → count ≤ i → IsSoFar member old count bytes new i rest → GoesOnIn member old count bytes new 0 rest
-ends member old count bytes new i rest le so_far =
-    let k : count - i ≡ 0 = omega arith in
-    record { goes_on = λ more. so_far.goes_on more ∙ ap (λ (n : ℕ). members_from member new n (rest ++ more)) k; cut = λ some. absurd (some refl) }
 
 refused : {X : Type 0} (member : Member X) (old : List X) (count : ℕ) (bytes : List ℕ) (new : List X) (i : ℕ) (rest : List ℕ) (fault : ImageFault) → AreSteady member → i < count → (fault ≡ faults.Short → ⊥)
     → member (last_of new) rest ≡ Err fault → IsSoFar member old count bytes new i rest → IsRefusedIn member old count bytes fault

@@ -16,7 +16,7 @@ use Rattle.eden_base.specs.declared.number.FileId.{FileId}
 use Rattle.eden_base.specs.declared.place.Place.{Place}
 use Rattle.eden_base.specs.declared.place.Place.TheVariants.{Linked, Unlinked}
 use Rattle.checkout.specs.declared.changes.Made.{Made}
-use Rattle.manifest.specs.declared.links.LinkChange.{LinkChange}
+use Rattle.manifest.specs.declared.link_change.LinkChange.{LinkChange}
 use Rattle.entry_table.specs.declared.kept.Kept.{Kept}
 use Rattle.entry_table.specs.EntryPlaces.{HasName}
 use Rattle.map_image.specs.declared.fault.ImageFault.TheVariants.{NotRising, BadMark}

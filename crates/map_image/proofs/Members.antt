@@ -59,7 +59,3 @@ put_next {X = X} text Fits before mid new xs i x lt is were put fits = one_put t
 -- all were put where none is left
 pub all_put : {X : Type 0} (text : X → List ℕ) (Fits : X → Type 0) (before now : Vec ℕ) (xs : List X) (i : ℕ) → length xs ≤ i → ArePut text Fits before now (take i xs) → ArePut text Fits before now xs
 all_put text Fits before now xs i done = subst (ArePut text Fits before now) (take_all i xs done)
-
--- the text of one member more is longer by that member's
-pub one_longer : {X : Type 0} (text : X → List ℕ) (xs : List X) (i : ℕ) (x : X) → i < length xs → x ≡ get_or xs i x → length (flat_map text (take (i + 1) xs)) ≡ length (flat_map text (take i xs)) + length (text x)
-one_longer text xs i x lt is = ap length (one_more text xs i x lt) ∙ length-append (flat_map text (take i xs)) (text (get_or xs i x)) ∙ ap (λ y. length (flat_map text (take i xs)) + length (text y)) (sym is)

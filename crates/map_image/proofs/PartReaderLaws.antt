@@ -7,11 +7,11 @@ use Rattle.std.proofs.lemmas.List.{append-nil, take_more}
 use Rattle.byte_codec.specs.Field.{AreBytes}
 use Rattle.byte_codec.specs.Reading.{◌>>=◌, number_at}
 use Rattle.checkout.specs.declared.changes.Made.{Made}
-use Rattle.manifest.specs.declared.links.LinkChange.{LinkChange}
+use Rattle.manifest.specs.declared.link_change.LinkChange.{LinkChange}
 use Rattle.entry_table.specs.declared.kept.Kept.{Kept}
 use Rattle.map_image.specs.declared.fault.ImageFault.{ImageFault}
 use Rattle.map_image.specs.declared.fault.ImageFault.TheVariants as faults
-use Rattle.map_image.specs.declared.header.Header.{Header}
+use Rattle.map_image.specs.declared.header.ImageHeader.{ImageHeader}
 use Rattle.map_image.specs.declared.image.Image.{Image}
 use Rattle.map_image.specs.declared.reading.Front.{Front}
 use Rattle.map_image.specs.declared.reading.Reading.{Reading}
@@ -51,25 +51,25 @@ whole_alike false false false one other = refl
 seen_alike : (one other : Image) (rest : List ℕ) → fault_before_whole (seen_whole (one, rest)) ≡ fault_before_whole (seen_whole (other, rest))
 seen_alike one other rest = whole_alike (nat_lt 0 (length rest)) (are_of_use one.entries) (are_of_use other.entries) one other
 
-abbrev image_of : Header → List Kept → List Made → List LinkChange → Image
+abbrev image_of : ImageHeader → List Kept → List Made → List LinkChange → Image
 image_of header es ms ls = image_with header es (record { made = ms; links = ls; next_file = record { 0 = header.next_file } })
 
-abbrev links_by : Header → List Kept → List Made → List LinkChange → Result (List LinkChange × List ℕ) ImageFault → Result Image ImageFault
+abbrev links_by : ImageHeader → List Kept → List Made → List LinkChange → Result (List LinkChange × List ℕ) ImageFault → Result Image ImageFault
 links_by header es ms ls read =
     with_front ls read >>= λ all. seen_whole (image_of header es ms all.0, all.1)
 
-links_alike : (header : Header) (es es' : List Kept) (ms ms' : List Made) (ls ls' : List LinkChange) (count : ℕ) (bytes : List ℕ) → last_of ls' ≡ last_of ls → fault_before_whole (links_on header es ms ls count bytes) ≡ fault_before_whole (links_on header es' ms' ls' count bytes)
+links_alike : (header : ImageHeader) (es es' : List Kept) (ms ms' : List Made) (ls ls' : List LinkChange) (count : ℕ) (bytes : List ℕ) → last_of ls' ≡ last_of ls → fault_before_whole (links_on header es ms ls count bytes) ≡ fault_before_whole (links_on header es' ms' ls' count bytes)
 links_alike header es es' ms ms' ls ls' count bytes same =
     in_ (members_at link_at (last_of ls) count bytes) ∙ ap (λ (last : Option LinkChange). fault_before_whole (links_by header es' ms' ls' (members_at link_at last count bytes))) (sym same) where
       in_ : (read : Result (List LinkChange × List ℕ) ImageFault) → fault_before_whole (links_by header es ms ls read) ≡ fault_before_whole (links_by header es' ms' ls' read)
       in_ (Ok x) = seen_alike (image_of header es ms (ls ++ x.0)) (image_of header es' ms' (ls' ++ x.0)) x.1
       in_ (Err fault) = refl
 
-abbrev made_by : Header → List Kept → List Made → List LinkChange → Result (List Made × List ℕ) ImageFault → Result Image ImageFault
+abbrev made_by : ImageHeader → List Kept → List Made → List LinkChange → Result (List Made × List ℕ) ImageFault → Result Image ImageFault
 made_by header es ms ls read =
     with_front ms read >>= λ all. number_at faults.Short length_width all.1 >>= λ next. links_on header es all.0 ls next.0 next.1
 
-made_alike : (header : Header) (es es' : List Kept) (ms ms' : List Made) (ls ls' : List LinkChange) (count : ℕ) (bytes : List ℕ) → last_of ms' ≡ last_of ms → last_of ls' ≡ last_of ls → fault_before_whole (made_on header es ms ls count bytes) ≡ fault_before_whole (made_on header es' ms' ls' count bytes)
+made_alike : (header : ImageHeader) (es es' : List Kept) (ms ms' : List Made) (ls ls' : List LinkChange) (count : ℕ) (bytes : List ℕ) → last_of ms' ≡ last_of ms → last_of ls' ≡ last_of ls → fault_before_whole (made_on header es ms ls count bytes) ≡ fault_before_whole (made_on header es' ms' ls' count bytes)
 made_alike header es es' ms ms' ls ls' count bytes same links =
     in_ (members_at made_at (last_of ms) count bytes) ∙ ap (λ (last : Option Made). fault_before_whole (made_by header es' ms' ls' (members_at made_at last count bytes))) (sym same) where
       next : (mine others : List Made) (read : Result (ℕ × List ℕ) ImageFault) → fault_before_whole (read >>= λ n. links_on header es mine ls n.0 n.1) ≡ fault_before_whole (read >>= λ n. links_on header es' others ls' n.0 n.1)
@@ -80,11 +80,11 @@ made_alike header es es' ms ms' ls ls' count bytes same links =
       in_ (Ok x) = next (ms ++ x.0) (ms' ++ x.0) (number_at faults.Short length_width x.1)
       in_ (Err fault) = refl
 
-abbrev entries_by : Header → List Kept → List Made → List LinkChange → Result (List Kept × List ℕ) ImageFault → Result Image ImageFault
+abbrev entries_by : ImageHeader → List Kept → List Made → List LinkChange → Result (List Kept × List ℕ) ImageFault → Result Image ImageFault
 entries_by header es ms ls read =
     with_front es read >>= λ all. number_at faults.Short length_width all.1 >>= λ next. made_on header all.0 ms ls next.0 next.1
 
-entries_alike : (form : VersionForm) (header : Header) (es es' : List Kept) (ms ms' : List Made) (ls ls' : List LinkChange) (count : ℕ) (bytes : List ℕ) → last_of es' ≡ last_of es → last_of ms' ≡ last_of ms → last_of ls' ≡ last_of ls → fault_before_whole (entries_on form header es ms ls count bytes) ≡ fault_before_whole (entries_on form header es' ms' ls' count bytes)
+entries_alike : (form : VersionForm) (header : ImageHeader) (es es' : List Kept) (ms ms' : List Made) (ls ls' : List LinkChange) (count : ℕ) (bytes : List ℕ) → last_of es' ≡ last_of es → last_of ms' ≡ last_of ms → last_of ls' ≡ last_of ls → fault_before_whole (entries_on form header es ms ls count bytes) ≡ fault_before_whole (entries_on form header es' ms' ls' count bytes)
 entries_alike form header es es' ms ms' ls ls' count bytes same made links =
     in_ (members_at (entry_at form) (last_of es) count bytes) ∙ ap (λ (last : Option Kept). fault_before_whole (entries_by header es' ms' ls' (members_at (entry_at form) last count bytes))) (sym same) where
       next : (mine others : List Kept) (read : Result (ℕ × List ℕ) ImageFault) → fault_before_whole (read >>= λ n. made_on header mine ms ls n.0 n.1) ≡ fault_before_whole (read >>= λ n. made_on header others ms' ls' n.0 n.1)

@@ -3,11 +3,11 @@ use Rattle.std.proofs.Common.{◌≡◌, ℕ, ◌<◌, Bool, true, false, eqb, l
 use Rattle.std.proofs.lemmas.Bool.Decides.{nat_tests}
 use Rattle.byte_codec.specs.Reading.{◌>>=◌, number_at}
 use Rattle.checkout.specs.declared.changes.Made.{Made}
-use Rattle.manifest.specs.declared.links.LinkChange.{LinkChange}
+use Rattle.manifest.specs.declared.link_change.LinkChange.{LinkChange}
 use Rattle.entry_table.specs.declared.kept.Kept.{Kept}
 use Rattle.map_image.specs.declared.fault.ImageFault.{ImageFault}
 use Rattle.map_image.specs.declared.fault.ImageFault.TheVariants as faults
-use Rattle.map_image.specs.declared.header.Header.{Header}
+use Rattle.map_image.specs.declared.header.ImageHeader.{ImageHeader}
 use Rattle.map_image.specs.declared.image.Image.{Image}
 use Rattle.map_image.specs.declared.reading.Front.{Front}
 use Rattle.map_image.specs.declared.reading.Reading.{Reading}
@@ -43,23 +43,6 @@ cut_at r stage rest is cut = at_stage r stage rest is ∙ cut
 
 refused_at : (old : Reading) (stage : Stage) (bytes : List ℕ) (fault : ImageFault) → old.stage ≡ stage → lasting fault ≡ Some fault → ((more : List ℕ) → resumed_at stage old.entries.items old.made.items old.links.items (bytes ++ more) ≡ Err fault) → IsRefused old bytes fault
 refused_at old stage bytes fault was lasts fails = record { lasts = lasts; fails = λ more. at_stage old stage (bytes ++ more) was ∙ fails more }
-
--- a reader that goes on is refused where it goes on to
-pub refused_behind : (old mid : Reading) (bytes rest : List ℕ) (fault : ImageFault) → GoesOn old bytes mid rest → Stops mid rest fault → Stops old bytes fault
-refused_behind old mid bytes rest fault on stops = in_ fault stops where
-  later : (f : ImageFault) → IsRefused mid rest f → IsRefused old bytes f
-  later f r = record { lasts = r.lasts; fails = λ more. on more ∙ r.fails more }
-
-  in_ : (f : ImageFault) → Stops mid rest f → Stops old bytes f
-  in_ faults.NoMemory r = tt
-  in_ faults.BadMagic r = later faults.BadMagic r
-  in_ faults.BadVersion r = later faults.BadVersion r
-  in_ faults.Short r = later faults.Short r
-  in_ faults.Rest r = later faults.Rest r
-  in_ faults.NotRising r = later faults.NotRising r
-  in_ faults.BadName r = later faults.BadName r
-  in_ faults.BadMark r = later faults.BadMark r
-  in_ faults.ZeroUse r = later faults.ZeroUse r
 
 -- a fault within a list is one of the image
 stop_as : {X : Type 0} (member : Member X) (done : List X) (count : ℕ) (old : Reading) (bytes : List ℕ) (fault : ImageFault) → ((f : ImageFault) → IsRefusedIn member done count bytes f → IsRefused old bytes f) → StopsIn member done count bytes fault → Stops old bytes fault
@@ -133,25 +116,25 @@ count_cut next rest read = rw read refl
 
 -- ---- entries
 
-abbrev behind_entries : Header → List Made → List LinkChange → Behind Kept
+abbrev behind_entries : ImageHeader → List Made → List LinkChange → Behind Kept
 behind_entries header ms ls all = number_at faults.Short length_width all.1 >>= λ next. made_on header all.0 ms ls next.0 next.1
 
-pub entries_go : (old new : Reading) (form : VersionForm) (header : Header) (count left : ℕ) (bytes rest : List ℕ) → old.stage ≡ AtEntries form header count → new.stage ≡ AtEntries form header left → new.made.items ≡ old.made.items → new.links.items ≡ old.links.items
+pub entries_go : (old new : Reading) (form : VersionForm) (header : ImageHeader) (count left : ℕ) (bytes rest : List ℕ) → old.stage ≡ AtEntries form header count → new.stage ≡ AtEntries form header left → new.made.items ≡ old.made.items → new.links.items ≡ old.links.items
     → GoesOnIn (entry_at form) old.entries.items count bytes new.entries.items left rest → GoesOn old bytes new rest
 entries_go old new form header count left bytes rest was is ms ls on =
     stepped old new (AtEntries form header count) (AtEntries form header left) bytes rest was is (λ more.
     list_on (entry_at form) (behind_entries header old.made.items old.links.items) old.entries.items new.entries.items count left bytes rest more on
     ∙ same_lists (AtEntries form header left) new.entries.items new.entries.items old.made.items new.made.items old.links.items new.links.items (rest ++ more) refl ms ls)
 
-pub entries_cut : (new : Reading) (form : VersionForm) (header : Header) (left : ℕ) (rest : List ℕ) → new.stage ≡ AtEntries form header left → members_from (entry_at form) new.entries.items left rest ≡ Err faults.Short → resumed new rest ≡ Err faults.Short
+pub entries_cut : (new : Reading) (form : VersionForm) (header : ImageHeader) (left : ℕ) (rest : List ℕ) → new.stage ≡ AtEntries form header left → members_from (entry_at form) new.entries.items left rest ≡ Err faults.Short → resumed new rest ≡ Err faults.Short
 entries_cut new form header left rest is cut = cut_at new (AtEntries form header left) rest is (list_cut (entry_at form) (behind_entries header new.made.items new.links.items) new.entries.items left rest cut)
 
-pub entries_stop : (old : Reading) (form : VersionForm) (header : Header) (count : ℕ) (bytes : List ℕ) (fault : ImageFault) → old.stage ≡ AtEntries form header count → StopsIn (entry_at form) old.entries.items count bytes fault → Stops old bytes fault
+pub entries_stop : (old : Reading) (form : VersionForm) (header : ImageHeader) (count : ℕ) (bytes : List ℕ) (fault : ImageFault) → old.stage ≡ AtEntries form header count → StopsIn (entry_at form) old.entries.items count bytes fault → Stops old bytes fault
 entries_stop old form header count bytes fault was stops =
     stop_as (entry_at form) old.entries.items count old bytes fault
     (λ f r. refused_at old (AtEntries form header count) bytes f was r.lasts (λ more. list_fails (entry_at form) (behind_entries header old.made.items old.links.items) old.entries.items count bytes more f r)) stops
 
-pub entries_end : (old new : Reading) (form : VersionForm) (header : Header) (count left next : ℕ) (bytes rest after : List ℕ) → old.stage ≡ AtEntries form header count → new.stage ≡ AtMade header next → new.made.items ≡ old.made.items → new.links.items ≡ old.links.items → left ≡ 0
+pub entries_end : (old new : Reading) (form : VersionForm) (header : ImageHeader) (count left next : ℕ) (bytes rest after : List ℕ) → old.stage ≡ AtEntries form header count → new.stage ≡ AtMade header next → new.made.items ≡ old.made.items → new.links.items ≡ old.links.items → left ≡ 0
     → GoesOnIn (entry_at form) old.entries.items count bytes new.entries.items left rest → number_at faults.Short length_width rest ≡ Ok (next, after) → GoesOn old bytes new after
 entries_end old new form header count left next bytes rest after was is ms ls none on read =
     stepped old new (AtEntries form header count) (AtMade header next) bytes after was is (λ more.
@@ -160,7 +143,7 @@ entries_end old new form header count left next bytes rest after was is ms ls no
     ∙ count_read (made_on header new.entries.items old.made.items old.links.items) rest after more next read
     ∙ same_lists (AtMade header next) new.entries.items new.entries.items old.made.items new.made.items old.links.items new.links.items (after ++ more) refl ms ls)
 
-pub entries_wait : (new : Reading) (form : VersionForm) (header : Header) (left : ℕ) (rest : List ℕ) → new.stage ≡ AtEntries form header left → left ≡ 0 → number_at faults.Short length_width rest ≡ Err faults.Short → resumed new rest ≡ Err faults.Short
+pub entries_wait : (new : Reading) (form : VersionForm) (header : ImageHeader) (left : ℕ) (rest : List ℕ) → new.stage ≡ AtEntries form header left → left ≡ 0 → number_at faults.Short length_width rest ≡ Err faults.Short → resumed new rest ≡ Err faults.Short
 entries_wait new form header left rest is none read =
     cut_at new (AtEntries form header left) rest is (
     list_ended (entry_at form) (behind_entries header new.made.items new.links.items) new.entries.items left rest none
@@ -168,25 +151,25 @@ entries_wait new form header left rest is none read =
 
 -- ---- made files
 
-abbrev behind_made : Header → List Kept → List LinkChange → Behind Made
+abbrev behind_made : ImageHeader → List Kept → List LinkChange → Behind Made
 behind_made header es ls all = number_at faults.Short length_width all.1 >>= λ next. links_on header es all.0 ls next.0 next.1
 
-pub made_go : (old new : Reading) (header : Header) (count left : ℕ) (bytes rest : List ℕ) → old.stage ≡ AtMade header count → new.stage ≡ AtMade header left → new.entries.items ≡ old.entries.items → new.links.items ≡ old.links.items
+pub made_go : (old new : Reading) (header : ImageHeader) (count left : ℕ) (bytes rest : List ℕ) → old.stage ≡ AtMade header count → new.stage ≡ AtMade header left → new.entries.items ≡ old.entries.items → new.links.items ≡ old.links.items
     → GoesOnIn made_at old.made.items count bytes new.made.items left rest → GoesOn old bytes new rest
 made_go old new header count left bytes rest was is es ls on =
     stepped old new (AtMade header count) (AtMade header left) bytes rest was is (λ more.
     list_on made_at (behind_made header old.entries.items old.links.items) old.made.items new.made.items count left bytes rest more on
     ∙ same_lists (AtMade header left) old.entries.items new.entries.items new.made.items new.made.items old.links.items new.links.items (rest ++ more) es refl ls)
 
-pub made_cut : (new : Reading) (header : Header) (left : ℕ) (rest : List ℕ) → new.stage ≡ AtMade header left → members_from made_at new.made.items left rest ≡ Err faults.Short → resumed new rest ≡ Err faults.Short
+pub made_cut : (new : Reading) (header : ImageHeader) (left : ℕ) (rest : List ℕ) → new.stage ≡ AtMade header left → members_from made_at new.made.items left rest ≡ Err faults.Short → resumed new rest ≡ Err faults.Short
 made_cut new header left rest is cut = cut_at new (AtMade header left) rest is (list_cut made_at (behind_made header new.entries.items new.links.items) new.made.items left rest cut)
 
-pub made_stop : (old : Reading) (header : Header) (count : ℕ) (bytes : List ℕ) (fault : ImageFault) → old.stage ≡ AtMade header count → StopsIn made_at old.made.items count bytes fault → Stops old bytes fault
+pub made_stop : (old : Reading) (header : ImageHeader) (count : ℕ) (bytes : List ℕ) (fault : ImageFault) → old.stage ≡ AtMade header count → StopsIn made_at old.made.items count bytes fault → Stops old bytes fault
 made_stop old header count bytes fault was stops =
     stop_as made_at old.made.items count old bytes fault
     (λ f r. refused_at old (AtMade header count) bytes f was r.lasts (λ more. list_fails made_at (behind_made header old.entries.items old.links.items) old.made.items count bytes more f r)) stops
 
-pub made_end : (old new : Reading) (header : Header) (count left next : ℕ) (bytes rest after : List ℕ) → old.stage ≡ AtMade header count → new.stage ≡ AtLinks header next → new.entries.items ≡ old.entries.items → new.links.items ≡ old.links.items → left ≡ 0
+pub made_end : (old new : Reading) (header : ImageHeader) (count left next : ℕ) (bytes rest after : List ℕ) → old.stage ≡ AtMade header count → new.stage ≡ AtLinks header next → new.entries.items ≡ old.entries.items → new.links.items ≡ old.links.items → left ≡ 0
     → GoesOnIn made_at old.made.items count bytes new.made.items left rest → number_at faults.Short length_width rest ≡ Ok (next, after) → GoesOn old bytes new after
 made_end old new header count left next bytes rest after was is es ls none on read =
     stepped old new (AtMade header count) (AtLinks header next) bytes after was is (λ more.
@@ -195,7 +178,7 @@ made_end old new header count left next bytes rest after was is es ls none on re
     ∙ count_read (links_on header old.entries.items new.made.items old.links.items) rest after more next read
     ∙ same_lists (AtLinks header next) old.entries.items new.entries.items new.made.items new.made.items old.links.items new.links.items (after ++ more) es refl ls)
 
-pub made_wait : (new : Reading) (header : Header) (left : ℕ) (rest : List ℕ) → new.stage ≡ AtMade header left → left ≡ 0 → number_at faults.Short length_width rest ≡ Err faults.Short → resumed new rest ≡ Err faults.Short
+pub made_wait : (new : Reading) (header : ImageHeader) (left : ℕ) (rest : List ℕ) → new.stage ≡ AtMade header left → left ≡ 0 → number_at faults.Short length_width rest ≡ Err faults.Short → resumed new rest ≡ Err faults.Short
 made_wait new header left rest is none read =
     cut_at new (AtMade header left) rest is (
     list_ended made_at (behind_made header new.entries.items new.links.items) new.made.items left rest none
@@ -203,20 +186,20 @@ made_wait new header left rest is none read =
 
 -- ---- changed links
 
-abbrev behind_links : Header → List Kept → List Made → Behind LinkChange
+abbrev behind_links : ImageHeader → List Kept → List Made → Behind LinkChange
 behind_links header es ms all = seen_whole (image_with header es (record { made = ms; links = all.0; next_file = record { 0 = header.next_file } }), all.1)
 
-pub links_go : (old new : Reading) (header : Header) (count left : ℕ) (bytes rest : List ℕ) → old.stage ≡ AtLinks header count → new.stage ≡ AtLinks header left → new.entries.items ≡ old.entries.items → new.made.items ≡ old.made.items
+pub links_go : (old new : Reading) (header : ImageHeader) (count left : ℕ) (bytes rest : List ℕ) → old.stage ≡ AtLinks header count → new.stage ≡ AtLinks header left → new.entries.items ≡ old.entries.items → new.made.items ≡ old.made.items
     → GoesOnIn link_at old.links.items count bytes new.links.items left rest → GoesOn old bytes new rest
 links_go old new header count left bytes rest was is es ms on =
     stepped old new (AtLinks header count) (AtLinks header left) bytes rest was is (λ more.
     list_on link_at (behind_links header old.entries.items old.made.items) old.links.items new.links.items count left bytes rest more on
     ∙ same_lists (AtLinks header left) old.entries.items new.entries.items old.made.items new.made.items new.links.items new.links.items (rest ++ more) es ms refl)
 
-pub links_cut : (new : Reading) (header : Header) (left : ℕ) (rest : List ℕ) → new.stage ≡ AtLinks header left → members_from link_at new.links.items left rest ≡ Err faults.Short → resumed new rest ≡ Err faults.Short
+pub links_cut : (new : Reading) (header : ImageHeader) (left : ℕ) (rest : List ℕ) → new.stage ≡ AtLinks header left → members_from link_at new.links.items left rest ≡ Err faults.Short → resumed new rest ≡ Err faults.Short
 links_cut new header left rest is cut = cut_at new (AtLinks header left) rest is (list_cut link_at (behind_links header new.entries.items new.made.items) new.links.items left rest cut)
 
-pub links_stop : (old : Reading) (header : Header) (count : ℕ) (bytes : List ℕ) (fault : ImageFault) → old.stage ≡ AtLinks header count → StopsIn link_at old.links.items count bytes fault → Stops old bytes fault
+pub links_stop : (old : Reading) (header : ImageHeader) (count : ℕ) (bytes : List ℕ) (fault : ImageFault) → old.stage ≡ AtLinks header count → StopsIn link_at old.links.items count bytes fault → Stops old bytes fault
 links_stop old header count bytes fault was stops =
     stop_as link_at old.links.items count old bytes fault
     (λ f r. refused_at old (AtLinks header count) bytes f was r.lasts (λ more. list_fails link_at (behind_links header old.entries.items old.made.items) old.links.items count bytes more f r)) stops
@@ -231,7 +214,7 @@ rest_seen image bytes more lt = rw (some_behind bytes more lt) refl
 pub some_there : (bytes : List ℕ) (is_empty : Bool) → is_empty ≡ eqb (length bytes) 0 → is_empty ≡ false → 0 < length bytes
 some_there bytes is_empty is not = let some : eqb (length bytes) 0 ≡ false = sym is ∙ not in grind (arith, nat_tests)
 
-pub links_rest : (old : Reading) (links : List LinkChange) (header : Header) (count left : ℕ) (bytes rest : List ℕ) → old.stage ≡ AtLinks header count → left ≡ 0 → 0 < length rest
+pub links_rest : (old : Reading) (links : List LinkChange) (header : ImageHeader) (count left : ℕ) (bytes rest : List ℕ) → old.stage ≡ AtLinks header count → left ≡ 0 → 0 < length rest
     → GoesOnIn link_at old.links.items count bytes links left rest → IsRefused old bytes faults.Rest
 links_rest old links header count left bytes rest was none lt on =
     refused_at old (AtLinks header count) bytes faults.Rest was refl (λ more.
@@ -241,12 +224,12 @@ links_rest old links header count left bytes rest was none lt on =
 
 -- ---- the end
 
-at_end : (r : Reading) (header : Header) (left : ℕ) → r.stage ≡ AtLinks header left → left ≡ 0 → resumed r [] ≡ behind_links header r.entries.items r.made.items (r.links.items, [])
+at_end : (r : Reading) (header : ImageHeader) (left : ℕ) → r.stage ≡ AtLinks header left → left ≡ 0 → resumed r [] ≡ behind_links header r.entries.items r.made.items (r.links.items, [])
 at_end r header left is none = at_stage r (AtLinks header left) [] is ∙ list_ended link_at (behind_links header r.entries.items r.made.items) r.links.items left [] none
 
-pub all_used : (r : Reading) (header : Header) (left : ℕ) → r.stage ≡ AtLinks header left → left ≡ 0 → are_of_use r.entries.items ≡ true
+pub all_used : (r : Reading) (header : ImageHeader) (left : ℕ) → r.stage ≡ AtLinks header left → left ≡ 0 → are_of_use r.entries.items ≡ true
     → resumed r [] ≡ Ok (image_with header r.entries.items (record { made = r.made.items; links = r.links.items; next_file = record { 0 = header.next_file } }))
 all_used r header left is none used = at_end r header left is none ∙ rw used refl
 
-pub not_used : (r : Reading) (header : Header) (left : ℕ) → r.stage ≡ AtLinks header left → left ≡ 0 → are_of_use r.entries.items ≡ false → resumed r [] ≡ Err faults.ZeroUse
+pub not_used : (r : Reading) (header : ImageHeader) (left : ℕ) → r.stage ≡ AtLinks header left → left ≡ 0 → are_of_use r.entries.items ≡ false → resumed r [] ≡ Err faults.ZeroUse
 not_used r header left is none used = at_end r header left is none ∙ rw used refl

@@ -6,7 +6,7 @@ use Rattle.byte_codec.specs.Reading.{◌>>=◌, byte_at, bytes_at, number_at}
 use Rattle.checkout.specs.declared.changes.Made.{Made}
 use Rattle.eden_base.specs.declared.place.Place.TheVariants.{Linked, Unlinked}
 use Rattle.eden_base.specs.Name.{name_fault}
-use Rattle.manifest.specs.declared.links.LinkChange.{LinkChange}
+use Rattle.manifest.specs.declared.link_change.LinkChange.{LinkChange}
 use Rattle.entry_table.specs.declared.kept.Kept.{Kept}
 use Rattle.map_image.specs.declared.fault.ImageFault.TheVariants.{BadMark, BadName, BadVersion, NotRising, Short}
 use Rattle.map_image.specs.declared.version.NamedBy.{NamedBy}

@@ -4,12 +4,12 @@ use Rattle.byte_codec.specs.Reading.{◌>>=◌, number_at}
 use Rattle.byte_codec.proofs.StepLemmas.{bind_assoc}
 use Rattle.checkout.specs.declared.changes.Made.{Made}
 use Rattle.checkout.specs.declared.changes.Changes.{Changes}
-use Rattle.manifest.specs.declared.links.LinkChange.{LinkChange}
+use Rattle.manifest.specs.declared.link_change.LinkChange.{LinkChange}
 use Rattle.entry_table.specs.declared.kept.Kept.{Kept}
 use Rattle.map_image.specs.declared.fault.ImageFault.{ImageFault}
 use Rattle.map_image.specs.declared.fault.ImageFault.TheVariants as faults
 use Rattle.map_image.specs.declared.fault.ImageFault.TheVariants.{Short}
-use Rattle.map_image.specs.declared.header.Header.{Header}
+use Rattle.map_image.specs.declared.header.ImageHeader.{ImageHeader}
 use Rattle.map_image.specs.declared.image.Image.{Image}
 use Rattle.map_image.specs.declared.reading.Front.{Front}
 use Rattle.map_image.specs.declared.reading.Stage.TheVariants.{AtFront}
@@ -39,13 +39,13 @@ list_first {X = X} member behind bytes =
     (λ n. ap (λ (r : Result (List X × List ℕ) ImageFault). r >>= behind) (sym (from_none member n.0 n.1)))
 
 -- the changes, and the whole
-abbrev ended : Header → List Kept → Changes × List ℕ → Result Image ImageFault
+abbrev ended : ImageHeader → List Kept → Changes × List ℕ → Result Image ImageFault
 ended header entries changes = seen_whole (image_with header entries changes.0, changes.1)
 
-abbrev changed : Header → List Made → List LinkChange → Changes
+abbrev changed : ImageHeader → List Made → List LinkChange → Changes
 changed header made links = record { made = made; links = links; next_file = record { 0 = header.next_file } }
 
-changes_first : (header : Header) (entries : List Kept) (bytes : List ℕ) → (changes_at header.next_file bytes >>= ended header entries) ≡ (number_at Short length_width bytes >>= λ n. made_on header entries [] [] n.0 n.1)
+changes_first : (header : ImageHeader) (entries : List Kept) (bytes : List ℕ) → (changes_at header.next_file bytes >>= ended header entries) ≡ (number_at Short length_width bytes >>= λ n. made_on header entries [] [] n.0 n.1)
 unfolding changes_at
 changes_first header entries bytes =
     sym (bind_assoc (list_at made_at bytes) (λ (made : List Made × List ℕ). list_at link_at made.1 >>= λ links. Ok (changed header made.0 links.0, links.1)) (ended header entries))
@@ -56,10 +56,10 @@ changes_first header entries bytes =
     ∙ list_first made_at (λ made. number_at Short length_width made.1 >>= λ n. links_on header entries made.0 [] n.0 n.1) bytes
 
 -- what follows the header
-abbrev behind_header : VersionForm → Header → List ℕ → Result (Image × List ℕ) ImageFault
+abbrev behind_header : VersionForm → ImageHeader → List ℕ → Result (Image × List ℕ) ImageFault
 behind_header form header bytes = list_at (entry_at form) bytes >>= λ entries. changes_at header.next_file entries.1 >>= λ changes. Ok (image_with header entries.0 changes.0, changes.1)
 
-lists_first : (form : VersionForm) (header : Header) (bytes : List ℕ) → (behind_header form header bytes >>= seen_whole) ≡ (number_at Short length_width bytes >>= λ n. entries_on form header [] [] [] n.0 n.1)
+lists_first : (form : VersionForm) (header : ImageHeader) (bytes : List ℕ) → (behind_header form header bytes >>= seen_whole) ≡ (number_at Short length_width bytes >>= λ n. entries_on form header [] [] [] n.0 n.1)
 lists_first form header bytes =
     sym (bind_assoc (list_at (entry_at form) bytes) (λ (entries : List Kept × List ℕ). changes_at header.next_file entries.1 >>= λ changes. Ok (image_with header entries.0 changes.0, changes.1)) seen_whole)
     ∙ bind_same (list_at (entry_at form) bytes) (λ entries. (changes_at header.next_file entries.1 >>= λ changes. Ok (image_with header entries.0 changes.0, changes.1)) >>= seen_whole) (λ entries. number_at Short length_width entries.1 >>= λ n. made_on header entries.0 [] [] n.0 n.1)
@@ -72,12 +72,12 @@ lists_first form header bytes =
 abbrev behind_front : Front × List ℕ → Result Image ImageFault
 behind_front front = entries_on front.0.form front.0.header [] [] [] front.0.count front.1
 
-abbrev front_of : VersionForm → Header → ℕ → Front
+abbrev front_of : VersionForm → ImageHeader → ℕ → Front
 front_of form header count = record { form = form; header = header; count = count }
 
 header_first : (form : VersionForm) (bytes : List ℕ) → ((header_at form.named_by bytes >>= λ header. behind_header form header.0 header.1) >>= seen_whole) ≡ ((header_at form.named_by bytes >>= λ header. number_at Short length_width header.1 >>= λ n. Ok (front_of form header.0 n.0, n.1)) >>= behind_front)
 header_first form bytes = in_ (header_at form.named_by bytes) where
-  in_ : (r : Result (Header × List ℕ) ImageFault) → ((r >>= λ (header : Header × List ℕ). behind_header form header.0 header.1) >>= seen_whole) ≡ ((r >>= λ (header : Header × List ℕ). number_at Short length_width header.1 >>= λ n. Ok (front_of form header.0 n.0, n.1)) >>= behind_front)
+  in_ : (r : Result (ImageHeader × List ℕ) ImageFault) → ((r >>= λ (header : ImageHeader × List ℕ). behind_header form header.0 header.1) >>= seen_whole) ≡ ((r >>= λ (header : ImageHeader × List ℕ). number_at Short length_width header.1 >>= λ n. Ok (front_of form header.0 n.0, n.1)) >>= behind_front)
   in_ (Ok header) = lists_first form header.0 header.1 ∙ bind_assoc (number_at Short length_width header.1) (λ (n : ℕ × List ℕ). Ok (front_of form header.0 n.0, n.1)) behind_front
   in_ (Err fault) = refl
 

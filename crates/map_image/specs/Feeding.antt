@@ -3,11 +3,11 @@ use Rattle.std.specs.Prelude.{◌≡◌, ◌≤◌, ℕ, Bool, false, ◌==◌, 
 use Rattle.byte_codec.specs.Field.{AreBytes}
 use Rattle.byte_codec.specs.Reading.{◌>>=◌, number_at}
 use Rattle.checkout.specs.declared.changes.Made.{Made}
-use Rattle.manifest.specs.declared.links.LinkChange.{LinkChange}
+use Rattle.manifest.specs.declared.link_change.LinkChange.{LinkChange}
 use Rattle.entry_table.specs.declared.kept.Kept.{Kept}
 use Rattle.map_image.specs.declared.fault.ImageFault.{ImageFault}
 use Rattle.map_image.specs.declared.fault.ImageFault.TheVariants.{Short, ZeroUse, NoMemory}
-use Rattle.map_image.specs.declared.header.Header.{Header}
+use Rattle.map_image.specs.declared.header.ImageHeader.{ImageHeader}
 use Rattle.map_image.specs.declared.image.Image.{Image}
 use Rattle.map_image.specs.declared.reading.Front.{Front}
 use Rattle.map_image.specs.declared.reading.Mark.{Mark}
@@ -70,7 +70,7 @@ members_from member done count bytes = do
   Ok (done ++ others.0, others.1)
 
 -- the image, with this count of changed names still to be read from the bytes; the whole is then checked
-abbrev pub links_on : Header → List Kept → List Made → List LinkChange → ℕ → List ℕ → Result Image ImageFault
+abbrev pub links_on : ImageHeader → List Kept → List Made → List LinkChange → ℕ → List ℕ → Result Image ImageFault
 links_on header entries made links count bytes = do
   all ← members_from link_at links count bytes
   seen_whole (
@@ -79,14 +79,14 @@ links_on header entries made links count bytes = do
   )
 
 -- the image, with this count of made files still to be read from the bytes, and what follows these
-abbrev pub made_on : Header → List Kept → List Made → List LinkChange → ℕ → List ℕ → Result Image ImageFault
+abbrev pub made_on : ImageHeader → List Kept → List Made → List LinkChange → ℕ → List ℕ → Result Image ImageFault
 made_on header entries made links count bytes = do
   all ← members_from made_at made count bytes
   next ← number_at Short length_width all.1
   links_on header entries all.0 links next.0 next.1
 
 -- the image, with this count of entries still to be read from the bytes, and what follows these
-abbrev pub entries_on : VersionForm → Header → List Kept → List Made → List LinkChange → ℕ → List ℕ
+abbrev pub entries_on : VersionForm → ImageHeader → List Kept → List Made → List LinkChange → ℕ → List ℕ
     → Result Image ImageFault
 entries_on form header entries made links count bytes = do
   all ← members_from (entry_at form) entries count bytes

@@ -7,7 +7,7 @@ use Rattle.std.specs.Cmp.Lexicographic.{slice_cmp}
 use Rattle.eden_base.specs.Limits.{greatest_count}
 use Rattle.eden_base.specs.Name.{IsNameText}
 use Rattle.checkout.specs.declared.changes.Made.{Made}
-use Rattle.manifest.specs.declared.links.LinkChange.{LinkChange}
+use Rattle.manifest.specs.declared.link_change.LinkChange.{LinkChange}
 use Rattle.entry_table.specs.declared.kept.Kept.{Kept}
 use Rattle.entry_table.specs.EntryPlaces.{IsNamedEntry}
 use Rattle.entry_table.specs.Entries.{is_of_use}

@@ -14,14 +14,14 @@ use Rattle.eden_base.specs.declared.number.FileId.{FileId}
 use Rattle.eden_base.specs.declared.place.Place.{Place}
 use Rattle.eden_base.specs.declared.place.Place.TheVariants.{Linked, Unlinked}
 use Rattle.checkout.specs.declared.changes.Made.{Made}
-use Rattle.manifest.specs.declared.links.LinkChange.{LinkChange}
+use Rattle.manifest.specs.declared.link_change.LinkChange.{LinkChange}
 use Rattle.checkout.specs.declared.changes.Changes.{Changes}
 use Rattle.entry_table.specs.declared.kept.Kept.{Kept}
 use Rattle.entry_table.specs.Entries.{is_of_use}
 use Rattle.map_image.specs.declared.fault.ImageFault.{ImageFault}
 use Rattle.map_image.specs.declared.fault.ImageFault.TheVariants.{BadMagic, BadVersion, Short, Rest, NotRising, BadName, BadMark, ZeroUse, NoMemory}
 use Rattle.map_image.specs.declared.image.Image.{Image}
-use Rattle.map_image.specs.declared.header.Header.{Header}
+use Rattle.map_image.specs.declared.header.ImageHeader.{ImageHeader}
 use Rattle.map_image.specs.Fit.{is_next_number, is_next_file, is_next_place}
 use Rattle.map_image.specs.ImageText.{magic}
 use Rattle.map_image.specs.Versions.{form_of, length_width, width_of}
@@ -194,7 +194,7 @@ form_at bytes = do
   known (form_of version.0) version.1
 
 -- a header: what names the manifest, generation, next number, next file; and the rest
-unfoldable pub header_at : NamedBy → List ℕ → Result (Header × List ℕ) ImageFault
+unfoldable pub header_at : NamedBy → List ℕ → Result (ImageHeader × List ℕ) ImageFault
 header_at by bytes = do
   name ← bytes_at Short 20 bytes
   generation ← number_at Short w64 name.1
@@ -211,7 +211,7 @@ header_at by bytes = do
   )
 
 -- the header of bytes that begin as an image, or their first fault up to there
-unfoldable pub header_of_bytes : List ℕ → Result Header ImageFault
+unfoldable pub header_of_bytes : List ℕ → Result ImageHeader ImageFault
 header_of_bytes bytes = do
   fields ← magic_at bytes
   form ← form_at fields
@@ -220,7 +220,7 @@ header_of_bytes bytes = do
 
 -- the bytes have a header that is whole and right
 abbrev pub HasHeader : List ℕ → Type 0
-HasHeader bytes = (header : Header) × (header_of_bytes bytes ≡ Ok header)
+HasHeader bytes = (header : ImageHeader) × (header_of_bytes bytes ≡ Ok header)
 
 -- a reader returns NoMemory only for bytes whose header is whole and right
 abbrev pub IsLate : ImageFault → List ℕ → Type 0
@@ -234,7 +234,7 @@ changes_at next_file bytes = do
   Ok (record { made = made.0; links = links.0; next_file = record { 0 = next_file } }, links.1)
 
 -- an image of these fields
-abbrev pub image_with : Header → List Kept → Changes → Image
+abbrev pub image_with : ImageHeader → List Kept → Changes → Image
 image_with header entries changes = record {
   name = header.name;
   generation = header.generation;

@@ -7,9 +7,9 @@ ghost use Rattle.map_image.specs.ImageReading.{Tells, magic_at, form_at, header_
 use crate::{ImageFault, ManifestName, NamedBy, VersionForm, form_of};
 use byte_codec::{u16_at, u64_at};
 
-/// What is known of an image before its lists are read.
+/// The header of an image: what is known before its lists are read.
 #[derive(Clone, Copy)]
-pub struct Header {
+pub struct ImageHeader {
     /// The manifest that the checkout stands on.
     pub name: ManifestName,
     /// The generation at which the daemon that wrote the image has the seat.
@@ -64,14 +64,14 @@ fn name_bytes_at(bytes: &[u8]) -> Result<([u8; 20], &[u8]), ImageFault>
 /// Reads what names the manifest, which is as `by` says, the generation, the next number and the next file, and returns
 /// these and the rest.
 #[tactic(auto, unfolding(crate::specs::ImageReading::header_at))]
-pub(crate) fn header_at(by: NamedBy, bytes: &[u8]) -> Result<(Header, &[u8]), ImageFault>
+pub(crate) fn header_at(by: NamedBy, bytes: &[u8]) -> Result<(ImageHeader, &[u8]), ImageFault>
     ensures { Tells (λ x. (x.0, x.1.now)) result (header_at by bytes.now) }
 {
     let (name, rest) = name_bytes_at(bytes)?;
     let (generation, rest) = u64_at(rest, ImageFault::Short)?;
     let (next_number, rest) = u64_at(rest, ImageFault::Short)?;
     let (next_file, rest) = u64_at(rest, ImageFault::Short)?;
-    let header = Header {
+    let header = ImageHeader {
         name: ManifestName { by, bytes: name },
         generation,
         next_number,
@@ -82,7 +82,7 @@ pub(crate) fn header_at(by: NamedBy, bytes: &[u8]) -> Result<(Header, &[u8]), Im
 
 /// Reads what stands before the lists of the image with which `bytes` begin. Takes no memory, and ignores what follows.
 #[tactic(auto, unfolding(crate::specs::ImageReading::header_of_bytes))]
-pub fn read_header(bytes: &[u8]) -> Result<Header, ImageFault>
+pub fn read_header(bytes: &[u8]) -> Result<ImageHeader, ImageFault>
     ensures exact { Tells (λ header. header) result (header_of_bytes bytes.now) }
 {
     let rest = magic_at(bytes)?;

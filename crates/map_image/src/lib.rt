@@ -3,7 +3,6 @@
 
 mod fault;
 mod feeding;
-mod fit;
 mod header;
 mod image;
 mod image_reader;
@@ -22,7 +21,7 @@ mod usage;
 mod version;
 
 pub use fault::{ImageFault, WriteFault};
-pub use header::{Header, read_header};
+pub use header::{ImageHeader, read_header};
 pub use image::{Entries, Image, ManifestName};
 pub use image_reader::{ImageReader, read};
 pub use image_writer::write;

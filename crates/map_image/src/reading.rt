@@ -8,7 +8,7 @@ ghost use Rattle.map_image.specs.declared.reading.Reading.{Reading};
 use crate::header::{form_at, header_at, magic_at};
 use crate::list_reader::{keep_last, more_entries, more_links, more_made};
 use crate::usage::{all_of_use, sorted};
-use crate::{Entries, Header, Image, ImageFault, VersionForm};
+use crate::{Entries, Image, ImageFault, ImageHeader, VersionForm};
 use byte_codec::u32_at;
 use checkout::{Changes, LinkList, Made, MadeList};
 use eden_base::FileId;
@@ -20,7 +20,7 @@ use std::alloc::Global;
 #[derive(Clone, Copy)]
 pub(crate) struct Front {
     pub(crate) form: VersionForm,
-    pub(crate) header: Header,
+    pub(crate) header: ImageHeader,
     /// How many entries there are.
     pub(crate) count: u32,
 }
@@ -31,15 +31,15 @@ pub(crate) enum Stage {
     AtFront,
     AtEntries {
         form: VersionForm,
-        header: Header,
+        header: ImageHeader,
         left: u32,
     },
     AtMade {
-        header: Header,
+        header: ImageHeader,
         left: u32,
     },
     AtLinks {
-        header: Header,
+        header: ImageHeader,
         left: u32,
     },
 }

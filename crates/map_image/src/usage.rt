@@ -1,5 +1,5 @@
 //! Whether each entry of a list is of use: the kernel holds it, or an entry stands below it.
-ghost use Rattle.std.specs.Prelude.{◌≡◌, ◌||◌, ℕ, List, IfOk, OnOk};
+ghost use Rattle.std.specs.Prelude.{◌≡◌, ◌||◌, ℕ, List, OnOk};
 ghost use Rattle.std.specs.List.{list_any};
 ghost use Rattle.entry_table.specs.Entries.{is_in, is_kid_of, is_of_use};
 ghost use Rattle.entry_table.specs.declared.kept.Kept.{Kept};
@@ -9,7 +9,6 @@ ghost use Rattle.map_image.specs.Usage.{is_number, AreParents, HasParents};
 
 use eden_base::{NoMemory, Place};
 use entry_table::Kept;
-use std::alloc::Global;
 
 /// Appends the directory of `place` to `parents`, if the place has one.
 pub(crate) fn add_parent(parents: &mut Vec<u64>, place: &Place) -> Result<(), NoMemory>
@@ -24,17 +23,6 @@ pub(crate) fn add_parent(parents: &mut Vec<u64>, place: &Place) -> Result<(), No
         }
         Place::Unlinked { .. } => Ok(()),
     }
-}
-
-/// Returns the directory of each linked entry, in the order of the entries.
-fn parents_in_turn(alloc: Global, entries: &[Kept]) -> Result<Vec<u64>, NoMemory>
-    ensures { IfOk result (λ parents. HasParents entries.now parents.items) }
-{
-    let mut parents = Vec::new(alloc);
-    for kept in entries {
-        add_parent(&mut parents, &kept.place)?;
-    }
-    Ok(parents)
 }
 
 /// Sorts the directories in which entries stand, so that they can be searched. Takes no memory.
@@ -70,12 +58,4 @@ pub(crate) fn all_of_use(entries: &[Kept], parents: &[u64]) -> bool
         }
     }
     true
-}
-
-/// Returns whether each entry is of use. Sorts the directories in which entries stand.
-pub(crate) fn are_of_use(alloc: Global, entries: &[Kept]) -> Result<bool, NoMemory>
-    ensures { IfOk result (λ all. all ≡ are_of_use entries.now) }
-{
-    let parents = sorted(parents_in_turn(alloc, entries)?);
-    Ok(all_of_use(entries, parents.as_slice()))
 }

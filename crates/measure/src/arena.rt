@@ -1,11 +1,11 @@
 //! What the calls of an arena cost: `measure arena CAPACITY` makes the calls on a full arena, and `measure arena
 //! CAPACITY times` prints the nanoseconds that the calls of each round take.
 use crate::clock::{each_since, moment};
+use crate::figures::Figures;
 use crate::random::next_random;
-use crate::told::Told;
 use crate::words::number_at;
 use eden_base::NoMemory;
-use node_arena::{Nodes, Slot};
+use node_arena::{NodeArena, Slot};
 use std::alloc::Global;
 use std::time::CpuClock;
 
@@ -34,7 +34,7 @@ fn pick(slots: &[Slot], random: u64) -> Option<Slot> {
 }
 
 /// Fills an arena, and returns its slots.
-fn fill(alloc: Global, nodes: &mut Nodes<u64>) -> Result<Vec<Slot>, NoMemory> {
+fn fill(alloc: Global, nodes: &mut NodeArena<u64>) -> Result<Vec<Slot>, NoMemory> {
     let mut slots = Vec::new(alloc);
     for value in 0..nodes.capacity() {
         if let Ok(slot) = nodes.add(value as u64) {
@@ -46,7 +46,7 @@ fn fill(alloc: Global, nodes: &mut Nodes<u64>) -> Result<Vec<Slot>, NoMemory> {
 
 /// Calls `oldest`, and `touch` of the slot that it returns.
 #[inline(never)]
-fn touch_oldest(nodes: &mut Nodes<u64>) {
+fn touch_oldest(nodes: &mut NodeArena<u64>) {
     for _ in 0..ROUNDS {
         if let Some(slot) = nodes.oldest() {
             nodes.touch(slot);
@@ -56,7 +56,7 @@ fn touch_oldest(nodes: &mut Nodes<u64>) {
 
 /// Calls `oldest`, `remove` of the slot that it returns, and `add`.
 #[inline(never)]
-fn replace_oldest(nodes: &mut Nodes<u64>) {
+fn replace_oldest(nodes: &mut NodeArena<u64>) {
     for _ in 0..ROUNDS {
         if let Some(slot) = nodes.oldest() {
             let value = nodes.remove(slot);
@@ -67,7 +67,7 @@ fn replace_oldest(nodes: &mut Nodes<u64>) {
 
 /// Calls `is_held` and `touch` of slots in a random order.
 #[inline(never)]
-fn touch_any(nodes: &mut Nodes<u64>, slots: &[Slot]) {
+fn touch_any(nodes: &mut NodeArena<u64>, slots: &[Slot]) {
     let mut random = 1;
     for _ in 0..ROUNDS {
         random = next_random(random);
@@ -81,7 +81,7 @@ fn touch_any(nodes: &mut Nodes<u64>, slots: &[Slot]) {
 
 /// Calls `is_held`, `get` and `get_mut` of slots in a random order.
 #[inline(never)]
-fn write_any(nodes: &mut Nodes<u64>, slots: &[Slot]) {
+fn write_any(nodes: &mut NodeArena<u64>, slots: &[Slot]) {
     let mut random = 1;
     for _ in 0..ROUNDS {
         random = next_random(random);
@@ -96,7 +96,7 @@ fn write_any(nodes: &mut Nodes<u64>, slots: &[Slot]) {
 
 /// Calls `is_held`, `remove` and `add` of slots in a random order.
 #[inline(never)]
-fn replace_any(nodes: &mut Nodes<u64>, slots: &[Slot]) {
+fn replace_any(nodes: &mut NodeArena<u64>, slots: &[Slot]) {
     let mut random = 1;
     for _ in 0..ROUNDS {
         random = next_random(random);
@@ -109,9 +109,9 @@ fn replace_any(nodes: &mut Nodes<u64>, slots: &[Slot]) {
     }
 }
 
-/// The calls of a round.
+/// A round of calls on an arena.
 #[derive(Clone, Copy)]
-enum Round {
+enum ArenaRound {
     TouchOldest,
     ReplaceOldest,
     TouchAny,
@@ -120,18 +120,18 @@ enum Round {
 }
 
 /// Makes the calls of `round`, `ROUNDS` times.
-fn make(round: Round, nodes: &mut Nodes<u64>, slots: &[Slot]) {
+fn make(round: ArenaRound, nodes: &mut NodeArena<u64>, slots: &[Slot]) {
     match round {
-        Round::TouchOldest => touch_oldest(nodes),
-        Round::ReplaceOldest => replace_oldest(nodes),
-        Round::TouchAny => touch_any(nodes, slots),
-        Round::WriteAny => write_any(nodes, slots),
-        Round::ReplaceAny => replace_any(nodes, slots),
+        ArenaRound::TouchOldest => touch_oldest(nodes),
+        ArenaRound::ReplaceOldest => replace_oldest(nodes),
+        ArenaRound::TouchAny => touch_any(nodes, slots),
+        ArenaRound::WriteAny => write_any(nodes, slots),
+        ArenaRound::ReplaceAny => replace_any(nodes, slots),
     }
 }
 
 /// Returns the nanoseconds that it takes to make the calls of `round` once.
-fn time(rt: &impl CpuClock, round: Round, nodes: &mut Nodes<u64>, slots: &[Slot]) -> u64 {
+fn time(rt: &impl CpuClock, round: ArenaRound, nodes: &mut NodeArena<u64>, slots: &[Slot]) -> u64 {
     let started = moment(rt);
     make(round, nodes, slots);
     each_since(rt, started, u64::from(ROUNDS))
@@ -140,8 +140,8 @@ fn time(rt: &impl CpuClock, round: Round, nodes: &mut Nodes<u64>, slots: &[Slot]
 /// Returns the nanoseconds that the calls of `round` take on all of `slots`, and on eight of them.
 fn time_both(
     rt: &impl CpuClock,
-    round: Round,
-    nodes: &mut Nodes<u64>,
+    round: ArenaRound,
+    nodes: &mut NodeArena<u64>,
     slots: &[Slot],
 ) -> (u64, u64) {
     let all = time(rt, round, nodes, slots);
@@ -150,12 +150,12 @@ fn time_both(
 }
 
 /// Returns the nanoseconds that the calls of each round take, in the order of `NAMES`.
-fn time_all(rt: &impl CpuClock, nodes: &mut Nodes<u64>, slots: &[Slot]) -> [u64; 8] {
-    let oldest = time(rt, Round::TouchOldest, nodes, slots);
-    let replaced = time(rt, Round::ReplaceOldest, nodes, slots);
-    let (touched, touched_few) = time_both(rt, Round::TouchAny, nodes, slots);
-    let (written, written_few) = time_both(rt, Round::WriteAny, nodes, slots);
-    let (put, put_few) = time_both(rt, Round::ReplaceAny, nodes, slots);
+fn time_all(rt: &impl CpuClock, nodes: &mut NodeArena<u64>, slots: &[Slot]) -> [u64; 8] {
+    let oldest = time(rt, ArenaRound::TouchOldest, nodes, slots);
+    let replaced = time(rt, ArenaRound::ReplaceOldest, nodes, slots);
+    let (touched, touched_few) = time_both(rt, ArenaRound::TouchAny, nodes, slots);
+    let (written, written_few) = time_both(rt, ArenaRound::WriteAny, nodes, slots);
+    let (put, put_few) = time_both(rt, ArenaRound::ReplaceAny, nodes, slots);
     [
         oldest,
         replaced,
@@ -169,7 +169,7 @@ fn time_all(rt: &impl CpuClock, nodes: &mut Nodes<u64>, slots: &[Slot]) -> [u64;
 }
 
 /// Returns the sum of the values in an arena.
-fn sum_of(nodes: &Nodes<u64>, slots: &[Slot]) -> u64 {
+fn sum_of(nodes: &NodeArena<u64>, slots: &[Slot]) -> u64 {
     let mut sum = 0u64;
     for &slot in slots {
         if nodes.is_held(slot) {
@@ -183,29 +183,29 @@ fn sum_of(nodes: &Nodes<u64>, slots: &[Slot]) -> u64 {
 fn measure_filled(
     rt: &impl CpuClock,
     alloc: Global,
-    nodes: &mut Nodes<u64>,
+    nodes: &mut NodeArena<u64>,
     timed: bool,
-) -> Result<Told, NoMemory> {
+) -> Result<Figures, NoMemory> {
     let slots = fill(alloc, nodes)?;
     let times = time_all(rt, nodes, slots.as_slice());
     let sum = sum_of(nodes, slots.as_slice());
     drop(slots);
     if timed {
-        return Ok(Told::of(&NAMES, &times));
+        return Ok(Figures::of(&NAMES, &times));
     }
-    Ok(Told::of(&["sum"], &[sum]))
+    Ok(Figures::of(&["sum"], &[sum]))
 }
 
 /// Makes an arena, and the calls of all rounds on it.
-fn measure_made(rt: &HostRuntime, capacity: usize, timed: bool) -> Result<Told, NoMemory> {
-    let mut nodes = Nodes::new(rt.alloc(), capacity.clamp(1, 65_536))?;
-    let told = measure_filled(rt, rt.alloc(), &mut nodes, timed);
+fn measure_made(rt: &HostRuntime, capacity: usize, timed: bool) -> Result<Figures, NoMemory> {
+    let mut nodes = NodeArena::new(rt.alloc(), capacity.clamp(1, 65_536))?;
+    let figures = measure_filled(rt, rt.alloc(), &mut nodes, timed);
     drop(nodes);
-    told
+    figures
 }
 
 /// Measures an arena, as `words` say.
-pub(crate) fn measure(rt: &HostRuntime, words: &[&str]) -> Result<Option<Told>, NoMemory> {
+pub(crate) fn measure(rt: &HostRuntime, words: &[&str]) -> Result<Option<Figures>, NoMemory> {
     let Some(capacity) = number_at(words, 0) else {
         return Ok(None);
     };

@@ -6,9 +6,9 @@ ghost use Rattle.map_image.specs.Fit.{CountsFit, IsFit};
 
 use crate::bytes::put_all;
 use crate::clock::{each_since, moment};
+use crate::figures::Figures;
 use crate::lines::manifest_from;
 use crate::names::{EACH, name_text, parent_of};
-use crate::told::Told;
 use crate::words::number_at;
 use eden_base::NoMemory;
 use fuse_ops::Served;
@@ -307,14 +307,14 @@ fn time_made(rt: &HostRuntime, entries: u64, unlinked: u64) -> Result<Took, NoMe
 }
 
 /// Times each call on an image, as `words` say.
-pub(crate) fn measure(rt: &HostRuntime, words: &[&str]) -> Result<Option<Told>, NoMemory> {
+pub(crate) fn measure(rt: &HostRuntime, words: &[&str]) -> Result<Option<Figures>, NoMemory> {
     let (Some(entries), Some(unlinked)) = (number_at(words, 0), number_at(words, 1)) else {
         return Ok(None);
     };
     let took = time_made(rt, u64::from(entries), u64::from(unlinked))?;
     match words {
-        [_, _] => Ok(Some(Told::of(&["bytes"], &[took.bytes]))),
-        [_, _, "times"] => Ok(Some(Told::of(
+        [_, _] => Ok(Some(Figures::of(&["bytes"], &[took.bytes]))),
+        [_, _, "times"] => Ok(Some(Figures::of(
             &["read", "feed", "raise", "image_of", "write"],
             &[took.read, took.feed, took.raise, took.image_of, took.write],
         ))),

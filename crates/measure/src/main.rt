@@ -5,6 +5,7 @@
 mod arena;
 mod bytes;
 mod clock;
+mod figures;
 mod image;
 mod lines;
 mod map;
@@ -16,22 +17,21 @@ mod requests;
 mod round;
 mod rounds;
 mod stream;
-mod told;
 mod tree;
 mod wire;
 mod words;
 
 use eden_base::NoMemory;
+use figures::Figures;
 use std::env;
 use std::io::{self, Error, ErrorKind};
 use std::rt::Clock;
 use std::sync::Wait;
 use std::thread::Threads;
-use told::Told;
 use words::refuse;
 
 /// The small runs: each is the words with which the program could be started.
-static RUNS: [&str; 59] = [
+static RUNS: [&str; 51] = [
     "arena 1",
     "arena 1024",
     "arena 65536",
@@ -65,8 +65,6 @@ static RUNS: [&str; 59] = [
     "wire getattr 10",
     "wire forget 10",
     "wire batch 10",
-    "wire forget-items 10",
-    "wire batch-items 10",
     "wire short 10",
     "wire bad-length 10",
     "wire bad-body 10",
@@ -75,12 +73,6 @@ static RUNS: [&str; 59] = [
     "frames claim 10",
     "frames ask 10",
     "frames data 10",
-    "frames claim 10 behind 1000",
-    "frames data 10 behind 100",
-    "frames claim 100 pieces 1",
-    "frames ask 100 pieces 16",
-    "frames data 2 pieces 1",
-    "frames data 2 pieces 4096",
     "journal 100 1 2",
     "journal 100 16 2",
     "journal 1000 1 2",
@@ -95,12 +87,12 @@ static RUNS: [&str; 59] = [
 
 /// Makes the calls of `subject`, as `words` say, and returns the figures. Returns none if these are not words of the
 /// subject. `threads` is the handle by which rounds start their workers.
-fn told_of<R: Threads + Wait + Clock + Sync>(
+fn figures_of<R: Threads + Wait + Clock + Sync>(
     rt: &HostRuntime,
     threads: &R,
     subject: &str,
     words: &[&str],
-) -> Result<Option<Told>, NoMemory> {
+) -> Result<Option<Figures>, NoMemory> {
     match subject {
         "arena" => arena::measure(rt, words),
         "queue" => queue::measure(rt.alloc(), words),
@@ -124,13 +116,13 @@ fn measure<R: Threads + Wait + Clock + Sync>(
     line: &str,
 ) -> io::Result<()> {
     let words: Vec<&str> = line.split_whitespace().collect(rt.alloc())?;
-    let told = match words.as_slice() {
+    let figures = match words.as_slice() {
         [] => Ok(None),
-        [subject, rest @ ..] => told_of(rt, threads, subject, rest),
+        [subject, rest @ ..] => figures_of(rt, threads, subject, rest),
     };
     drop(words);
-    match told {
-        Ok(Some(told)) => told.print(rt, line),
+    match figures {
+        Ok(Some(figures)) => figures.print(rt, line),
         Ok(None) => refuse(rt),
         Err(NoMemory) => Err(Error::from(ErrorKind::OutOfMemory)),
     }

@@ -8,9 +8,9 @@ ghost use Rattle.entry_table.specs.Entries.{entry_of, is_kid_of, AreEntries, IsL
 ghost use Rattle.inode_map.specs.InodeMap.{attr_of};
 ghost use Rattle.measure.specs.Chain.{IsChain};
 
+use crate::figures::Figures;
 use crate::names::{fresh_name, name_of, parent_of};
 use crate::random::{ASKED, DEFAULT_LIMIT, Random};
-use crate::told::Told;
 use crate::words::number_at;
 use eden_base::{Attr, FileId, Kind, Name, NoMemory, Number, Perm, Place};
 use inode_map::{Forgot, GiveFault, InodeMap, Kept, NamedEntries};
@@ -248,12 +248,12 @@ fn give_all_new(alloc: Global, map: &mut InodeMap, list: &[Sought]) -> Result<u6
 }
 
 /// Makes each call on the listed numbers, and returns the figures.
-fn call_all(alloc: Global, map: &mut InodeMap, list: &[Sought]) -> Result<Told, NoMemory> {
+fn call_all(alloc: Global, map: &mut InodeMap, list: &[Sought]) -> Result<Figures, NoMemory> {
     let loaded = remember_all(map, list);
     let sum = read_all(map, list);
     let lowered = give_all_again(alloc, map, list);
     let dropped = give_all_new(alloc, map, list)?;
-    Ok(Told::of(
+    Ok(Figures::of(
         &["loaded", "lowered", "dropped", "sum"],
         &[loaded, lowered, dropped, sum],
     ))
@@ -265,20 +265,20 @@ fn fill_and_call(
     map: &mut InodeMap,
     entries: u64,
     every: u64,
-) -> Result<Told, NoMemory> {
+) -> Result<Figures, NoMemory> {
     fill(alloc, map, entries, every)?;
     let list = list_sought(alloc, entries, every)?;
-    let told = call_all(alloc, map, list.as_slice());
+    let figures = call_all(alloc, map, list.as_slice());
     drop(list);
-    told
+    figures
 }
 
 /// Makes a map of `entries` entries, and each call on it.
-fn told_of(alloc: Global, entries: u64, every: u64) -> Result<Told, NoMemory> {
+fn figures_of(alloc: Global, entries: u64, every: u64) -> Result<Figures, NoMemory> {
     let mut map = InodeMap::new(alloc, LOADED_LIMIT)?;
-    let told = fill_and_call(alloc, &mut map, entries, every);
+    let figures = fill_and_call(alloc, &mut map, entries, every);
     drop(map);
-    told
+    figures
 }
 
 /// Asks for the attributes of random numbers, and loads those that are not loaded. Returns how many were loaded.
@@ -294,18 +294,18 @@ fn ask_random(map: &mut InodeMap, entries: u64) -> u64 {
 }
 
 /// Fills a map, and asks for the attributes of random numbers.
-fn fill_and_ask(alloc: Global, map: &mut InodeMap, entries: u64) -> Result<Told, NoMemory> {
+fn fill_and_ask(alloc: Global, map: &mut InodeMap, entries: u64) -> Result<Figures, NoMemory> {
     fill(alloc, map, entries, 1)?;
     let loaded = ask_random(map, entries);
-    Ok(Told::of(&["loaded"], &[loaded]))
+    Ok(Figures::of(&["loaded"], &[loaded]))
 }
 
 /// Makes a map of `entries` entries, and asks for the attributes of random numbers.
-fn told_of_random(alloc: Global, entries: u64) -> Result<Told, NoMemory> {
+fn figures_of_random(alloc: Global, entries: u64) -> Result<Figures, NoMemory> {
     let mut map = InodeMap::new(alloc, DEFAULT_LIMIT)?;
-    let told = fill_and_ask(alloc, &mut map, entries);
+    let figures = fill_and_ask(alloc, &mut map, entries);
     drop(map);
-    told
+    figures
 }
 
 /// Lists `entries` entries, each in the directory of the number before it.
@@ -358,21 +358,21 @@ fn knows_last_of(alloc: Global, entries: u32) -> Result<bool, NoMemory> {
 }
 
 /// Makes a map of a list of `entries` entries. The figure is whether the map knows their last number.
-fn told_of_given(alloc: Global, entries: u32) -> Result<Told, NoMemory> {
+fn figures_of_given(alloc: Global, entries: u32) -> Result<Figures, NoMemory> {
     let known = knows_last_of(alloc, entries)?;
-    Ok(Told::of(&["known"], &[u64::from(known)]))
+    Ok(Figures::of(&["known"], &[u64::from(known)]))
 }
 
 /// Measures the calls on a map, or a map of given entries, as `words` say.
-pub(crate) fn measure(alloc: Global, words: &[&str]) -> Result<Option<Told>, NoMemory> {
+pub(crate) fn measure(alloc: Global, words: &[&str]) -> Result<Option<Figures>, NoMemory> {
     let Some(entries) = number_at(words, 0) else {
         return Ok(None);
     };
     match words {
-        [_] => told_of(alloc, u64::from(entries), 1).map(Some),
-        [_, "holes"] => told_of(alloc, u64::from(entries), 2).map(Some),
-        [_, "given"] => told_of_given(alloc, entries).map(Some),
-        [_, "random"] => told_of_random(alloc, u64::from(entries)).map(Some),
+        [_] => figures_of(alloc, u64::from(entries), 1).map(Some),
+        [_, "holes"] => figures_of(alloc, u64::from(entries), 2).map(Some),
+        [_, "given"] => figures_of_given(alloc, entries).map(Some),
+        [_, "random"] => figures_of_random(alloc, u64::from(entries)).map(Some),
         _ => Ok(None),
     }
 }

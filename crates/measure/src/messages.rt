@@ -2,14 +2,15 @@
 //! Each line of the manifest has a number, except the last file of each directory. Files are chosen at random.
 ghost use Rattle.fuse_wire.specs.Request.{IsSendable};
 
+use crate::figures::Figures;
 use crate::names::{EACH, named};
 use crate::random::{ASKED, DEFAULT_LIMIT, Random};
 use crate::requests::{Hosted, begin, look_all_up, name_of};
-use crate::told::Told;
 use crate::words::number_at;
 use eden_base::{Name, NoMemory, Number, Perm};
 use fuse_wire::{
-    Ask, Item, MAX_REPLY_LEN, Reply, Request, read_request, write_reply, write_request,
+    Ask, Item, MAX_REPLY_LEN, Reply, Request, RequestRoom, read_request, write_reply,
+    write_request_to,
 };
 use std::alloc::Global;
 
@@ -41,7 +42,7 @@ impl Server {
 fn text_of(alloc: Global, what: Request) -> Result<Text, NoMemory>
     requires { IsSendable what }
 {
-    write_request(alloc, &Ask { unique: 7, what })
+    Ok(write_request_to(RequestRoom::new(alloc)?, &Ask { unique: 7, what }))
 }
 
 /// Returns the number of the directory that contains the file of number `node`.
@@ -284,7 +285,7 @@ fn move_all(alloc: Global, server: &mut Server, lines: u64) -> Result<u64, NoMem
 }
 
 /// Sends all messages to `server`, and returns what was measured.
-fn send_all(alloc: Global, server: &mut Server, lines: u64) -> Result<Told, NoMemory> {
+fn send_all(alloc: Global, server: &mut Server, lines: u64) -> Result<Figures, NoMemory> {
     look_all_up(alloc, &mut server.hosted, lines)?;
     forget_each_last(alloc, server, lines)?;
     let looked_up = look_up(alloc, server, lines)?;
@@ -293,14 +294,14 @@ fn send_all(alloc: Global, server: &mut Server, lines: u64) -> Result<Told, NoMe
     let found = find(alloc, server, lines)?;
     let made = make(alloc, server, lines)?;
     let moved = move_all(alloc, server, lines)?;
-    Ok(Told::of(
+    Ok(Figures::of(
         &["looked-up", "shown", "mixed", "found", "made", "moved"],
         &[looked_up, shown, mixed, found, made, moved],
     ))
 }
 
 /// Sends all messages, as `words` say. Returns none if `words` give no number of lines.
-pub(crate) fn measure(alloc: Global, words: &[&str]) -> Result<Option<Told>, NoMemory> {
+pub(crate) fn measure(alloc: Global, words: &[&str]) -> Result<Option<Figures>, NoMemory> {
     let Some(lines) = number_at(words, 0) else {
         return Ok(None);
     };
@@ -309,7 +310,7 @@ pub(crate) fn measure(alloc: Global, words: &[&str]) -> Result<Option<Told>, NoM
         hosted: begin(alloc, lines, DEFAULT_LIMIT)?,
         reply: [0; MAX_REPLY_LEN],
     };
-    let told = send_all(alloc, &mut server, lines);
+    let figures = send_all(alloc, &mut server, lines);
     drop(server);
-    told.map(Some)
+    figures.map(Some)
 }

@@ -1,7 +1,7 @@
 //! What the calls of a queue cost: `measure queue COUNT` fills a queue with `COUNT` members and makes rounds of calls
 //! on it. Then it fills another, and takes half of the members out of it.
+use crate::figures::Figures;
 use crate::random::Random;
-use crate::told::Told;
 use crate::words::number_at;
 use block_queue::BlockQueue;
 use eden_base::NoMemory;
@@ -125,11 +125,11 @@ fn take_half(alloc: Global, count: u32) -> Result<u64, NoMemory> {
 }
 
 /// Measures a queue, as `words` say.
-pub(crate) fn measure(alloc: Global, words: &[&str]) -> Result<Option<Told>, NoMemory> {
+pub(crate) fn measure(alloc: Global, words: &[&str]) -> Result<Option<Figures>, NoMemory> {
     let ([_], Some(count)) = (words, number_at(words, 0)) else {
         return Ok(None);
     };
     let [first, any, got] = turn_all(alloc, count)?;
     let taken = take_half(alloc, count)?;
-    Ok(Some(Told::of(&["first", "any", "got", "taken"], &[first, any, got, taken])))
+    Ok(Some(Figures::of(&["first", "any", "got", "taken"], &[first, any, got, taken])))
 }

@@ -2,10 +2,10 @@
 //! be counted. `measure requests LINES DEPTH` has a manifest of LINES lines, and a directory at DEPTH. `measure
 //! requests LINES random` asks for the attributes of random files of the manifest, with the limit that `edend` has
 //! without an option.
+use crate::figures::Figures;
 use crate::lines::{manifest_from, manifest_text};
 use crate::names::{EACH, named};
 use crate::random::{ASKED as ASKED_RANDOMLY, DEFAULT_LIMIT, Random};
-use crate::told::Told;
 use crate::words::number_at;
 use checkout::ManifestBacking;
 use eden_base::{Kind, Name, NoMemory, Number, Perm};
@@ -377,23 +377,28 @@ fn ask_batches(alloc: Global, served: &mut Hosted) -> Result<u64, NoMemory> {
 }
 
 /// Makes all requests, and returns the figures.
-fn ask_all(alloc: Global, served: &mut Hosted, lines: u64, depth: u64) -> Result<Told, NoMemory> {
+fn ask_all(
+    alloc: Global,
+    served: &mut Hosted,
+    lines: u64,
+    depth: u64,
+) -> Result<Figures, NoMemory> {
     let found = ask_fresh(alloc, served, lines)?;
     let done = ask_made(alloc, served, depth)?;
     let batches = ask_batches(alloc, served)?;
     let next = served.served.map().next();
-    Ok(Told::of(
+    Ok(Figures::of(
         &["found", "made", "batches", "next"],
         &[found, done, batches, next],
     ))
 }
 
 /// Begins to serve a manifest of `lines` lines, and makes all requests.
-fn ask_begun(alloc: Global, lines: u64, depth: u64) -> Result<Told, NoMemory> {
+fn ask_begun(alloc: Global, lines: u64, depth: u64) -> Result<Figures, NoMemory> {
     let mut served = begin(alloc, lines, LOADED_LIMIT)?;
-    let told = ask_all(alloc, &mut served, lines, depth);
+    let figures = ask_all(alloc, &mut served, lines, depth);
     drop(served);
-    told
+    figures
 }
 
 /// Looks each name of the manifest up once.
@@ -413,7 +418,7 @@ pub(crate) fn look_all_up(alloc: Global, served: &mut Hosted, lines: u64) -> Res
 }
 
 /// Asks for the attributes of random numbers. Returns how many have some.
-fn ask_random(alloc: Global, served: &mut Hosted, lines: u64) -> Result<Told, NoMemory> {
+fn ask_random(alloc: Global, served: &mut Hosted, lines: u64) -> Result<Figures, NoMemory> {
     look_all_up(alloc, served, lines)?;
     let mut random = Random::new();
     let mut shown = 0u64;
@@ -422,19 +427,19 @@ fn ask_random(alloc: Global, served: &mut Hosted, lines: u64) -> Result<Told, No
             shown = shown.wrapping_add(1);
         }
     }
-    Ok(Told::of(&["shown"], &[shown]))
+    Ok(Figures::of(&["shown"], &[shown]))
 }
 
 /// Begins to serve a manifest of `lines` lines, and asks for the attributes of random numbers.
-fn ask_begun_random(alloc: Global, lines: u64) -> Result<Told, NoMemory> {
+fn ask_begun_random(alloc: Global, lines: u64) -> Result<Figures, NoMemory> {
     let mut served = begin(alloc, lines, DEFAULT_LIMIT)?;
-    let told = ask_random(alloc, &mut served, lines);
+    let figures = ask_random(alloc, &mut served, lines);
     drop(served);
-    told
+    figures
 }
 
 /// Measures requests, as `words` say.
-pub(crate) fn measure(alloc: Global, words: &[&str]) -> Result<Option<Told>, NoMemory> {
+pub(crate) fn measure(alloc: Global, words: &[&str]) -> Result<Option<Figures>, NoMemory> {
     let Some(lines) = number_at(words, 0) else {
         return Ok(None);
     };

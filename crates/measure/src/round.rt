@@ -1,7 +1,7 @@
 //! Makes a round of RECORDS records, each with its receipt, and asks ROUNDS times whether the round is settled. So the
 //! instructions of one such call can be counted: `measure journal RECORDS WORKERS ROUNDS`.
+use crate::figures::Figures;
 use crate::names::file_name;
-use crate::told::Told;
 use crate::words::number_at;
 use eden_base::{Attr, Kind, NoMemory, Number, Perm};
 use fuse_wire::{Answer, Ask, Item, Request};
@@ -139,7 +139,7 @@ fn times_settled(alloc: Global, records: u32, workers: u32, rounds: u32) -> Resu
 }
 
 /// Measures whether a round is settled, as `words` say. Returns none if they say no numbers.
-pub(crate) fn measure(alloc: Global, words: &[&str]) -> Result<Option<Told>, NoMemory> {
+pub(crate) fn measure(alloc: Global, words: &[&str]) -> Result<Option<Figures>, NoMemory> {
     let (Some(records), Some(workers)) = (number_at(words, 0), number_at(words, 1)) else {
         return Ok(None);
     };
@@ -147,5 +147,5 @@ pub(crate) fn measure(alloc: Global, words: &[&str]) -> Result<Option<Told>, NoM
         return Ok(None);
     };
     let times = times_settled(alloc, records, workers, rounds)?;
-    Ok(Some(Told::of(&["settled"], &[u64::from(times)])))
+    Ok(Some(Figures::of(&["settled"], &[u64::from(times)])))
 }

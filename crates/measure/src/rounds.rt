@@ -2,8 +2,8 @@
 //! `measure rounds WORKERS ASKS ROUNDS [times]`. Each worker may take 64 requests a round, and finds ASKS asks.
 ghost use Rattle.std.specs.Prelude.{◌≡◌, vec_len, IfOk, IfSome};
 
+use crate::figures::Figures;
 use crate::lines::{manifest_from, manifest_text};
-use crate::told::Told;
 use crate::words::number_at;
 use checkout::ManifestBacking;
 use eden_base::{NoMemory, Number};
@@ -16,7 +16,8 @@ use std::sync::Wait;
 use std::thread::Threads;
 use std::time::Duration;
 use workers::{
-    Channel, MAX_CHANNELS, NoHook, Posted, Rooms, Round, Settled, Stop, Taken, drain, serve_round,
+    Channel, MAX_CHANNELS, NextAsk, NoHook, Posted, Round, RoundBuffers, RoundOptions, RoundState,
+    Settled, Stop, drain, serve_round,
 };
 
 /// The most requests that a worker takes in a round.
@@ -38,16 +39,16 @@ impl Channel for Rooted {
 
     ghost posts = { λ _ _ _ _. ⊤ };
 
-    ghost tells = { false };
+    ghost reports = { false };
 
-    ghost told = { λ channel. record { taken = []; posted = [] } };
+    ghost reported = { λ channel. record { taken = []; posted = [] } };
 
-    fn take(&mut self) -> Taken {
+    fn take(&mut self) -> NextAsk {
         if self.left == 0 {
-            return Taken::Empty;
+            return NextAsk::Empty;
         }
         self.left -= 1;
-        Taken::Ask(Ask {
+        NextAsk::Ask(Ask {
             unique: self.left,
             what: Request::Getattr { node: Number::ROOT },
         })
@@ -78,7 +79,7 @@ fn begin<'a>(alloc: Global, manifest: &'a Manifest, workers: usize) -> Result<Be
     let channels = channels_of(alloc, workers)?;
     let served = Served::new(alloc, manifest, LOADED_LIMIT)?;
     Ok(Settled {
-        rooms: Rooms::new(alloc),
+        buffers: RoundBuffers::new(alloc),
         served,
         backing: ManifestBacking::of(manifest),
         channels,
@@ -114,44 +115,59 @@ fn next<'a, R: Threads + Wait + Sync>(
     ensures over { IfSome result (λ after. after.served.tree.manifest ≡ manifest.now) }
 {
     let Settled {
-        rooms,
+        buffers,
         served,
         backing,
         mut channels,
     } = between;
     drop(backing);
-    let backing = ManifestBacking::of(manifest);
     ask(&mut channels, asks);
     if channels.is_empty() || channels.len() > MAX_CHANNELS {
-        drop(rooms);
+        drop(buffers);
         drop(served);
         drop(channels);
         return None;
     }
+    let state = RoundState {
+        buffers,
+        served,
+        backing: ManifestBacking::of(manifest),
+        channels,
+    };
     let stop = Stop::new();
-    match serve_round(
-        rt, alloc, rooms, served, backing, channels, TURNS, &NoHook, &stop,
-    ) {
+    let options = RoundOptions {
+        turns: TURNS,
+        hook: &NoHook,
+        stop: &stop,
+    };
+    match serve_round(rt, alloc, state, &options) {
         Ok(round) => drained(alloc, round),
         Err(_fault) => None,
     }
 }
 
-/// Serves `rounds` rounds one after another, each with `asks` asks for each worker. Returns none where a round could
-/// not be served or is not settled.
+/// How many workers and rounds there are, and how many asks each worker finds in a round.
+#[derive(Clone, Copy)]
+struct Counts {
+    workers: u32,
+    asks: u32,
+    rounds: u32,
+}
+
+/// Serves the rounds that `counts` says, one after another. Returns none where a round could not be served or is not
+/// settled.
 fn serve_rounds<'a, R: Threads + Wait + Sync>(
     rt: &R,
     alloc: Global,
     manifest: &'a Manifest,
     begun: Between<'a>,
-    asks: u64,
-    rounds: u32,
+    counts: Counts,
 ) -> Option<Between<'a>>
     requires over { begun.served.tree.manifest ≡ manifest.now }
 {
     let mut between = begun;
-    for _round in 0..rounds {
-        between = next(rt, alloc, manifest, between, asks)?;
+    for _round in 0..counts.rounds {
+        between = next(rt, alloc, manifest, between, u64::from(counts.asks))?;
     }
     Some(between)
 }
@@ -175,24 +191,23 @@ fn each_between(started: Duration, ended: Duration, rounds: u32) -> u64 {
     nanos / u64::from(rounds.max(1))
 }
 
-/// Serves rounds over `manifest`, with `words` as the numbers of workers, asks and rounds. Returns how many replies
-/// were posted, and the nanoseconds of a round.
-fn told_of<R: Threads + Wait + Clock + Sync>(
+/// Serves rounds over `manifest`, as many as `counts` says. Returns how many replies were posted, and the nanoseconds
+/// of a round.
+fn measured_by<R: Threads + Wait + Clock + Sync>(
     rt: &R,
     alloc: Global,
     manifest: &Manifest,
-    words: (u32, u32, u32),
+    counts: Counts,
 ) -> Result<Option<(u64, u64)>, NoMemory> {
-    let (workers, asks, rounds) = words;
-    let begun = begin(alloc, manifest, workers as usize)?;
+    let begun = begin(alloc, manifest, counts.workers as usize)?;
     let started = rt.monotonic().unwrap_or(Duration::ZERO);
-    let Some(ended) = serve_rounds(rt, alloc, manifest, begun, u64::from(asks), rounds) else {
+    let Some(ended) = serve_rounds(rt, alloc, manifest, begun, counts) else {
         return Ok(None);
     };
     let now = rt.monotonic().unwrap_or(Duration::ZERO);
     let replies = posted(ended.channels.as_slice());
     drop(ended);
-    Ok(Some((replies, each_between(started, now, rounds))))
+    Ok(Some((replies, each_between(started, now, counts.rounds))))
 }
 
 /// Measures rounds of workers, as `words` say.
@@ -200,7 +215,7 @@ pub(crate) fn measure<R: Threads + Wait + Clock + Sync>(
     rt: &R,
     alloc: Global,
     words: &[&str],
-) -> Result<Option<Told>, NoMemory> {
+) -> Result<Option<Figures>, NoMemory> {
     let (Some(workers), Some(asks)) = (number_at(words, 0), number_at(words, 1)) else {
         return Ok(None);
     };
@@ -209,11 +224,16 @@ pub(crate) fn measure<R: Threads + Wait + Clock + Sync>(
     };
     let times = matches!(words.get(3), Some(&"times"));
     let manifest = manifest_from(alloc, manifest_text(alloc, 1, 10)?)?;
-    let told = told_of(rt, alloc, &manifest, (workers, asks, rounds));
+    let counts = Counts {
+        workers,
+        asks,
+        rounds,
+    };
+    let measured = measured_by(rt, alloc, &manifest, counts);
     drop(manifest);
-    Ok(match told? {
+    Ok(match measured? {
         None => None,
-        Some((replies, _nanos)) if !times => Some(Told::of(&["replies"], &[replies])),
-        Some((replies, nanos)) => Some(Told::of(&["replies", "round"], &[replies, nanos])),
+        Some((replies, _nanos)) if !times => Some(Figures::of(&["replies"], &[replies])),
+        Some((replies, nanos)) => Some(Figures::of(&["replies", "round"], &[replies, nanos])),
     })
 }

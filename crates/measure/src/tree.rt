@@ -7,9 +7,9 @@ ghost use Rattle.checkout.specs.ChangedTree.{is_full_dir, is_unlinked};
 ghost use Rattle.eden_base.specs.declared.attr.Kind.TheVariants.{Dir};
 
 use crate::clock::{each_since, moment};
+use crate::figures::Figures;
 use crate::lines::{manifest_from, manifest_text};
 use crate::names::{EACH, file_name, fresh_name};
-use crate::told::Told;
 use crate::words::number_at;
 use checkout::{CreateFault, Tree};
 use eden_base::{Attr, FileId, Kind, Name, NoMemory, Perm};
@@ -106,7 +106,7 @@ fn time_tree(rt: &HostRuntime, lines: u32, manifest: &Manifest) -> Result<(u64, 
 }
 
 /// Returns the nanoseconds of reading a line, of making the tree, and of a look-up in it.
-fn time_all(rt: &HostRuntime, lines: u32) -> Result<Told, NoMemory> {
+fn time_all(rt: &HostRuntime, lines: u32) -> Result<Figures, NoMemory> {
     let text = text_of(rt.alloc(), lines)?;
     let started = moment(rt);
     let manifest = manifest_from(rt.alloc(), text)?;
@@ -114,7 +114,7 @@ fn time_all(rt: &HostRuntime, lines: u32) -> Result<Told, NoMemory> {
     let times = time_tree(rt, lines, &manifest);
     drop(manifest);
     let (made, look_up) = times?;
-    Ok(Told::of(&["line", "tree", "look-up"], &[line, made, look_up]))
+    Ok(Figures::of(&["line", "tree", "look-up"], &[line, made, look_up]))
 }
 
 #[inline(never)]
@@ -255,33 +255,33 @@ fn call_each(tree: &mut Tree, list: &[Member]) -> Called {
 /// Makes the tree of `manifest`, and each call on the listed files of that tree.
 fn call_made(alloc: Global, manifest: &Manifest, list: &[Member]) -> Result<Called, NoMemory> {
     let mut tree = tree_of(alloc, manifest)?;
-    let told = call_each(&mut tree, list);
+    let figures = call_each(&mut tree, list);
     drop(tree);
-    Ok(told)
+    Ok(figures)
 }
 
 /// Makes each call on files that are spread evenly over those of `manifest`.
 fn call_listed(alloc: Global, lines: u32, manifest: &Manifest) -> Result<Called, NoMemory> {
     let list = list_members(alloc, lines)?;
-    let told = call_made(alloc, manifest, list.as_slice());
+    let figures = call_made(alloc, manifest, list.as_slice());
     drop(list);
-    told
+    figures
 }
 
 /// Makes each call on a tree over a manifest of `lines` lines, and returns the figures.
-fn call_all(alloc: Global, lines: u32) -> Result<Told, NoMemory> {
+fn call_all(alloc: Global, lines: u32) -> Result<Figures, NoMemory> {
     let manifest = read_manifest(alloc, lines)?;
-    let told = call_listed(alloc, lines, &manifest);
+    let figures = call_listed(alloc, lines, &manifest);
     drop(manifest);
-    let (members, found, changes) = told?;
-    Ok(Told::of(
+    let (members, found, changes) = figures?;
+    Ok(Figures::of(
         &["files", "found", "changes"],
         &[members as u64, u64::from(found), u64::from(changes)],
     ))
 }
 
 /// Makes each call on a tree, or times some calls, as `words` say.
-pub(crate) fn measure(rt: &HostRuntime, words: &[&str]) -> Result<Option<Told>, NoMemory> {
+pub(crate) fn measure(rt: &HostRuntime, words: &[&str]) -> Result<Option<Figures>, NoMemory> {
     let Some(lines) = number_at(words, 0) else {
         return Ok(None);
     };

@@ -1,22 +1,20 @@
 //! Reads requests of one form again and again, so that the instructions of a read can be counted:
 //! `measure wire FORM ROUNDS`.
 use crate::bytes::put_all;
-use crate::told::Told;
+use crate::figures::Figures;
 use crate::words::number_at;
 use eden_base::NoMemory;
-use fuse_wire::{Ask, Items, WireFault, read_items, read_request};
+use fuse_wire::{Ask, WireFault, read_request};
 use std::alloc::{AllocError, Global};
 
 /// How many different messages of one form are read one after another, so that no message is read twice in a row.
 const MESSAGES: u32 = 64;
 
-const FORMS: [&str; 11] = [
+const FORMS: [&str; 9] = [
     "lookup",
     "getattr",
     "forget",
     "batch",
-    "forget-items",
-    "batch-items",
     "short",
     "bad-length",
     "bad-body",
@@ -28,8 +26,8 @@ const FORMS: [&str; 11] = [
 fn opcode_of(form: &str) -> u8 {
     match form {
         "getattr" => 3,
-        "forget" | "forget-items" => 2,
-        "batch" | "batch-items" | "bad-count" => 42,
+        "forget" => 2,
+        "batch" | "bad-count" => 42,
         _ => 1,
     }
 }
@@ -38,8 +36,8 @@ fn opcode_of(form: &str) -> u8 {
 fn body_of(alloc: Global, form: &str) -> Result<Vec<u8>, AllocError> {
     match form {
         "getattr" => Vec::from_slice(alloc, &[0; 16]),
-        "forget" | "forget-items" => Vec::from_slice(alloc, &[1, 0, 0, 0, 0, 0, 0, 0]),
-        "batch" | "batch-items" => batch(alloc, 0),
+        "forget" => Vec::from_slice(alloc, &[1, 0, 0, 0, 0, 0, 0, 0]),
+        "batch" => batch(alloc, 0),
         "bad-count" => batch(alloc, 1),
         "bad-body" => Vec::from_slice(alloc, b"src"),
         "bad-name" => Vec::from_slice(alloc, b"a/b\0"),
@@ -117,55 +115,27 @@ fn uniques(asks: &[Ask]) -> u64 {
     sum
 }
 
-/// Reads the items of one message. It is not inlined, so that the reader is called as by another crate.
-#[inline(never)]
-fn items(text: &[u8]) -> Result<Items, WireFault> {
-    read_items(text)
-}
-
-/// Returns how many messages are read as forgets, and how many items they have.
-fn read_all_items(texts: &[Vec<u8>]) -> (usize, u64) {
-    let mut read = 0usize;
-    let mut sum = 0u64;
-    for text in texts {
-        if let Ok(items) = items(text.as_slice()) {
-            read = read.wrapping_add(1);
-            sum = sum.wrapping_add(items.len() as u64);
-        }
-    }
-    (read, sum)
-}
-
-/// Reads all messages once. Returns how many are read, and the sum of their uniques or the number of their items.
+/// Reads all messages once. Returns how many are read, and the sum of their uniques.
 fn round(
     alloc: Global,
-    form: &str,
     texts: &[Vec<u8>],
     asks: &mut Vec<Ask>,
 ) -> Result<(usize, u64), AllocError> {
-    if form.ends_with("-items") {
-        return Ok(read_all_items(texts));
-    }
     read_all(alloc, texts, asks)?;
-    let told = (asks.len(), uniques(asks.as_slice()));
+    let counts = (asks.len(), uniques(asks.as_slice()));
     asks.clear();
-    Ok(told)
+    Ok(counts)
 }
 
 /// Reads all messages `rounds` times, and returns the sums over the rounds.
-fn read_rounds(
-    alloc: Global,
-    form: &str,
-    texts: &[Vec<u8>],
-    rounds: u32,
-) -> Result<(usize, u64), AllocError> {
+fn read_rounds(alloc: Global, texts: &[Vec<u8>], rounds: u32) -> Result<(usize, u64), AllocError> {
     let mut asks = Vec::with_capacity(alloc, MESSAGES as usize)?;
     let mut read = 0usize;
     let mut sum = 0u64;
     for _ in 0..rounds {
-        let (more, told) = round(alloc, form, texts, &mut asks)?;
+        let (more, uniques) = round(alloc, texts, &mut asks)?;
         read = read.wrapping_add(more);
-        sum = sum.wrapping_add(told);
+        sum = sum.wrapping_add(uniques);
     }
     Ok((read, sum))
 }
@@ -173,13 +143,13 @@ fn read_rounds(
 /// Makes the messages of a form, and reads them `rounds` times.
 fn read_form(alloc: Global, form: &str, rounds: u32) -> Result<(usize, u64), AllocError> {
     let texts = messages(alloc, form)?;
-    let told = read_rounds(alloc, form, texts.as_slice(), rounds);
+    let figures = read_rounds(alloc, texts.as_slice(), rounds);
     drop(texts);
-    told
+    figures
 }
 
 /// Measures reading the messages of a form, as `words` say.
-pub(crate) fn measure(alloc: Global, words: &[&str]) -> Result<Option<Told>, NoMemory> {
+pub(crate) fn measure(alloc: Global, words: &[&str]) -> Result<Option<Figures>, NoMemory> {
     let (Some(form), Some(rounds)) = (words.first(), number_at(words, 1)) else {
         return Ok(None);
     };
@@ -187,5 +157,5 @@ pub(crate) fn measure(alloc: Global, words: &[&str]) -> Result<Option<Told>, NoM
         return Ok(None);
     }
     let (read, sum) = read_form(alloc, form, rounds)?;
-    Ok(Some(Told::of(&["read", "sum"], &[read as u64, sum])))
+    Ok(Some(Figures::of(&["read", "sum"], &[read as u64, sum])))
 }

@@ -1,25 +1,24 @@
 //! Calls of `broker_core`. The first one of a case makes the broker. D is a daemon, G a generation, U the unique of an ask,
 //! N a number; requests and answers are those of `spelled`.
 //!
-//! - `broker seat`: generation and daemon, or none
-//! - `broker mount-refusal`, `broker take-refusal D G`: the fault, or none
-//! - `broker mount D`, `broker try-mount D`, `broker claim D G`: the generation, or the fault
-//! - `broker issue REQUEST`: the unique, or none for a forget, or the fault
-//! - `broker take D G`: unique and request, or the fault; `broker take-many D G`: how many items were taken
-//! - `broker post D G U ANSWER`: ok, or the fault
-//! - `broker deliver`: unique and answer, or the fault
-//! - `broker rounds K N STEP`: how many of K rounds go so, up to the first that does not. In a round the root is looked up,
-//!   and daemon 1 at generation 1 answers by an entry of N, of N + STEP in the second round, and so on
-//! - `broker gone D`: ok
-//! - `broker held N`: how often; `broker held-after N`: the number, or none
-//! - `broker stand N`: how often N is held; how many posted replies give it out, as told and as counted one by one; how
-//!   often waiting items take it back, as told and as counted
+//! `broker seat`: generation and daemon, or none.
+//! `broker mount-refusal`, `broker take-refusal D G`: the fault, or none.
+//! `broker mount D`, `broker try-mount D`, `broker claim D G`: the generation, or the fault.
+//! `broker issue REQUEST`: the unique, or none for a forget, or the fault.
+//! `broker take D G`: unique and request, or the fault. `broker take-many D G`: how many items were taken.
+//! `broker post D G U ANSWER`: ok, or the fault.
+//! `broker deliver`: unique and answer, or the fault.
+//! `broker rounds K N STEP`: how many of K rounds go so, up to the first that does not. In a round the root is looked up,
+//! and daemon 1 at generation 1 answers by an entry of N, of N + STEP in the second round, and so on.
+//! `broker gone D`: ok.
+//! `broker held N`: how often. `broker held-after N`: the number, or none.
+//! `broker stand N`: how often N is held. How many posted replies give it out. How often waiting items take it back.
 use crate::{Called, tell_fault, tell_number, tell_printed};
 use broker_core::{Broker, DeliverFault, IssueFault};
 use eden_base::{Attr, DaemonId, Kind, Number, Perm};
 use fuse_wire::{Answer, Reply, Request};
 use row_words::{
-    Fault, Told, Words, chosen, name_of, read_answer, read_request, tell_answer, tell_request,
+    Output, RowFault, Words, chosen, name_of, read_answer, read_request, tell_answer, tell_request,
 };
 use std::alloc::Global;
 use std::fmt::Debug;
@@ -84,69 +83,72 @@ static BROKER_CALLS: [(&str, BrokerCall); 16] = [
 ];
 
 /// Writes a fault, or none.
-fn tell_refusal<F: Debug + Copy>(told: &mut Told, fault: Option<F>) {
+fn tell_refusal<F: Debug + Copy>(output: &mut Output, fault: Option<F>) {
     match fault {
-        Some(fault) => tell_fault(told, fault),
-        None => told.word("none"),
+        Some(fault) => tell_fault(output, fault),
+        None => output.word("none"),
     }
 }
 
 /// Returns the broker in `place`, and makes one if there is none.
-fn broker_in(alloc: Global, place: &mut Option<Broker>) -> Result<&mut Broker, Fault> {
+fn broker_in(alloc: Global, place: &mut Option<Broker>) -> Result<&mut Broker, RowFault> {
     if place.is_none() {
         *place = Some(Broker::new(alloc)?);
     }
-    place.as_mut().ok_or(Fault::BadRow)
+    place.as_mut().ok_or(RowFault::BadRow)
 }
 
 /// Writes the result of an issue.
-pub(crate) fn tell_issued(told: &mut Told, issued: Result<Option<u64>, IssueFault>) -> Called {
+pub(crate) fn tell_issued(output: &mut Output, issued: Result<Option<u64>, IssueFault>) -> Called {
     match issued {
-        Ok(unique) => tell_number(told, unique),
-        Err(IssueFault::NoMemory) => return Err(Fault::NoMemory),
-        Err(fault) => tell_fault(told, fault),
+        Ok(unique) => tell_number(output, unique),
+        Err(IssueFault::NoMemory) => return Err(RowFault::NoMemory),
+        Err(fault) => tell_fault(output, fault),
     }
     Ok(())
 }
 
 /// Writes a reply.
-pub(crate) fn tell_reply(told: &mut Told, reply: &Reply) {
-    told.number(reply.unique);
-    tell_answer(told, &reply.answer);
+pub(crate) fn tell_reply(output: &mut Output, reply: &Reply) {
+    output.number(reply.unique);
+    tell_answer(output, &reply.answer);
 }
 
 /// Writes the result of a delivery.
-pub(crate) fn tell_delivered(told: &mut Told, delivered: Result<Reply, DeliverFault>) -> Called {
+pub(crate) fn tell_delivered(
+    output: &mut Output,
+    delivered: Result<Reply, DeliverFault>,
+) -> Called {
     match delivered {
-        Ok(reply) => tell_reply(told, &reply),
-        Err(DeliverFault::NoMemory) => return Err(Fault::NoMemory),
-        Err(fault) => tell_fault(told, fault),
+        Ok(reply) => tell_reply(output, &reply),
+        Err(DeliverFault::NoMemory) => return Err(RowFault::NoMemory),
+        Err(fault) => tell_fault(output, fault),
     }
     Ok(())
 }
 
 /// Takes what waits first, and writes it, or only how many items it has where `is_many`.
-fn take(broker: &mut Broker, is_many: bool, words: &mut Words<'_>, told: &mut Told) {
+fn take(broker: &mut Broker, is_many: bool, words: &mut Words<'_>, output: &mut Output) {
     let daemon = DaemonId(words.number());
     match broker.take(daemon, words.number()) {
-        Ok(ask) if is_many => told.number(ask.what.items().len() as u64),
+        Ok(ask) if is_many => output.number(ask.what.items().len() as u64),
         Ok(ask) => {
-            told.number(ask.unique);
-            tell_request(told, &ask.what);
+            output.number(ask.unique);
+            tell_request(output, &ask.what);
         }
-        Err(fault) => tell_fault(told, fault),
+        Err(fault) => tell_fault(output, fault),
     }
 }
 
 /// Posts an answer.
-fn post(broker: &mut Broker, words: &mut Words<'_>, told: &mut Told) -> Called {
+fn post(broker: &mut Broker, words: &mut Words<'_>, output: &mut Output) -> Called {
     let daemon = DaemonId(words.number());
     let generation = words.number();
     let unique = words.number();
     let answer = read_answer(words)?;
     match broker.post(daemon, generation, Reply { unique, answer }) {
-        Ok(()) => told.word("ok"),
-        Err(fault) => tell_fault(told, fault),
+        Ok(()) => output.word("ok"),
+        Err(fault) => tell_fault(output, fault),
     }
     Ok(())
 }
@@ -185,7 +187,12 @@ fn count_answered(
 }
 
 /// Makes rounds.
-fn rounds(alloc: Global, broker: &mut Broker, words: &mut Words<'_>, told: &mut Told) -> Called {
+fn rounds(
+    alloc: Global,
+    broker: &mut Broker,
+    words: &mut Words<'_>,
+    output: &mut Output,
+) -> Called {
     let count = words.number();
     let number = words.number();
     let step = words.number();
@@ -194,7 +201,7 @@ fn rounds(alloc: Global, broker: &mut Broker, words: &mut Words<'_>, told: &mut 
         dir: Number::ROOT,
         name: name_of(alloc, b"name")?,
     };
-    told.number(count_answered(broker, &request, count, number, step));
+    output.number(count_answered(broker, &request, count, number, step));
     Ok(())
 }
 
@@ -221,67 +228,65 @@ fn taken_back(broker: &Broker, number: Number) -> u64 {
 }
 
 /// Writes how `number` stands.
-fn tell_stand(broker: &Broker, number: Number, told: &mut Told) {
-    told.number(broker.held(number));
-    told.number(broker.entries_posted(number));
-    told.number(given_out(broker, number));
-    told.number(broker.forgets_waiting(number));
-    told.number(taken_back(broker, number));
+fn tell_stand(broker: &Broker, number: Number, output: &mut Output) {
+    output.number(broker.held(number));
+    output.number(given_out(broker, number));
+    output.number(taken_back(broker, number));
 }
 
 /// Writes the generation and the daemon of the seat, or none.
-fn tell_seat(broker: &Broker, told: &mut Told) {
+fn tell_seat(broker: &Broker, output: &mut Output) {
     match broker.seat() {
         Some(seat) => {
-            told.number(seat.generation);
-            told.number(seat.daemon.0);
+            output.number(seat.generation);
+            output.number(seat.daemon.0);
         }
-        None => told.word("none"),
+        None => output.word("none"),
     }
 }
 
 /// Makes a call that changes nothing.
-fn look_at(broker: &Broker, look: Look, words: &mut Words<'_>, told: &mut Told) -> Called {
+fn look_at(broker: &Broker, look: Look, words: &mut Words<'_>, output: &mut Output) -> Called {
     match look {
-        Look::Held => told.number(broker.held(Number(words.number()))),
+        Look::Held => output.number(broker.held(Number(words.number()))),
         Look::HeldAfter => {
             let after = broker.held_after(Number(words.number()));
-            tell_number(told, after.map(|number| number.0));
+            tell_number(output, after.map(|number| number.0));
         }
-        Look::Stand => tell_stand(broker, Number(words.number()), told),
+        Look::Stand => tell_stand(broker, Number(words.number()), output),
         Look::TakeRefusal => {
             let daemon = DaemonId(words.number());
-            tell_refusal(told, broker.take_refusal(daemon, words.number()));
+            tell_refusal(output, broker.take_refusal(daemon, words.number()));
         }
-        Look::MountRefusal => tell_refusal(told, broker.mount_refusal()),
-        Look::Seat => tell_seat(broker, told),
+        Look::MountRefusal => tell_refusal(output, broker.mount_refusal()),
+        Look::Seat => tell_seat(broker, output),
     }
     words.end()
 }
 
 /// Mounts, unless something refuses that: then the call is no row.
-fn mount(broker: &mut Broker, words: &mut Words<'_>, told: &mut Told) {
+fn mount(broker: &mut Broker, words: &mut Words<'_>, output: &mut Output) {
     if broker.mount_refusal().is_none() {
-        told.number(broker.mount(DaemonId(words.number())));
+        output.number(broker.mount(DaemonId(words.number())));
     } else {
         words.refuse();
     }
 }
 
 /// Mounts, or writes the fault.
-fn try_mount(broker: &mut Broker, words: &mut Words<'_>, told: &mut Told) {
+fn try_mount(broker: &mut Broker, words: &mut Words<'_>, output: &mut Output) {
     match broker.try_mount(DaemonId(words.number())) {
-        Ok(generation) => told.number(generation),
-        Err(fault) => tell_fault(told, fault),
+        Ok(generation) => output.number(generation),
+        Err(fault) => tell_fault(output, fault),
     }
 }
 
 /// Claims the next generation.
-fn claim(broker: &mut Broker, words: &mut Words<'_>, told: &mut Told) {
+fn claim(broker: &mut Broker, words: &mut Words<'_>, output: &mut Output) {
     let daemon = DaemonId(words.number());
     match broker.claim(daemon, words.number()) {
-        Ok(next) => told.number(next),
-        Err(fault) => tell_printed(told, fault),
+        Ok(next) => output.number(next),
+        Err(fault) => tell_printed(output, fault),
     }
 }
 
@@ -290,31 +295,31 @@ fn change_by(
     broker: &mut Broker,
     change: Change,
     words: &mut Words<'_>,
-    told: &mut Told,
+    output: &mut Output,
 ) -> Called {
     match change {
-        Change::TryMount => try_mount(broker, words, told),
-        Change::Mount => mount(broker, words, told),
+        Change::TryMount => try_mount(broker, words, output),
+        Change::Mount => mount(broker, words, output),
         Change::Gone => {
             broker.gone(DaemonId(words.number()));
-            told.word("ok");
+            output.word("ok");
         }
-        Change::Claim => claim(broker, words, told),
-        Change::Take => take(broker, false, words, told),
-        Change::TakeMany => take(broker, true, words, told),
+        Change::Claim => claim(broker, words, output),
+        Change::Take => take(broker, false, words, output),
+        Change::TakeMany => take(broker, true, words, output),
     }
     words.end()
 }
 
 /// Issues a request.
-fn issue(alloc: Global, broker: &mut Broker, words: &mut Words<'_>, told: &mut Told) -> Called {
+fn issue(alloc: Global, broker: &mut Broker, words: &mut Words<'_>, output: &mut Output) -> Called {
     let request = read_request(alloc, words)?;
-    tell_issued(told, broker.issue(&request))
+    tell_issued(output, broker.issue(&request))
 }
 
 /// Delivers a reply.
-fn deliver(broker: &mut Broker, words: &Words<'_>, told: &mut Told) -> Called {
-    tell_delivered(told, broker.deliver())?;
+fn deliver(broker: &mut Broker, words: &Words<'_>, output: &mut Output) -> Called {
+    tell_delivered(output, broker.deliver())?;
     words.end()
 }
 
@@ -323,15 +328,15 @@ pub(crate) fn call_broker(
     alloc: Global,
     place: &mut Option<Broker>,
     words: &mut Words<'_>,
-    told: &mut Told,
+    output: &mut Output,
 ) -> Called {
     let broker = broker_in(alloc, place)?;
-    match chosen(&BROKER_CALLS, words.word()).ok_or(Fault::BadRow)? {
-        BrokerCall::Issue => issue(alloc, broker, words, told),
-        BrokerCall::Post => post(broker, words, told),
-        BrokerCall::Deliver => deliver(broker, words, told),
-        BrokerCall::Rounds => rounds(alloc, broker, words, told),
-        BrokerCall::Change(change) => change_by(broker, change, words, told),
-        BrokerCall::Look(look) => look_at(broker, look, words, told),
+    match chosen(&BROKER_CALLS, words.word()).ok_or(RowFault::BadRow)? {
+        BrokerCall::Issue => issue(alloc, broker, words, output),
+        BrokerCall::Post => post(broker, words, output),
+        BrokerCall::Deliver => deliver(broker, words, output),
+        BrokerCall::Rounds => rounds(alloc, broker, words, output),
+        BrokerCall::Change(change) => change_by(broker, change, words, output),
+        BrokerCall::Look(look) => look_at(broker, look, words, output),
     }
 }

@@ -1,11 +1,10 @@
-//! Calls of `frames`, of a reader that is fed nothing at first, and again behind a `finish`.
+//! Calls of `frames`, over a stream of nothing at first, and again behind a `finish`.
 //!
-//! - `frames feed BYTES`, `frames finish`: ok, or the fault
-//! - `frames next`: `frame`, which is kept, or none, or the fault
-//! - `frames taken`: the frame that was kept, in words; `frames rewrite BYTES`: whether it is
-//!   written as these bytes, yes or no
-//! - `frames next-posted C`: how many of the next C frames are Posted, up to the first that is not
-//! - `frames write BYTES FRAME`: whether it is written as these bytes, or the fault
+//! `frames feed BYTES`: ok. `frames finish`: Torn where the stream ends within a frame, else ok.
+//! `frames next`: `frame`, which is kept, or none, or the fault.
+//! `frames taken`: the frame that was kept, in words.
+//! `frames rewrite BYTES`: whether it is written as these bytes, yes or no.
+//! `frames write BYTES FRAME`: whether it is written as these bytes, or the fault.
 //!
 //! In a FRAME, S is a session, V a version, G a generation, P a position, C a count, D a daemon; bytes are read and not
 //! written. The messages of a takeover are as docs/SCRIPTS.md spells them: `offer V ..`, `choice S V`, `nocommon`, `busy`,
@@ -15,10 +14,9 @@
 use crate::{Called, tell_fault};
 use byte_codec::Bytes;
 use eden_base::DaemonId;
-use frames::{Frame, FrameFault, FrameReader};
-use row_words::{Fault, Told, Words, chosen, read_u32};
+use frames::{Frame, FrameFault, missing};
+use row_words::{Output, RowFault, Words, chosen, read_u32};
 use std::alloc::Global;
-use std::mem;
 use takeover_core::{Message, Versions};
 
 /// The messages that begin with their session.
@@ -32,25 +30,34 @@ enum SessionMessage {
     Failed,
 }
 
-/// The messages of a takeover.
+/// The kind of a takeover's message.
 #[derive(Clone, Copy)]
-enum MessageKind {
+enum TakeoverMessageKind {
     Offer,
     NoCommon,
     Busy,
     OfSession(SessionMessage),
 }
 
-static MESSAGE_KINDS: [(&str, MessageKind); 9] = [
-    ("offer", MessageKind::Offer),
-    ("nocommon", MessageKind::NoCommon),
-    ("busy", MessageKind::Busy),
-    ("choice", MessageKind::OfSession(SessionMessage::Choice)),
-    ("ready", MessageKind::OfSession(SessionMessage::Ready)),
-    ("pong", MessageKind::OfSession(SessionMessage::Pong)),
-    ("data", MessageKind::OfSession(SessionMessage::Data)),
-    ("part", MessageKind::OfSession(SessionMessage::Part)),
-    ("failed", MessageKind::OfSession(SessionMessage::Failed)),
+static MESSAGE_KINDS: [(&str, TakeoverMessageKind); 9] = [
+    ("offer", TakeoverMessageKind::Offer),
+    ("nocommon", TakeoverMessageKind::NoCommon),
+    ("busy", TakeoverMessageKind::Busy),
+    (
+        "choice",
+        TakeoverMessageKind::OfSession(SessionMessage::Choice),
+    ),
+    (
+        "ready",
+        TakeoverMessageKind::OfSession(SessionMessage::Ready),
+    ),
+    ("pong", TakeoverMessageKind::OfSession(SessionMessage::Pong)),
+    ("data", TakeoverMessageKind::OfSession(SessionMessage::Data)),
+    ("part", TakeoverMessageKind::OfSession(SessionMessage::Part)),
+    (
+        "failed",
+        TakeoverMessageKind::OfSession(SessionMessage::Failed),
+    ),
 ];
 
 /// The frames that are read and are no message of a takeover.
@@ -75,23 +82,24 @@ static BROKER_FRAMES: [(&str, BrokerFrame); 7] = [
     ("attach", BrokerFrame::Attach),
 ];
 
+/// How many bytes stand before a body.
+const HEAD: usize = 5;
+
 /// The calls of a stream.
 #[derive(Clone, Copy)]
 enum StreamCall {
     Feed,
     Finish,
     Next,
-    NextPosted,
     Taken,
     Rewrite,
     Write,
 }
 
-static STREAM_CALLS: [(&str, StreamCall); 7] = [
+static STREAM_CALLS: [(&str, StreamCall); 6] = [
     ("feed", StreamCall::Feed),
     ("finish", StreamCall::Finish),
     ("next", StreamCall::Next),
-    ("next-posted", StreamCall::NextPosted),
     ("taken", StreamCall::Taken),
     ("rewrite", StreamCall::Rewrite),
     ("write", StreamCall::Write),
@@ -109,7 +117,7 @@ fn read_u16(words: &mut Words<'_>) -> u16 {
 }
 
 /// Reads the words that are left as versions.
-pub(crate) fn read_versions(words: &mut Words<'_>) -> Result<Versions, Fault> {
+pub(crate) fn read_versions(words: &mut Words<'_>) -> Result<Versions, RowFault> {
     let mut versions = [0u16; 8];
     let mut count = 0usize;
     for version in &mut versions {
@@ -121,7 +129,7 @@ pub(crate) fn read_versions(words: &mut Words<'_>) -> Result<Versions, Fault> {
     }
     match versions.get(..count) {
         Some(list) if list.len() <= Versions::MAX_LEN => Ok(Versions::of(list)),
-        _ => Err(Fault::BadRow),
+        _ => Err(RowFault::BadRow),
     }
 }
 
@@ -163,51 +171,57 @@ fn read_of_session(message: SessionMessage, words: &mut Words<'_>) -> Message {
 }
 
 /// Reads a message, which begins with `word`.
-pub(crate) fn read_message(word: &[u8], words: &mut Words<'_>) -> Result<Message, Fault> {
-    Ok(match chosen(&MESSAGE_KINDS, word).ok_or(Fault::BadRow)? {
-        MessageKind::Offer => Message::Offer(read_versions(words)?),
-        MessageKind::NoCommon => Message::NoCommon,
-        MessageKind::Busy => Message::Busy,
-        MessageKind::OfSession(message) => read_of_session(message, words),
-    })
+pub(crate) fn read_message(word: &[u8], words: &mut Words<'_>) -> Result<Message, RowFault> {
+    Ok(
+        match chosen(&MESSAGE_KINDS, word).ok_or(RowFault::BadRow)? {
+            TakeoverMessageKind::Offer => Message::Offer(read_versions(words)?),
+            TakeoverMessageKind::NoCommon => Message::NoCommon,
+            TakeoverMessageKind::Busy => Message::Busy,
+            TakeoverMessageKind::OfSession(message) => read_of_session(message, words),
+        },
+    )
 }
 
 /// Writes a word and numbers.
-pub(crate) fn tell_numbers(told: &mut Told, word: &str, numbers: &[u64]) {
-    told.word(word);
+pub(crate) fn tell_numbers(output: &mut Output, word: &str, numbers: &[u64]) {
+    output.word(word);
     for number in numbers {
-        told.number(*number);
+        output.number(*number);
     }
 }
 
 /// Writes an offer of `versions`.
-fn tell_offer(told: &mut Told, versions: &[u16]) {
-    told.word("offer");
+fn tell_offer(output: &mut Output, versions: &[u16]) {
+    output.word("offer");
     for version in versions {
-        told.number(u64::from(*version));
+        output.number(u64::from(*version));
     }
 }
 
 /// Writes a message.
-pub(crate) fn tell_message(told: &mut Told, message: &Message) {
+pub(crate) fn tell_message(output: &mut Output, message: &Message) {
     match message {
-        Message::Offer(versions) => tell_offer(told, versions.as_slice()),
-        Message::NoCommon => told.word("nocommon"),
-        Message::Busy => told.word("busy"),
+        Message::Offer(versions) => tell_offer(output, versions.as_slice()),
+        Message::NoCommon => output.word("nocommon"),
+        Message::Busy => output.word("busy"),
         Message::Choice { session, version } => {
-            tell_numbers(told, "choice", &[u64::from(*session), u64::from(*version)]);
+            tell_numbers(
+                output,
+                "choice",
+                &[u64::from(*session), u64::from(*version)],
+            );
         }
         Message::Ready {
             session,
             generation,
-        } => tell_numbers(told, "ready", &[u64::from(*session), *generation]),
-        Message::Pong { session } => tell_numbers(told, "pong", &[u64::from(*session)]),
-        Message::Failed { session } => tell_numbers(told, "failed", &[u64::from(*session)]),
+        } => tell_numbers(output, "ready", &[u64::from(*session), *generation]),
+        Message::Pong { session } => tell_numbers(output, "pong", &[u64::from(*session)]),
+        Message::Failed { session } => tell_numbers(output, "failed", &[u64::from(*session)]),
         Message::Data {
             session,
             generation,
             ..
-        } => tell_numbers(told, "data", &[u64::from(*session), *generation]),
+        } => tell_numbers(output, "data", &[u64::from(*session), *generation]),
         Message::Part {
             session,
             generation,
@@ -215,15 +229,15 @@ pub(crate) fn tell_message(told: &mut Told, message: &Message) {
             count,
             ..
         } => {
-            tell_numbers(told, "part", &[u64::from(*session), *generation]);
-            told.number(u64::from(*position));
-            told.number(u64::from(*count));
+            tell_numbers(output, "part", &[u64::from(*session), *generation]);
+            output.number(u64::from(*position));
+            output.number(u64::from(*count));
         }
     }
 }
 
 /// Reads a frame.
-pub(crate) fn read_frame(words: &mut Words<'_>) -> Result<Frame, Fault> {
+pub(crate) fn read_frame(words: &mut Words<'_>) -> Result<Frame, RowFault> {
     let word = words.word();
     let Some(frame) = chosen(&BROKER_FRAMES, word) else {
         return Ok(Frame::Takeover(read_message(word, words)?));
@@ -247,7 +261,7 @@ pub(crate) fn read_frame(words: &mut Words<'_>) -> Result<Frame, Fault> {
 }
 
 /// Writes a frame.
-pub(crate) fn tell_frame(told: &mut Told, frame: &Frame) {
+pub(crate) fn tell_frame(output: &mut Output, frame: &Frame) {
     let (word, number) = match frame {
         Frame::Take { generation } => ("take", Some(*generation)),
         Frame::Ask(_) => ("ask", None),
@@ -266,107 +280,124 @@ pub(crate) fn tell_frame(told: &mut Told, frame: &Frame) {
         Frame::Seated => ("seated", None),
         Frame::Attach(daemon) => ("attach", Some(daemon.0)),
         Frame::Attached(daemon) => ("attached", Some(daemon.0)),
-        Frame::Takeover(message) => return tell_message(told, message),
+        Frame::Takeover(message) => return tell_message(output, message),
     };
-    told.word(word);
+    output.word(word);
     if let Some(number) = number {
-        told.number(number);
+        output.number(number);
     }
 }
 
-/// The reader of a stream, and the frame that was taken last.
+/// The bytes of a stream that no frame took, and the frame that was taken last.
 #[derive(Drop)]
 pub(crate) struct Stream {
-    reader: FrameReader,
+    unread: Vec<u8>,
     taken: Frame,
 }
 
 /// Writes `word`, or the fault, or returns that memory was refused.
-fn tell_done(told: &mut Told, word: &str, done: Result<(), FrameFault>) -> Called {
+fn tell_done(output: &mut Output, word: &str, done: Result<(), FrameFault>) -> Called {
     match done {
-        Ok(()) => told.word(word),
-        Err(FrameFault::NoMemory) => return Err(Fault::NoMemory),
-        Err(fault) => tell_fault(told, fault),
+        Ok(()) => output.word(word),
+        Err(FrameFault::NoMemory) => return Err(RowFault::NoMemory),
+        Err(fault) => tell_fault(output, fault),
     }
     Ok(())
 }
 
 /// Writes whether the bytes of a frame are `text`, or the fault.
-fn tell_written(alloc: Global, told: &mut Told, frame: &Frame, text: &[u8]) -> Called {
+fn tell_written(alloc: Global, output: &mut Output, frame: &Frame, text: &[u8]) -> Called {
     match frame.write(alloc) {
         Ok(bytes) => {
-            told.flag(bytes.as_slice() == text);
+            output.flag(bytes.as_slice() == text);
             Ok(())
         }
-        Err(fault) => tell_done(told, "", Err(fault)),
+        Err(fault) => tell_done(output, "", Err(fault)),
     }
 }
 
-/// Returns how many of the next `most` frames are Posted, up to the first that is not.
-fn count_posted(reader: &mut FrameReader, most: u64) -> u64 {
-    for count in 0..most {
-        if !matches!(reader.next(), Ok(Some(Frame::Posted))) {
-            return count;
-        }
+/// Returns the frame in front of `bytes`, read as a connection reads it, and how many bytes it takes up; or none.
+fn first_of(alloc: Global, bytes: &[u8]) -> Result<Option<(Frame, usize)>, FrameFault> {
+    let (head, rest) = bytes.split_at(bytes.len().min(HEAD));
+    let lacking = missing(head)?;
+    if head.len() < HEAD || rest.len() < lacking {
+        return Ok(None);
     }
-    most
-}
-
-/// Takes the next frame to `taken`.
-fn next(reader: &mut FrameReader, taken: &mut Frame, told: &mut Told) -> Called {
-    match reader.next() {
-        Ok(Some(frame)) => {
-            *taken = frame;
-            tell_done(told, "frame", Ok(()))
-        }
-        Ok(None) => tell_done(told, "none", Ok(())),
-        Err(fault) => tell_done(told, "", Err(fault)),
-    }
-}
-
-/// Feeds a piece to `reader`.
-fn feed(reader: &mut FrameReader, words: &mut Words<'_>, told: &mut Told) -> Called {
-    let bytes = words.bytes();
-    words.end()?;
-    tell_done(told, "ok", reader.feed(bytes.as_slice()))
+    let Ok(copied) = rest[..lacking].to_vec(alloc) else {
+        return Err(FrameFault::NoMemory);
+    };
+    let mut body = copied;
+    let frame = Frame::of_parts(head, &mut body)?;
+    Ok(Some((frame, HEAD + lacking)))
 }
 
 impl Stream {
     /// Makes a stream of nothing.
     pub(crate) fn new(alloc: Global) -> Stream {
         Stream {
-            reader: FrameReader::new(alloc),
+            unread: Vec::new(alloc),
             taken: Frame::Empty,
         }
     }
 
-    /// Makes a call of frames.
-    pub(crate) fn call(&mut self, alloc: Global, words: &mut Words<'_>, told: &mut Told) -> Called {
-        match chosen(&STREAM_CALLS, words.word()).ok_or(Fault::BadRow)? {
-            StreamCall::Feed => feed(&mut self.reader, words, told),
-            StreamCall::Next => next(&mut self.reader, &mut self.taken, told),
-            StreamCall::NextPosted => {
-                told.number(count_posted(&mut self.reader, words.number()));
-                Ok(())
+    /// Appends a piece.
+    fn feed(&mut self, words: &mut Words<'_>, output: &mut Output) -> Called {
+        let bytes = words.bytes();
+        words.end()?;
+        self.unread.extend_from_slice(bytes.as_slice())?;
+        output.word("ok");
+        Ok(())
+    }
+
+    /// Takes the next frame.
+    fn next(&mut self, alloc: Global, output: &mut Output) -> Called {
+        match first_of(alloc, self.unread.as_slice()) {
+            Ok(Some((frame, used))) => {
+                self.taken = frame;
+                drop(self.unread.drain(..used.min(self.unread.len())));
+                tell_done(output, "frame", Ok(()))
             }
+            Ok(None) => tell_done(output, "none", Ok(())),
+            Err(fault) => tell_done(output, "", Err(fault)),
+        }
+    }
+
+    /// Drops the bytes that are left, and tells whether they end within a frame.
+    fn finish(&mut self, alloc: Global, output: &mut Output) {
+        let torn = !self.unread.is_empty()
+            && matches!(first_of(alloc, self.unread.as_slice()), Ok(None));
+        self.unread.clear();
+        output.word(if torn { "Torn" } else { "ok" });
+    }
+
+    /// Makes a call of frames.
+    pub(crate) fn call(
+        &mut self,
+        alloc: Global,
+        words: &mut Words<'_>,
+        output: &mut Output,
+    ) -> Called {
+        match chosen(&STREAM_CALLS, words.word()).ok_or(RowFault::BadRow)? {
+            StreamCall::Feed => self.feed(words, output),
+            StreamCall::Next => self.next(alloc, output),
             StreamCall::Taken => {
-                tell_frame(told, &self.taken);
+                tell_frame(output, &self.taken);
                 Ok(())
             }
             StreamCall::Rewrite => {
                 let text = words.bytes();
                 words.end()?;
-                tell_written(alloc, told, &self.taken, text.as_slice())
+                tell_written(alloc, output, &self.taken, text.as_slice())
             }
             StreamCall::Finish => {
-                let reader = mem::replace(&mut self.reader, FrameReader::new(alloc));
-                tell_done(told, "ok", reader.finish())
+                self.finish(alloc, output);
+                Ok(())
             }
             StreamCall::Write => {
                 let text = words.bytes();
                 let frame = read_frame(words)?;
                 words.end()?;
-                tell_written(alloc, told, &frame, text.as_slice())
+                tell_written(alloc, output, &frame, text.as_slice())
             }
         }
     }

@@ -13,17 +13,17 @@ use crate::mount_calls::{Mount, call_desk, call_mount};
 use crate::node_calls::call_place;
 use arrayvec::ArrayString;
 use broker_core::Broker;
-use row_words::{Fault, Told, Words, chosen};
+use row_words::{Output, RowFault, Words, chosen};
 use std::alloc::Global;
 use std::fmt::{Debug, Display, Write};
 use takeover_core::Node;
 
 /// What became of a row: its result is written, or it has none.
-pub type Called = Result<(), Fault>;
+pub type Called = Result<(), RowFault>;
 
-/// What these calls are of.
+/// The subject of a call.
 #[derive(Clone, Copy)]
-enum Subject {
+enum MessageSubject {
     Broker,
     Desk,
     Mount,
@@ -31,16 +31,16 @@ enum Subject {
     Node,
 }
 
-static SUBJECTS: [(&str, Subject); 5] = [
-    ("broker", Subject::Broker),
-    ("desk", Subject::Desk),
-    ("mount", Subject::Mount),
-    ("frames", Subject::Frames),
-    ("node", Subject::Node),
+static SUBJECTS: [(&str, MessageSubject); 5] = [
+    ("broker", MessageSubject::Broker),
+    ("desk", MessageSubject::Desk),
+    ("mount", MessageSubject::Mount),
+    ("frames", MessageSubject::Frames),
+    ("node", MessageSubject::Node),
 ];
 
 /// The values that these calls change.
-pub struct Messages {
+pub struct MessageValues {
     broker: Option<Broker>,
     mount: Option<Mount>,
     stream: Stream,
@@ -48,9 +48,9 @@ pub struct Messages {
     new: Option<Node>,
 }
 
-impl Drop for Messages {
+impl Drop for MessageValues {
     fn drop(self) {
-        let Messages {
+        let MessageValues {
             broker: _,
             mount: _,
             stream: _,
@@ -61,31 +61,31 @@ impl Drop for Messages {
 }
 
 /// Writes a fault as Rust names it.
-pub(crate) fn tell_fault<F: Debug + Copy>(told: &mut Told, fault: F) {
+pub(crate) fn tell_fault<F: Debug + Copy>(output: &mut Output, fault: F) {
     let mut text: ArrayString<80> = ArrayString::new();
     let _written = write!(text, "{fault:?}");
-    told.word(text.as_str());
+    output.word(text.as_str());
 }
 
 /// Writes a fault as it prints itself.
-pub(crate) fn tell_printed<F: Display + Copy>(told: &mut Told, fault: F) {
+pub(crate) fn tell_printed<F: Display + Copy>(output: &mut Output, fault: F) {
     let mut text: ArrayString<80> = ArrayString::new();
     let _written = write!(text, "{fault}");
-    told.word(text.as_str());
+    output.word(text.as_str());
 }
 
 /// Writes a number, or none.
-pub(crate) fn tell_number(told: &mut Told, number: Option<u64>) {
+pub(crate) fn tell_number(output: &mut Output, number: Option<u64>) {
     match number {
-        Some(number) => told.number(number),
-        None => told.word("none"),
+        Some(number) => output.number(number),
+        None => output.word("none"),
     }
 }
 
-impl Messages {
+impl MessageValues {
     /// Makes the values that a case begins with.
-    pub fn new(alloc: Global) -> Messages {
-        Messages {
+    pub fn new(alloc: Global) -> MessageValues {
+        MessageValues {
             broker: None,
             mount: None,
             stream: Stream::new(alloc),
@@ -95,11 +95,11 @@ impl Messages {
     }
 
     /// Makes a call of a daemon, which the first word names.
-    fn call_daemon(&mut self, words: &mut Words<'_>, told: &mut Told) -> Called {
+    fn call_daemon(&mut self, words: &mut Words<'_>, output: &mut Output) -> Called {
         match words.word() {
-            b"old" => call_place(&mut self.old, words, told),
-            b"new" => call_place(&mut self.new, words, told),
-            _ => Err(Fault::BadRow),
+            b"old" => call_place(&mut self.old, words, output),
+            b"new" => call_place(&mut self.new, words, output),
+            _ => Err(RowFault::BadRow),
         }
     }
 
@@ -109,14 +109,14 @@ impl Messages {
         alloc: Global,
         subject: &[u8],
         words: &mut Words<'_>,
-        told: &mut Told,
+        output: &mut Output,
     ) -> Called {
-        match chosen(&SUBJECTS, subject).ok_or(Fault::BadRow)? {
-            Subject::Broker => call_broker(alloc, &mut self.broker, words, told),
-            Subject::Desk => call_desk(alloc, &mut self.mount, words, told),
-            Subject::Mount => call_mount(alloc, &mut self.mount, words, told),
-            Subject::Frames => self.stream.call(alloc, words, told),
-            Subject::Node => self.call_daemon(words, told),
+        match chosen(&SUBJECTS, subject).ok_or(RowFault::BadRow)? {
+            MessageSubject::Broker => call_broker(alloc, &mut self.broker, words, output),
+            MessageSubject::Desk => call_desk(alloc, &mut self.mount, words, output),
+            MessageSubject::Mount => call_mount(alloc, &mut self.mount, words, output),
+            MessageSubject::Frames => self.stream.call(alloc, words, output),
+            MessageSubject::Node => self.call_daemon(words, output),
         }
     }
 }

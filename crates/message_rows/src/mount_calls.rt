@@ -1,18 +1,18 @@
 //! Calls of `broker_desk`. The first one of a case makes the desk, and a kernel at it. C is one of four connections,
 //! 0 to 3, at which nobody is known at first; U is a unique, N a number, K a count; frames are those of `frame_calls`.
 //!
-//! - `desk on C FRAME`: the frame that answers, an ask by its unique and request; or `closes`
-//! - `desk post C G U ANSWER`: the same, for a Post at generation G of the answer to the ask of U
-//! - `desk connect C`: ok. Nobody is known at the connection
-//! - `desk leave C`: ok. The connection ends
-//! - `desk close`: ok; `desk for-mount`: ok. The desk is one for a mount from then on, to which nobody came yet
-//! - `desk running`: how many daemons run; `desk held N`: how often the kernel holds the number
-//! - `desk issue REQUEST`: the unique, or none for a forget, or the fault
-//! - `desk deliver`: unique and answer, or the fault
-//! - `mount ask U REQUEST`: ok, or the fault. The kernel asks by a unique of its own
-//! - `mount deliver`: unique and answer; or `unasked` and the answer; or the fault
-//! - `mount forget N K`, `mount take-back ANSWER`: ok, or the fault
-//! - `mount hear BYTES`: `done`, `answers BYTES`, `leaves ask U`, `leaves K` for K forgets, or NotMounted
+//! `desk on C FRAME`: the frame that answers, an ask by its unique and request; or `closes`.
+//! `desk post C G U ANSWER`: the same, for a Post at generation G of the answer to the ask of U.
+//! `desk connect C`: ok. Nobody is known at the connection.
+//! `desk leave C`: ok. The connection ends.
+//! `desk close`: ok. `desk for-mount`: ok. The desk is one for a mount from then on, to which nobody came yet.
+//! `desk running`: how many daemons run. `desk held N`: how often the kernel holds the number.
+//! `desk issue REQUEST`: the unique, or none for a forget, or the fault.
+//! `desk deliver`: unique and answer, or the fault.
+//! `mount ask U REQUEST`: ok, or the fault. The kernel asks by a unique of its own.
+//! `mount deliver`: unique and answer; or `unasked` and the answer; or the fault.
+//! `mount forget N K`, `mount take-back ANSWER`: ok, or the fault.
+//! `mount hear BYTES`: `done`, `answers BYTES`, `leaves ask U`, `leaves K` for K forgets, or NotMounted.
 use crate::broker_calls::{tell_delivered, tell_issued, tell_reply};
 use crate::frame_calls::{read_frame, tell_frame};
 use crate::{Called, tell_fault};
@@ -24,7 +24,7 @@ use frames::Frame;
 use fuse_wire::{Ask, Item, MAX_REPLY_LEN, Reply, write_reply};
 use mount_wire::{BatchReader, KernelMessage, read_message};
 use row_words::{
-    Fault, Told, Words, chosen, read_answer, read_request, tell_answer, tell_request,
+    Output, RowFault, Words, chosen, read_answer, read_request, tell_answer, tell_request,
     tell_wire_fault,
 };
 use std::alloc::Global;
@@ -92,7 +92,7 @@ pub(crate) struct Mount {
 }
 
 /// Returns the mount in `place`, and makes one if there is none.
-fn mount_in(alloc: Global, place: &mut Option<Mount>) -> Result<&mut Mount, Fault> {
+fn mount_in(alloc: Global, place: &mut Option<Mount>) -> Result<&mut Mount, RowFault> {
     if place.is_none() {
         *place = Some(Mount {
             desk: Desk::new(alloc)?,
@@ -100,32 +100,32 @@ fn mount_in(alloc: Global, place: &mut Option<Mount>) -> Result<&mut Mount, Faul
             peers: [Peer::Unattached; 4],
         });
     }
-    place.as_mut().ok_or(Fault::BadRow)
+    place.as_mut().ok_or(RowFault::BadRow)
 }
 
 /// Writes the request that `bytes` are.
-fn tell_asked(alloc: Global, told: &mut Told, bytes: &[u8]) {
+fn tell_asked(alloc: Global, output: &mut Output, bytes: &[u8]) {
     match fuse_wire::read_request(alloc, bytes) {
         Ok(ask) => {
-            told.word("ask");
-            told.number(ask.unique);
-            tell_request(told, &ask.what);
+            output.word("ask");
+            output.number(ask.unique);
+            tell_request(output, &ask.what);
         }
-        Err(fault) => tell_wire_fault(told, fault),
+        Err(fault) => tell_wire_fault(output, fault),
     }
 }
 
 /// Writes an answer of the desk.
-fn tell_response(alloc: Global, told: &mut Told, response: &Response) {
+fn tell_response(alloc: Global, output: &mut Output, response: &Response) {
     match response {
-        Response::Closes => told.word("closes"),
-        Response::Tells(Frame::Ask(request)) => tell_asked(alloc, told, request.as_slice()),
-        Response::Tells(frame) => tell_frame(told, frame),
+        Response::Closes => output.word("closes"),
+        Response::Tells(Frame::Ask(request)) => tell_asked(alloc, output, request.as_slice()),
+        Response::Tells(frame) => tell_frame(output, frame),
     }
 }
 
 /// Reads a Post of an answer.
-fn read_post(alloc: Global, words: &mut Words<'_>) -> Result<Frame, Fault> {
+fn read_post(alloc: Global, words: &mut Words<'_>) -> Result<Frame, RowFault> {
     let generation = words.number();
     let unique = words.number();
     let answer = read_answer(words)?;
@@ -136,9 +136,9 @@ fn read_post(alloc: Global, words: &mut Words<'_>) -> Result<Frame, Fault> {
 }
 
 /// Has the desk answer `frame`, which comes from `peer`.
-fn answer(alloc: Global, desk: &mut Desk, peer: &mut Peer, frame: &Frame, told: &mut Told) {
+fn answer(alloc: Global, desk: &mut Desk, peer: &mut Peer, frame: &Frame, output: &mut Output) {
     let response = desk.answer(peer, frame);
-    tell_response(alloc, told, &response);
+    tell_response(alloc, output, &response);
 }
 
 /// Has the desk answer a frame from `peer`: a Post of an answer, or else any frame.
@@ -148,7 +148,7 @@ fn answer_next(
     peer: &mut Peer,
     is_post: bool,
     words: &mut Words<'_>,
-    told: &mut Told,
+    output: &mut Output,
 ) -> Called {
     let frame = if is_post {
         read_post(alloc, words)?
@@ -156,7 +156,7 @@ fn answer_next(
         read_frame(words)?
     };
     words.end()?;
-    answer(alloc, desk, peer, &frame, told);
+    answer(alloc, desk, peer, &frame, output);
     Ok(())
 }
 
@@ -166,18 +166,20 @@ fn call_peer(
     mount: &mut Mount,
     call: PeerCall,
     words: &mut Words<'_>,
-    told: &mut Told,
+    output: &mut Output,
 ) -> Called {
-    let index = usize::try_from(words.number()).ok().ok_or(Fault::BadRow)?;
-    let peer = mount.peers.get_mut(index).ok_or(Fault::BadRow)?;
+    let index = usize::try_from(words.number())
+        .ok()
+        .ok_or(RowFault::BadRow)?;
+    let peer = mount.peers.get_mut(index).ok_or(RowFault::BadRow)?;
     let desk = &mut mount.desk;
     match call {
-        PeerCall::On => return answer_next(alloc, desk, peer, false, words, told),
-        PeerCall::Post => return answer_next(alloc, desk, peer, true, words, told),
+        PeerCall::On => return answer_next(alloc, desk, peer, false, words, output),
+        PeerCall::Post => return answer_next(alloc, desk, peer, true, words, output),
         PeerCall::Connect => *peer = Peer::Unattached,
         PeerCall::Leave => desk.leave(*peer),
     }
-    told.word("ok");
+    output.word("ok");
     words.end()
 }
 
@@ -186,60 +188,60 @@ pub(crate) fn call_desk(
     alloc: Global,
     place: &mut Option<Mount>,
     words: &mut Words<'_>,
-    told: &mut Told,
+    output: &mut Output,
 ) -> Called {
     let mount = mount_in(alloc, place)?;
     let word = words.word();
     if let Some(call) = chosen(&PEER_CALLS, word) {
-        return call_peer(alloc, mount, call, words, told);
+        return call_peer(alloc, mount, call, words, output);
     }
-    match chosen(&DESK_CALLS, word).ok_or(Fault::BadRow)? {
+    match chosen(&DESK_CALLS, word).ok_or(RowFault::BadRow)? {
         DeskCall::Close => {
             mount.desk.close();
-            told.word("ok");
+            output.word("ok");
         }
-        DeskCall::Running => told.number(mount.desk.running() as u64),
-        DeskCall::Held => told.number(mount.desk.broker().held(Number(words.number()))),
+        DeskCall::Running => output.number(mount.desk.running() as u64),
+        DeskCall::Held => output.number(mount.desk.broker().held(Number(words.number()))),
         DeskCall::Issue => {
             let request = read_request(alloc, words)?;
-            return tell_issued(told, mount.desk.issue(&request));
+            return tell_issued(output, mount.desk.issue(&request));
         }
-        DeskCall::Deliver => return tell_delivered(told, mount.desk.deliver()),
+        DeskCall::Deliver => return tell_delivered(output, mount.desk.deliver()),
         DeskCall::ForMount => {
             mount.desk = Desk::for_mount(alloc)?;
-            told.word("ok");
+            output.word("ok");
         }
     }
     words.end()
 }
 
 /// Writes the result of an ask or a forget.
-fn tell_accepted(told: &mut Told, accepted: Result<(), IssueFault>) -> Called {
+fn tell_accepted(output: &mut Output, accepted: Result<(), IssueFault>) -> Called {
     match accepted {
-        Ok(()) => told.word("ok"),
-        Err(IssueFault::NoMemory) => return Err(Fault::NoMemory),
-        Err(fault) => tell_fault(told, fault),
+        Ok(()) => output.word("ok"),
+        Err(IssueFault::NoMemory) => return Err(RowFault::NoMemory),
+        Err(fault) => tell_fault(output, fault),
     }
     Ok(())
 }
 
 /// Writes what was delivered.
-fn tell_brought(told: &mut Told, delivered: Delivered) {
+fn tell_brought(output: &mut Output, delivered: Delivered) {
     match delivered {
-        Delivered::Reply(reply) => tell_reply(told, &reply),
+        Delivered::Reply(reply) => tell_reply(output, &reply),
         Delivered::Unasked(answer) => {
-            told.word("unasked");
-            tell_answer(told, &answer);
+            output.word("unasked");
+            tell_answer(output, &answer);
         }
     }
 }
 
 /// Writes the result of a kernel's delivery.
-fn tell_delivery(told: &mut Told, delivered: Result<Delivered, DeliverFault>) -> Called {
+fn tell_delivery(output: &mut Output, delivered: Result<Delivered, DeliverFault>) -> Called {
     match delivered {
-        Ok(delivered) => tell_brought(told, delivered),
-        Err(DeliverFault::NoMemory) => return Err(Fault::NoMemory),
-        Err(fault) => tell_fault(told, fault),
+        Ok(delivered) => tell_brought(output, delivered),
+        Err(DeliverFault::NoMemory) => return Err(RowFault::NoMemory),
+        Err(fault) => tell_fault(output, fault),
     }
     Ok(())
 }
@@ -257,47 +259,47 @@ fn count(items: BatchReader<'_>) -> u64 {
 }
 
 /// Writes what is left of a message.
-fn tell_left(told: &mut Told, message: KernelMessage<'_>) {
-    told.word("leaves");
+fn tell_left(output: &mut Output, message: KernelMessage<'_>) {
+    output.word("leaves");
     match message {
         KernelMessage::Asked(ask) => {
-            told.word("ask");
-            told.number(ask.unique);
+            output.word("ask");
+            output.number(ask.unique);
         }
-        KernelMessage::Forgot(_item) => told.number(1),
-        KernelMessage::ForgotMany(items) => told.number(count(items)),
-        _ => told.word("nothing"),
+        KernelMessage::Forgot(_item) => output.number(1),
+        KernelMessage::ForgotMany(items) => output.number(count(items)),
+        _ => output.word("nothing"),
     }
 }
 
 /// Has the desk hear a message.
-fn hear(alloc: Global, mount: &mut Mount, words: &mut Words<'_>, told: &mut Told) -> Called {
+fn hear(alloc: Global, mount: &mut Mount, words: &mut Words<'_>, output: &mut Output) -> Called {
     let bytes = words.bytes();
     words.end()?;
     let message = read_message(alloc, bytes.as_slice());
     match mount.kernel.hear(&mut mount.desk, message) {
-        Progress::Done => told.word("done"),
+        Progress::Done => output.word("done"),
         Progress::Answers(reply) => {
-            told.word("answers");
-            told.hex(reply.as_slice());
+            output.word("answers");
+            output.hex(reply.as_slice());
         }
-        Progress::Leaves(message) => tell_left(told, message),
-        Progress::NotMounted => told.word("NotMounted"),
+        Progress::Leaves(message) => tell_left(output, message),
+        Progress::NotMounted => output.word("NotMounted"),
     }
     Ok(())
 }
 
 /// Has the kernel ask.
-fn ask(alloc: Global, mount: &mut Mount, words: &mut Words<'_>, told: &mut Told) -> Called {
+fn ask(alloc: Global, mount: &mut Mount, words: &mut Words<'_>, output: &mut Output) -> Called {
     let unique = words.number();
     let what = read_request(alloc, words)?;
     if !what.is_ask() {
-        return Err(Fault::BadRow);
+        return Err(RowFault::BadRow);
     }
     let ask = Ask { unique, what };
     let accepted = mount.kernel.ask(&mut mount.desk, &ask);
     drop(ask);
-    tell_accepted(told, accepted)
+    tell_accepted(output, accepted)
 }
 
 /// Makes a call of the kernel in `place`.
@@ -305,21 +307,21 @@ pub(crate) fn call_mount(
     alloc: Global,
     place: &mut Option<Mount>,
     words: &mut Words<'_>,
-    told: &mut Told,
+    output: &mut Output,
 ) -> Called {
     let mount = mount_in(alloc, place)?;
-    match chosen(&MOUNT_CALLS, words.word()).ok_or(Fault::BadRow)? {
-        MountCall::Ask => ask(alloc, mount, words, told),
-        MountCall::Hear => hear(alloc, mount, words, told),
+    match chosen(&MOUNT_CALLS, words.word()).ok_or(RowFault::BadRow)? {
+        MountCall::Ask => ask(alloc, mount, words, output),
+        MountCall::Hear => hear(alloc, mount, words, output),
         MountCall::Forget => {
             let node = Number(words.number());
             let k = words.number();
-            tell_accepted(told, mount.desk.forget(Item { node, k }))
+            tell_accepted(output, mount.desk.forget(Item { node, k }))
         }
         MountCall::TakeBack => {
             let answer = read_answer(words)?;
-            tell_accepted(told, mount.desk.take_back(&answer))
+            tell_accepted(output, mount.desk.take_back(&answer))
         }
-        MountCall::Deliver => tell_delivery(told, mount.kernel.deliver(&mut mount.desk)),
+        MountCall::Deliver => tell_delivery(output, mount.kernel.deliver(&mut mount.desk)),
     }
 }

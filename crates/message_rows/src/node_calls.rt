@@ -17,7 +17,7 @@ use crate::frame_calls::{read_message, read_versions, tell_message, tell_numbers
 use crate::{Called, tell_number, tell_printed};
 use byte_codec::Bytes;
 use eden_base::ClaimFault;
-use row_words::{Fault, Told, Words, chosen};
+use row_words::{Output, RowFault, Words, chosen};
 use takeover_core::{Heard, Message, Node, Phase};
 
 /// The calls that leave the daemon as it is.
@@ -91,27 +91,27 @@ fn name_of(phase: Phase) -> &'static str {
 }
 
 /// Writes the version of data, and the place of a part.
-fn tell_place(told: &mut Told, version: u16, position: u32, count: u32) {
-    told.number(u64::from(version));
-    told.number(u64::from(position));
-    told.number(u64::from(count));
+fn tell_place(output: &mut Output, version: u16, position: u32, count: u32) {
+    output.number(u64::from(version));
+    output.number(u64::from(position));
+    output.number(u64::from(count));
 }
 
 /// Writes `word`, a session and a generation.
-fn tell_session(told: &mut Told, word: &str, session: u32, generation: u64) {
-    tell_numbers(told, word, &[u64::from(session), generation]);
+fn tell_session(output: &mut Output, word: &str, session: u32, generation: u64) {
+    tell_numbers(output, word, &[u64::from(session), generation]);
 }
 
 /// Writes a phase.
-fn tell_phase(told: &mut Told, phase: Phase) {
+fn tell_phase(output: &mut Output, phase: Phase) {
     let name = name_of(phase);
     match phase {
-        Phase::Waiting | Phase::Gone => told.word(name),
+        Phase::Waiting | Phase::Gone => output.word(name),
         Phase::Holding { generation } | Phase::Serving { generation } => {
-            tell_numbers(told, name, &[generation]);
+            tell_numbers(output, name, &[generation]);
         }
         Phase::Chosen { session, version } => {
-            tell_numbers(told, name, &[u64::from(session), u64::from(version)]);
+            tell_numbers(output, name, &[u64::from(session), u64::from(version)]);
         }
         Phase::Raising {
             session,
@@ -120,7 +120,7 @@ fn tell_phase(told: &mut Told, phase: Phase) {
         | Phase::Handed {
             session,
             generation,
-        } => tell_session(told, name, session, generation),
+        } => tell_session(output, name, session, generation),
         Phase::Draining {
             session,
             generation,
@@ -136,8 +136,8 @@ fn tell_phase(told: &mut Told, phase: Phase) {
             generation,
             version,
         } => {
-            tell_session(told, name, session, generation);
-            told.number(u64::from(version));
+            tell_session(output, name, session, generation);
+            output.number(u64::from(version));
         }
         Phase::Taking {
             session,
@@ -153,36 +153,36 @@ fn tell_phase(told: &mut Told, phase: Phase) {
             position,
             count,
         } => {
-            tell_session(told, name, session, generation);
-            tell_place(told, version, position, count);
+            tell_session(output, name, session, generation);
+            tell_place(output, version, position, count);
         }
     }
 }
 
 /// Writes what a daemon answers.
-fn tell_heard(told: &mut Told, heard: &Heard) {
+fn tell_heard(output: &mut Output, heard: &Heard) {
     match heard {
-        Heard::Ignored => told.word("Ignored"),
-        Heard::Heard => told.word("Heard"),
+        Heard::Ignored => output.word("Ignored"),
+        Heard::Heard => output.word("Heard"),
         Heard::Say(message) => {
-            told.word("say");
-            tell_message(told, message);
+            output.word("say");
+            tell_message(output, message);
         }
         Heard::MakeData {
             session,
             generation,
             version,
         } => {
-            tell_session(told, "MakeData", *session, *generation);
-            told.number(u64::from(*version));
+            tell_session(output, "MakeData", *session, *generation);
+            output.number(u64::from(*version));
         }
         Heard::GotData {
             session,
             generation,
             version,
         } => {
-            tell_session(told, "GotData", *session, *generation);
-            told.number(u64::from(*version));
+            tell_session(output, "GotData", *session, *generation);
+            output.number(u64::from(*version));
         }
         Heard::GotPart {
             session,
@@ -191,8 +191,8 @@ fn tell_heard(told: &mut Told, heard: &Heard) {
             position,
             count,
         } => {
-            tell_session(told, "GotPart", *session, *generation);
-            tell_place(told, *version, *position, *count);
+            tell_session(output, "GotPart", *session, *generation);
+            tell_place(output, *version, *position, *count);
         }
     }
 }
@@ -213,88 +213,88 @@ fn read_claim(words: &mut Words<'_>) -> Result<u64, ClaimFault> {
 }
 
 /// Writes that a daemon says `message`, if there is one.
-fn tell_said(told: &mut Told, message: Option<Message>) {
+fn tell_said(output: &mut Output, message: Option<Message>) {
     if let Some(message) = message {
-        told.word("say");
-        tell_message(told, &message);
+        output.word("say");
+        tell_message(output, &message);
     }
 }
 
 /// Asks whether a daemon is drained, and writes the fault as it prints itself.
-fn drained(node: &mut Node, in_hand: u64, unposted: u64, told: &mut Told) {
+fn drained(node: &mut Node, in_hand: u64, unposted: u64, output: &mut Output) {
     match node.drained(in_hand as usize, unposted as usize) {
-        Ok(message) => tell_said(told, Some(message)),
-        Err(fault) => tell_printed(told, fault),
+        Ok(message) => tell_said(output, Some(message)),
+        Err(fault) => tell_printed(output, fault),
     }
 }
 
 /// Hears a message.
-fn hear(node: &mut Node, words: &mut Words<'_>, told: &mut Told) -> Called {
+fn hear(node: &mut Node, words: &mut Words<'_>, output: &mut Output) -> Called {
     let word = words.word();
     let message = read_message(word, words)?;
     words.end()?;
-    tell_heard(told, &node.hear(&message));
+    tell_heard(output, &node.hear(&message));
     Ok(())
 }
 
 /// Takes a step. One that is not of the phase is no row.
-fn go(node: &mut Node, step: Step, words: &mut Words<'_>, told: &mut Told) -> Called {
+fn go(node: &mut Node, step: Step, words: &mut Words<'_>, output: &mut Output) -> Called {
     match (step, node.phase()) {
         (Step::Mounted, Phase::Waiting) => node.mounted(words.number()),
         (Step::PartsMade, Phase::Making { version: 2, .. }) => node.parts_made(),
         (Step::Crash, _) => node.crash(),
         (Step::Claimed, Phase::Holding { .. }) => node.claimed(read_claim(words)),
-        (Step::Hear, _) => hear(node, words, told)?,
-        (Step::GiveUp, _) => tell_heard(told, &node.give_up()),
-        (Step::Fed, Phase::Taking { .. }) => tell_said(told, node.fed(true)),
-        (Step::NotFed, Phase::Taking { .. }) => tell_said(told, node.fed(false)),
-        (Step::Raised, Phase::Raising { .. }) => tell_said(told, node.raised(true)),
-        (Step::NotRaised, Phase::Raising { .. }) => tell_said(told, node.raised(false)),
+        (Step::Hear, _) => hear(node, words, output)?,
+        (Step::GiveUp, _) => tell_heard(output, &node.give_up()),
+        (Step::Fed, Phase::Taking { .. }) => tell_said(output, node.fed(true)),
+        (Step::NotFed, Phase::Taking { .. }) => tell_said(output, node.fed(false)),
+        (Step::Raised, Phase::Raising { .. }) => tell_said(output, node.raised(true)),
+        (Step::NotRaised, Phase::Raising { .. }) => tell_said(output, node.raised(false)),
         (Step::DataMade, Phase::Making { version: 1, .. }) => {
-            tell_said(told, Some(node.data_made(Bytes::of(words.bytes()))));
+            tell_said(output, Some(node.data_made(Bytes::of(words.bytes()))));
         }
-        (Step::DataFailed, Phase::Making { .. }) => tell_said(told, Some(node.data_failed())),
+        (Step::DataFailed, Phase::Making { .. }) => tell_said(output, Some(node.data_failed())),
         (Step::Drained, _) => {
             let in_hand = words.number();
-            drained(node, in_hand, words.number(), told);
+            drained(node, in_hand, words.number(), output);
         }
-        _ => return Err(Fault::BadRow),
+        _ => return Err(RowFault::BadRow),
     }
     words.end()
 }
 
 /// Makes a call that may change the phase, and writes the phase that is reached.
-fn call_step(node: &mut Node, word: &[u8], words: &mut Words<'_>, told: &mut Told) -> Called {
-    let step = chosen(&STEPS, word).ok_or(Fault::BadRow)?;
-    go(node, step, words, told)?;
-    if told.as_str().is_empty() {
-        told.word("ok");
+fn call_step(node: &mut Node, word: &[u8], words: &mut Words<'_>, output: &mut Output) -> Called {
+    let step = chosen(&STEPS, word).ok_or(RowFault::BadRow)?;
+    go(node, step, words, output)?;
+    if output.as_str().is_empty() {
+        output.word("ok");
     }
-    told.word("then");
-    tell_phase(told, node.phase());
+    output.word("then");
+    tell_phase(output, node.phase());
     Ok(())
 }
 
 /// Makes a step on a copy of `node`.
-fn call_copy(node: &Node, words: &mut Words<'_>, told: &mut Told) -> Called {
+fn call_copy(node: &Node, words: &mut Words<'_>, output: &mut Output) -> Called {
     let mut copy = node.copy();
     let word = words.word();
-    call_step(&mut copy, word, words, told)
+    call_step(&mut copy, word, words, output)
 }
 
 /// Makes a call of `node`.
-fn call_node(node: &mut Node, word: &[u8], words: &mut Words<'_>, told: &mut Told) -> Called {
+fn call_node(node: &mut Node, word: &[u8], words: &mut Words<'_>, output: &mut Output) -> Called {
     let Some(call) = chosen(&NODE_CALLS, word) else {
-        return call_step(node, word, words, told);
+        return call_step(node, word, words, output);
     };
     match call {
-        NodeCall::Try => return call_copy(node, words, told),
-        NodeCall::Offer => tell_message(told, &node.offer()),
-        NodeCall::MayTake => told.flag(node.may_take()),
-        NodeCall::ClaimWanted => tell_number(told, node.claim_wanted()),
+        NodeCall::Try => return call_copy(node, words, output),
+        NodeCall::Offer => tell_message(output, &node.offer()),
+        NodeCall::MayTake => output.flag(node.may_take()),
+        NodeCall::ClaimWanted => tell_number(output, node.claim_wanted()),
         NodeCall::Fault => match read_claim(words) {
-            Ok(_generation) => return Err(Fault::BadRow),
-            Err(fault) => tell_printed(told, fault),
+            Ok(_generation) => return Err(RowFault::BadRow),
+            Err(fault) => tell_printed(output, fault),
         },
     }
     Ok(())
@@ -304,14 +304,14 @@ fn call_node(node: &mut Node, word: &[u8], words: &mut Words<'_>, told: &mut Tol
 pub(crate) fn call_place(
     place: &mut Option<Node>,
     words: &mut Words<'_>,
-    told: &mut Told,
+    output: &mut Output,
 ) -> Called {
     let word = words.word();
     if word == b"waiting".as_slice() {
         *place = Some(Node::waiting(read_versions(words)?));
-        told.word("ok");
+        output.word("ok");
         return words.end();
     }
-    let node = place.as_mut().ok_or(Fault::BadRow)?;
-    call_node(node, word, words, told)
+    let node = place.as_mut().ok_or(RowFault::BadRow)?;
+    call_node(node, word, words, output)
 }

@@ -7,13 +7,13 @@ use Rattle.std.specs.Mem.{type_size}
 use denote.Param.{param}
 use denote.RattleType.{RattleType}
 use denote.RawPtr.{Ptr, InBlock}
-use Rattle.node_arena.specs.contracts.region.Node as node
+use Rattle.node_arena.specs.contracts.region.ArenaNode as node
 use Rattle.node_arena.specs.Addresses.{address_of}
-use Rattle.node_arena.specs.Item.{index_in, value_in}
+use Rattle.node_arena.specs.Content.{index_in, value_in}
 use Rattle.node_arena.specs.Region.{count_of, place_of, node_at, next_in, prev_in, held_in, IsPlaced, IsLaidOut, IsBlank}
-use Rattle.node_arena.specs.declared.item.Item.TheVariants.{Vacant}
+use Rattle.node_arena.specs.declared.node_content.NodeContent.TheVariants.{Vacant}
 use Rattle.node_arena.specs.declared.links.Link.{Link}
-use Rattle.node_arena.specs.declared.region.Node.{Node}
+use Rattle.node_arena.specs.declared.region.ArenaNode.{ArenaNode}
 use Rattle.node_arena.specs.declared.region.Region.{Region}
 use Rattle.node_arena.proofs.Addresses.{leads}
 
@@ -35,22 +35,22 @@ pub some_bytes : (R : RattleType) → 1 ≤ type_size (node.the_row (param 0 R))
 some_bytes R = omega arith
 
 -- the k-th node leads back to the first and on to the one before it
-abbrev pub IsFresh : {T : Type 0} → ℕ → Ptr → ℕ → Node T → Type 0
-IsFresh bytes start k n = (n.prev.to ≡ address_of start bytes 0) × (n.next.to ≡ address_of start bytes (k - 1)) × (n.item ≡ Vacant k)
+abbrev pub IsFresh : {T : Type 0} → ℕ → Ptr → ℕ → ArenaNode T → Type 0
+IsFresh bytes start k n = (n.prev.to ≡ address_of start bytes 0) × (n.next.to ≡ address_of start bytes (k - 1)) × (n.content ≡ Vacant k)
 
 module _ {T A : Type 0} (bytes : ℕ) (start : Ptr) where
   -- the nodes below the index are there
-  pub record AreFresh (v : Vec (Node T) A) (first last : Link) (count index : ℕ) : Type 0 where
+  pub record AreFresh (v : Vec (ArenaNode T) A) (first last : Link) (count index : ℕ) : Type 0 where
     pub here : start ≡ vec_ptr v
     pub block : InBlock start
     pub room : vec_capacity v ≡ count
     pub long : vec_len v ≡ index
     pub leads_first : first.to ≡ address_of start bytes 0
     pub leads_last : last.to ≡ address_of start bytes (index - 1)
-    pub nodes : (k : ℕ) (n : Node T) → slice_get v.items k ≡ Some n → IsFresh bytes start k n
+    pub nodes : (k : ℕ) (n : ArenaNode T) → slice_get v.items k ≡ Some n → IsFresh bytes start k n
 
   -- one more node
-  pub fresh_more : (v v' : Vec (Node T) A) (first last last' : Link) (count index : ℕ) (n : Node T) → AreFresh v first last count index → IsFresh bytes start index n
+  pub fresh_more : (v v' : Vec (ArenaNode T) A) (first last last' : Link) (count index : ℕ) (n : ArenaNode T) → AreFresh v first last count index → IsFresh bytes start index n
       → v'.items ≡ v.items ++ n ∷ [] → vec_len v' ≡ vec_len v + 1 → vec_capacity v' ≡ vec_capacity v → vec_ptr v' ≡ vec_ptr v → last'.to ≡ address_of start bytes index
       → AreFresh v' first last' count (index + 1)
   fresh_more v v' first last last' count index n f new items len cap ptr leads' = record {
@@ -60,9 +60,9 @@ module _ {T A : Type 0} (bytes : ℕ) (start : Ptr) where
     long = len ∙ ap (λ (m : ℕ). m + 1) f.long;
     leads_first = f.leads_first;
     leads_last = leads' ∙ ap (address_of start bytes) (one_off index);
-    nodes = λ k m e. elim (slice_get-pushed v.items n k m (ap (λ (xs : List (Node T)). slice_get xs k) (sym items) ∙ e)) [
+    nodes = λ k m e. elim (slice_get-pushed v.items n k m (ap (λ (xs : List (ArenaNode T)). slice_get xs k) (sym items) ∙ e)) [
       | inl before ↦ f.nodes k m before
-      | inr at_end ↦ let at : index ≡ k = sym f.long ∙ v.ok.0 ∙ at_end.0 in subst (λ (m' : Node T). IsFresh bytes start k m') at_end.1 (subst (λ (i : ℕ). IsFresh bytes start i n) at new)
+      | inr at_end ↦ let at : index ≡ k = sym f.long ∙ v.ok.0 ∙ at_end.0 in subst (λ (m' : ArenaNode T). IsFresh bytes start k m') at_end.1 (subst (λ (i : ℕ). IsFresh bytes start i n) at new)
     ];
   } where
     one_off : (i : ℕ) → i ≡ i + 1 - 1
@@ -83,16 +83,16 @@ module _ {T : Type 0} (r : Region T) (start : Ptr) (first last : Link) (count in
   led link i is low = leads (vec_ptr r.nodes) r.stride.bytes (count_of r) i link.to here_block pos
       (is ∙ ap (λ (p : Ptr). address_of p r.stride.bytes i) (sym at_start)) (subst (λ (m : ℕ). i < m) (sym count_is) low)
 
-  low_of : (k : ℕ) (n : Node T) → node_at r k ≡ Some n → k < count
+  low_of : (k : ℕ) (n : ArenaNode T) → node_at r k ≡ Some n → k < count
   low_of k n e = subst (λ (m : ℕ). k < m) (sym r.nodes.ok.0 ∙ count_is) (slice_get_within r.nodes.items k n e)
 
-  back : (k : ℕ) (n : Node T) → node_at r k ≡ Some n → IsPlaced r n.prev × (place_of r n.prev ≡ 0)
+  back : (k : ℕ) (n : ArenaNode T) → node_at r k ≡ Some n → IsPlaced r n.prev × (place_of r n.prev ≡ 0)
   back k n e = led n.prev 0 (f.nodes k n e).0 some
 
-  on : (k : ℕ) (n : Node T) → node_at r k ≡ Some n → IsPlaced r n.next × (place_of r n.next ≡ k - 1)
+  on : (k : ℕ) (n : ArenaNode T) → node_at r k ≡ Some n → IsPlaced r n.next × (place_of r n.next ≡ k - 1)
   on k n e = let low = low_of k n e in led n.next (k - 1) (f.nodes k n e).1 (omega arith)
 
-  one : (k : ℕ) → k < count_of r → (n : Node T) × (node_at r k ≡ Some n)
+  one : (k : ℕ) → k < count_of r → (n : ArenaNode T) × (node_at r k ≡ Some n)
   one k low = slice_get-some r.nodes.items k (subst (λ (m : ℕ). k < m) r.nodes.ok.0 low)
 
   pub fresh_laid_out : IsLaidOut r
@@ -102,7 +102,7 @@ module _ {T : Type 0} (r : Region T) (start : Ptr) (first last : Link) (count in
     named = λ k n e. ap (λ it. index_in it) (f.nodes k n e).2;
   }
 
-  no_value : (k : ℕ) (o : Option (Node T)) → node_at r k ≡ o → held_in r o ≡ None
+  no_value : (k : ℕ) (o : Option (ArenaNode T)) → node_at r k ≡ o → held_in r o ≡ None
   no_value k None e = refl
   no_value k (Some n) e = ap (λ it. value_in it) (f.nodes k n e).2
 

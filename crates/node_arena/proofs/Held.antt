@@ -19,10 +19,6 @@ module _ {T : Type 0} where
   some_of None h = cc
   some_of (Some x) h = (x, refl)
 
-no_slot : (xs : List ℕ) → length xs ≡ 0 → slice_get (map slot_at xs) (length xs - 1) ≡ None
-no_slot [] e = refl
-no_slot (x ∷ xs) e = absurd (omega arith)
-
 module _ {T : Type 0} (r : Region T) (first : Link) (capacity len : ℕ) (w : IsWhole r first capacity len) (a : Arena T) (view : shown r capacity len ≡ a) where
   abbrev f : ℕ → Option T
   f = value_of r
@@ -55,9 +51,6 @@ module _ {T : Type 0} (r : Region T) (first : Link) (capacity len : ℕ) (w : Is
   oldest_held some =
       let there = has-last_link (next_of r) (prev_of r) 0 w.order 0 w.kept.lists.chain (λ e. some (sym w.kept.long ∙ e)) in
       let x = w.kept.filled (prev_of r 0) there in ap is_some (value_here (slot_at (prev_of r 0)) ∙ x.1)
-
-  pub oldest_none : len ≡ 0 → oldest_of a ≡ None
-  oldest_none none = oldest_here ∙ no_slot w.order (w.kept.long ∙ none)
 
   -- a slot whose node holds a value
   pub low_here : (s : Slot) (x : T) → value_of r s.index ≡ Some x → s.index < count_of r

@@ -7,7 +7,7 @@ use Rattle.node_arena.specs.Recency.{entries_at, shown, IsKept, IsWhole}
 use Rattle.node_arena.specs.Region.{place_of, node_at, next_of, prev_of, value_of, held_in, IsPlaced, Becomes}
 use Rattle.node_arena.specs.RegionLends.{with_value as set_in}
 use Rattle.node_arena.specs.declared.links.Link.{Link}
-use Rattle.node_arena.specs.declared.region.Node.{Node}
+use Rattle.node_arena.specs.declared.region.ArenaNode.{ArenaNode}
 use Rattle.node_arena.specs.declared.region.Region.{Region}
 use Rattle.node_arena.specs.declared.slot.Slot.{Slot}
 use Rattle.node_arena.proofs.Chains.{updated_here, updated_apart, has_first}
@@ -78,7 +78,7 @@ module _ {T : Type 0} (r : Region T) (first : Link) (capacity len : ℕ) (w : Is
 
     -- a write through a `&mut` to the value
     module _ (i : ℕ) (e : i ≡ k) (v : T) where
-      node_of : (o : Option (Node T)) (x : T) → node_at r i ≡ o → held_in r o ≡ Some x → (n : Node T) × (node_at r i ≡ Some n)
+      node_of : (o : Option (ArenaNode T)) (x : T) → node_at r i ≡ o → held_in r o ≡ Some x → (n : ArenaNode T) × (node_at r i ≡ Some n)
       node_of None x e' h = cc
       node_of (Some n) x e' h = (n, e')
 

@@ -1,4 +1,4 @@
--- What a contract sees of `Nodes`: an arena. Its definitions are this project's own.
+-- What a contract sees of `NodeArena`: an arena. Its definitions are this project's own.
 use Rattle.std.specs.Prelude.{ℕ, ◌-◌, ◌≤◌, Bool, ◌==◌, List, ◌∷◌, length, slice_get, Option, IsSome, refl}
 use Rattle.std.specs.List.{IsDistinct}
 use Rattle.std.specs.Map.{keys_of, lookup, remove_entry, set_value}

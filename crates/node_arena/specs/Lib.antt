@@ -1,7 +1,7 @@
 pub mod Addresses
 pub mod Arena
-pub mod Item
-pub mod ItemLends
+pub mod Content
+pub mod ContentLends
 pub mod Links
 pub mod NodesLends
 pub mod Recency

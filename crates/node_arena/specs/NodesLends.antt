@@ -1,7 +1,7 @@
 -- What an arena ends as, once a `&mut` to a value has ended.
 use Rattle.std.specs.Borrow.{Fml, RattleType, MutBor, Lends}
 use Rattle.node_arena.specs.Arena.{Arena, with_value}
-use Rattle.node_arena.specs.contracts.nodes.Nodes.{the_row}
+use Rattle.node_arena.specs.contracts.nodes.NodeArena.{the_row}
 use Rattle.node_arena.specs.declared.slot.Slot.{Slot}
 
 -- the slot ends with the last value written through r, and the rest of the arena is unchanged

@@ -2,9 +2,9 @@
 use Rattle.std.specs.Prelude.{◌≡◌, ℕ, ◌-◌, ◌<◌, ◌≤◌, slice_get, Option, Some, None}
 use Rattle.std.specs.Vec.{vec_ptr, vec_len}
 use Rattle.node_arena.specs.Addresses.{index_of, LeadsIn}
-use Rattle.node_arena.specs.Item.{index_in, value_in}
+use Rattle.node_arena.specs.Content.{index_in, value_in}
 use Rattle.node_arena.specs.declared.links.Link.{Link}
-use Rattle.node_arena.specs.declared.region.Node.{Node}
+use Rattle.node_arena.specs.declared.region.ArenaNode.{ArenaNode}
 use Rattle.node_arena.specs.declared.region.Region.{Region}
 
 module _ {T : Type 0} (r : Region T) where
@@ -21,20 +21,20 @@ module _ {T : Type 0} (r : Region T) where
   IsPlaced link = LeadsIn r.nodes r.stride.bytes link.to
 
   -- of a node: the index of the node after it, that of the node before it, and its value
-  abbrev pub next_in : Option (Node T) → ℕ
+  abbrev pub next_in : Option (ArenaNode T) → ℕ
   next_in None = 0
   next_in (Some n) = place_of n.next
 
-  abbrev pub prev_in : Option (Node T) → ℕ
+  abbrev pub prev_in : Option (ArenaNode T) → ℕ
   prev_in None = 0
   prev_in (Some n) = place_of n.prev
 
-  abbrev pub held_in : Option (Node T) → Option T
+  abbrev pub held_in : Option (ArenaNode T) → Option T
   held_in None = None
-  held_in (Some n) = value_in n.item
+  held_in (Some n) = value_in n.content
 
   -- the node at an index
-  abbrev pub node_at : ℕ → Option (Node T)
+  abbrev pub node_at : ℕ → Option (ArenaNode T)
   node_at k = slice_get r.nodes.items k
 
   -- of the node at an index: the index of the node after it, that of the node before it, and its value
@@ -50,8 +50,8 @@ module _ {T : Type 0} (r : Region T) where
   -- each link of a node leads to a node, and each node has its index
   pub record IsLaidOut : Type 0 where
     pub positive : 1 ≤ r.stride.bytes
-    pub placed : (k : ℕ) (n : Node T) → node_at k ≡ Some n → IsPlaced n.prev × IsPlaced n.next
-    pub named : (k : ℕ) (n : Node T) → node_at k ≡ Some n → index_in n.item ≡ k
+    pub placed : (k : ℕ) (n : ArenaNode T) → node_at k ≡ Some n → IsPlaced n.prev × IsPlaced n.next
+    pub named : (k : ℕ) (n : ArenaNode T) → node_at k ≡ Some n → index_in n.content ≡ k
 
   -- each node leads back to the first and on to the node before it, and holds no value
   pub record IsBlank : Type 0 where

@@ -13,8 +13,8 @@ use std::marker::Model;
 /// The index of the node where the list of the nodes in use starts and ends. That node holds no value.
 const START: usize = 0;
 
-/// At most `capacity` values, each in its own node with a slot, in the order of their last use.
-pub struct Nodes<T> {
+/// An arena of at most `capacity` values, each in its own node with a slot, in the order of their last use.
+pub struct NodeArena<T> {
     region: Region<T>,
     /// Leads to the first spare node, if there is one. Each spare node leads on to the next.
     spare: Link,
@@ -22,9 +22,9 @@ pub struct Nodes<T> {
     len: u32,
 }
 
-impl<T: Drop> Drop for Nodes<T> {
+impl<T: Drop> Drop for NodeArena<T> {
     fn drop(self) {
-        let Nodes {
+        let NodeArena {
             region: _,
             spare: _,
             capacity: _,
@@ -33,7 +33,7 @@ impl<T: Drop> Drop for Nodes<T> {
     }
 }
 
-impl<T> Model for Nodes<T> {
+impl<T> Model for NodeArena<T> {
     ghost use Rattle.node_arena.specs.Arena.{Arena, arena_code};
 
     ghost Value = { Arena T };
@@ -47,18 +47,18 @@ impl<T> Model for Nodes<T> {
     ghost invariant = { λ s. IsWhole s.region s.spare s.capacity s.len };
 }
 
-impl<T> Nodes<T> {
+impl<T> NodeArena<T> {
     ghost use Rattle.node_arena.specs.NodesLends.{lends_value};
 
     /// Makes an arena with memory for `capacity` values. No other call takes memory.
-    pub fn new(alloc: Global, capacity: usize) -> Result<Nodes<T>, AllocError>
+    pub fn new(alloc: Global, capacity: usize) -> Result<NodeArena<T>, AllocError>
         requires least { 1 ≤ capacity }
         requires most { capacity ≤ 65536 }
         ensures new { IfOk result (λ n. n ≡ arena [] capacity) }
     {
         let region = Region::new(alloc, capacity + 1)?;
         let spare = region.link(capacity);
-        Ok(Nodes {
+        Ok(NodeArena {
             region,
             spare,
             capacity: capacity as u32,

@@ -3,27 +3,27 @@ ghost use Rattle.std.specs.Prelude.{◌≡◌, ◌+◌, ◌<◌, ◌≤◌, ◌^
 ghost use Rattle.std.specs.Borrow.{sem};
 ghost use Rattle.node_arena.specs.Links.{updated, next_without, prev_without, next_with, prev_with};
 
-use crate::item::Item;
 use crate::links::{Link, Stride, address, follow, follow_mut};
+use crate::node_content::NodeContent;
 use std::alloc::{AllocError, Global};
 use std::mem::size_of;
 
 /// A node: its two neighbours in the list in which it stands, and the value that it holds, if any.
 #[derive(Drop)]
-pub struct Node<T> {
+pub struct ArenaNode<T> {
     prev: Link,
     next: Link,
-    item: Item<T>,
+    content: NodeContent<T>,
 }
 
 /// A node takes 24 bytes beside its value.
-const _: () = prove!(size_of::<Node<u64>>() == 24 + 8);
+const _: () = prove!(size_of::<ArenaNode<u64>>() == 24 + 8);
 
 /// The nodes, side by side in one block. A link to a node stays valid, since no node is added later.
 #[derive(Drop)]
 pub struct Region<T> {
-    nodes: Vec<Node<T>>,
-    stride: Stride<Node<T>>,
+    nodes: Vec<ArenaNode<T>>,
+    stride: Stride<ArenaNode<T>>,
 }
 
 impl<T> Region<T> {
@@ -42,13 +42,13 @@ impl<T> Region<T> {
         };
         let mut last = first;
         for index in 0..count {
-            let item = Item::Vacant {
+            let content = NodeContent::Vacant {
                 index: index as u32,
             };
-            nodes.push_reserved(Node {
+            nodes.push_reserved(ArenaNode {
                 prev: first,
                 next: last,
-                item,
+                content,
             });
             last = Link {
                 to: address(&nodes, start, index),
@@ -72,7 +72,7 @@ impl<T> Region<T> {
     }
 
     /// Returns the node that `link` leads to.
-    fn node(&self, link: Link) -> &Node<T>
+    fn node(&self, link: Link) -> &ArenaNode<T>
         requires { IsLaidOut self.now × IsPlaced self.now link }
         ensures { node_at self.now (place_of self.now link) ≡ Some result.now }
     {
@@ -81,7 +81,7 @@ impl<T> Region<T> {
     }
 
     /// Returns the node that `link` leads to, to write to.
-    fn node_mut(&mut self, link: Link) -> &mut Node<T>
+    fn node_mut(&mut self, link: Link) -> &mut ArenaNode<T>
         requires { IsLaidOut self.old × IsPlaced self.old link }
         ensures* writes_back { sem 𝓛 (lends_node T.row self.entry (place_of self.old link) result) }
         ensures value { node_at self.old (place_of self.old link) ≡ Some result.now }
@@ -95,7 +95,7 @@ impl<T> Region<T> {
         requires { IsLaidOut self.now × IsPlaced self.now link }
         ensures { result ≡ place_of self.now link }
     {
-        self.node(link).item.index()
+        self.node(link).content.index()
     }
 
     /// Returns a link to the node after the one that `link` leads to.
@@ -167,7 +167,7 @@ impl<T> Region<T> {
         requires { IsLaidOut self.now × IsPlaced self.now link }
         ensures { result ≡ is_some (value_of self.now (place_of self.now link)) }
     {
-        self.node(link).item.is_held()
+        self.node(link).content.is_held()
     }
 
     /// Returns the value that the node at `link` holds.
@@ -176,7 +176,7 @@ impl<T> Region<T> {
             × IsSome (value_of self.now (place_of self.now link)) }
         ensures { value_of self.now (place_of self.now link) ≡ Some result.now }
     {
-        self.node(link).item.value()
+        self.node(link).content.value()
     }
 
     /// Returns the value that the node at `link` holds, to write to.
@@ -186,7 +186,7 @@ impl<T> Region<T> {
         ensures* writes_back { sem 𝓛 (lends_value T.row self.entry (place_of self.old link) result) }
         ensures value { value_of self.old (place_of self.old link) ≡ Some result.now }
     {
-        self.node_mut(link).item.value_mut()
+        self.node_mut(link).content.value_mut()
     }
 
     /// Moves the value out of the node at `link`.
@@ -198,7 +198,7 @@ impl<T> Region<T> {
             (next_of self.old) (prev_of self.old)
             (updated (value_of self.old) (place_of self.old link) None) }
     {
-        self.node_mut(link).item.take()
+        self.node_mut(link).content.take()
     }
 
     /// Moves a value into the node at `link`, which holds none.
@@ -209,6 +209,6 @@ impl<T> Region<T> {
             (next_of self.old) (prev_of self.old)
             (updated (value_of self.old) (place_of self.old link) (Some value)) }
     {
-        self.node_mut(link).item.put(value)
+        self.node_mut(link).content.put(value)
     }
 }

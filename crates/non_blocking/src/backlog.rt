@@ -24,7 +24,7 @@ pub(crate) struct Backlog {
 }
 
 impl Backlog {
-    /// Returns a backlog in which nothing waits, and nothing is lost.
+    /// Returns an empty backlog, of which no line was lost.
     pub(crate) fn new(alloc: Global) -> Backlog {
         Backlog {
             waiting: Vec::new(alloc),

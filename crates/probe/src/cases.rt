@@ -2,7 +2,7 @@
 use crate::rows::{Came, Rows};
 use crate::subjects::Subjects;
 use eden_base::cut;
-use row_words::{Fault, Told};
+use row_words::{Output, RowFault};
 use std::alloc::{AllocError, Global};
 use std::fs::File;
 use std::io::{self, Error, ErrorKind, Read};
@@ -57,7 +57,7 @@ fn read_file_again(rt: &HostRuntime, path: &str) -> io::Result<Vec<u8>> {
 }
 
 /// Splits `text` into its lines.
-fn lines_of(alloc: Global, text: &[u8]) -> Result<Vec<&[u8]>, Fault> {
+fn lines_of(alloc: Global, text: &[u8]) -> Result<Vec<&[u8]>, RowFault> {
     let mut lines = Vec::new(alloc);
     let mut rest = text;
     for _line in 0..text.len() {
@@ -79,19 +79,25 @@ fn lines_again(alloc: Global, text: &[u8]) -> Option<Vec<&[u8]>> {
 }
 
 /// Makes an empty result, and tries once more if memory was refused.
-fn told_again(alloc: Global) -> Result<Told, AllocError> {
-    match Told::new(alloc) {
-        Ok(told) => Ok(told),
-        Err(_) => Told::new(alloc),
+fn told_again(alloc: Global) -> Result<Output, AllocError> {
+    match Output::new(alloc) {
+        Ok(output) => Ok(output),
+        Err(_) => Output::new(alloc),
     }
 }
 
-/// Tells that the row in line `index` of the file at `path` came to `told`.
-fn tell(rt: &HostRuntime, path: &str, index: usize, line: &[u8], told: &Told) -> io::Result<()> {
+/// Tells that the row in line `index` of the file at `path` came to `output`.
+fn tell(
+    rt: &HostRuntime,
+    path: &str,
+    index: usize,
+    line: &[u8],
+    output: &Output,
+) -> io::Result<()> {
     let number = index.saturating_add(1);
     let row = str::from_utf8(line).unwrap_or("");
-    let told = told.as_str();
-    println!(rt; "{path}:{number}: {row}, but it is {told}")
+    let output = output.as_str();
+    println!(rt; "{path}:{number}: {row}, but it is {output}")
 }
 
 /// Runs the rows in `lines`, and tells those that differ.
@@ -102,8 +108,8 @@ fn run_lines(
     title: Option<&[u8]>,
 ) -> io::Result<Tally> {
     let mut tally = Tally::default();
-    let told = told_again(rt.alloc())?;
-    let mut rows = Rows::new(rt.alloc(), title, told);
+    let output = told_again(rt.alloc())?;
+    let mut rows = Rows::new(rt.alloc(), title, output);
     let mut subjects = Subjects::new(rt.alloc());
     for _step in 0..MOST_STEPS {
         let index = rows.next;
@@ -114,7 +120,7 @@ fn run_lines(
         let came = rows.go_on(rt, &mut subjects, line);
         tally.count(came);
         if came == Came::Otherwise && tally.differ <= MOST_SHOWN {
-            tell(rt, path, index, line, &rows.told)?;
+            tell(rt, path, index, line, &rows.output)?;
         }
     }
     Ok(tally)

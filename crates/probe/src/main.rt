@@ -59,13 +59,13 @@ fn run(rt: &HostRuntime) -> io::Result<Tally> {
 fn main(rt: HostRuntime) -> ExitCode {
     match run(&rt) {
         Ok(tally) if tally.rows == 0 => {
-            let _told = eprintln!(rt; "{USAGE}");
+            let _printed = eprintln!(rt; "{USAGE}");
             ExitCode::from(2)
         }
         Ok(tally) if tally.differ == 0 => ExitCode::SUCCESS,
         Ok(_) => ExitCode::FAILURE,
         Err(error) => {
-            let _told = eprintln!(rt; "probe: {error}");
+            let _printed = eprintln!(rt; "probe: {error}");
             ExitCode::FAILURE
         }
     }

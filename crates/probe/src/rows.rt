@@ -2,7 +2,7 @@
 use crate::subjects::Subjects;
 use crate::templates::{Loop, fill};
 use eden_base::cut;
-use row_words::{Fault, Texts, Told, Words, bytes_of, decimal};
+use row_words::{Output, RowFault, Texts, Words, bytes_of, decimal};
 use std::alloc::Global;
 
 /// How many loops may stand in one another.
@@ -64,7 +64,7 @@ pub(crate) struct Rows<'a> {
     loops: Vec<Loop<'a>>,
     texts: Texts,
     /// The result of the last row.
-    pub(crate) told: Told,
+    pub(crate) output: Output,
     /// The index of the next line.
     pub(crate) next: usize,
 }
@@ -90,17 +90,17 @@ fn parted(line: &[u8]) -> Option<(&[u8], &[u8])> {
     }
 }
 
-/// Makes the call of a row, and writes its result to `told`.
+/// Makes the call of a row, and writes its result to `output`.
 fn call(
     rt: &HostRuntime,
     subjects: &mut Subjects,
     texts: &Texts,
     row: &[u8],
-    told: &mut Told,
-) -> Result<(), Fault> {
-    told.clear();
+    output: &mut Output,
+) -> Result<(), RowFault> {
+    output.clear();
     let mut words = Words::of(rt.alloc(), texts, row);
-    subjects.call(&mut words, told)
+    subjects.call(&mut words, output)
 }
 
 /// Makes the call of a row, and once more if memory was refused, since such a call changed nothing.
@@ -109,33 +109,33 @@ fn call_again(
     subjects: &mut Subjects,
     texts: &Texts,
     row: &[u8],
-    told: &mut Told,
+    output: &mut Output,
 ) {
-    let called = match call(rt, subjects, texts, row, told) {
-        Err(Fault::NoMemory) => call(rt, subjects, texts, row, told),
+    let called = match call(rt, subjects, texts, row, output) {
+        Err(RowFault::NoMemory) => call(rt, subjects, texts, row, output),
         called => called,
     };
     if let Err(fault) = called {
-        told.clear();
-        told.word(fault.name());
+        output.clear();
+        output.word(fault.name());
     }
 }
 
-/// Returns whether `told` is the result that a row has: that text, or the bytes that `@` and a name stand for.
-fn is_said(alloc: Global, texts: &Texts, said: &[u8], told: &Told) -> Result<bool, Fault> {
+/// Returns whether `output` is the result that a row has: that text, or the bytes that `@` and a name stand for.
+fn is_said(alloc: Global, texts: &Texts, said: &[u8], output: &Output) -> Result<bool, RowFault> {
     if said.first() != Some(&b'@') {
-        return Ok(said == told.as_str().as_bytes());
+        return Ok(said == output.as_str().as_bytes());
     }
     let bytes = bytes_of(alloc, texts, said)?;
-    let mut spelled = Told::new(alloc)?;
+    let mut spelled = Output::new(alloc)?;
     spelled.bytes(bytes.as_slice());
-    Ok(spelled.as_str() == told.as_str())
+    Ok(spelled.as_str() == output.as_str())
 }
 
 /// Calls `is_said`, and once more if memory was refused.
-fn is_said_again(alloc: Global, texts: &Texts, said: &[u8], told: &Told) -> bool {
-    match is_said(alloc, texts, said, told) {
-        Err(Fault::NoMemory) => is_said(alloc, texts, said, told) == Ok(true),
+fn is_said_again(alloc: Global, texts: &Texts, said: &[u8], output: &Output) -> bool {
+    match is_said(alloc, texts, said, output) {
+        Err(RowFault::NoMemory) => is_said(alloc, texts, said, output) == Ok(true),
         is_said => is_said == Ok(true),
     }
 }
@@ -162,26 +162,26 @@ fn loop_of<'a>(template: &'a [u8], line: &[u8], first: usize) -> Option<Loop<'a>
 
 impl<'a> Rows<'a> {
     /// Makes what is known before the first line. `title` is that of the case that is wanted, or none where all are.
-    pub(crate) fn new(alloc: Global, title: Option<&'a [u8]>, told: Told) -> Rows<'a> {
+    pub(crate) fn new(alloc: Global, title: Option<&'a [u8]>, output: Output) -> Rows<'a> {
         Rows {
             alloc,
             title,
             is_wanted: title.is_none(),
             loops: Vec::new(alloc),
             texts: Texts::new(alloc),
-            told,
+            output,
             next: 0,
         }
     }
 
     /// Begins a loop, as the filled `line` says. `template` has the name of its value.
-    fn begin_loop(&mut self, template: &'a [u8], line: &[u8]) -> Result<(), Fault> {
+    fn begin_loop(&mut self, template: &'a [u8], line: &[u8]) -> Result<(), RowFault> {
         match loop_of(template, line, self.next) {
             Some(begun) if self.loops.len() < MOST_LOOPS => {
                 self.loops.push(begun)?;
                 Ok(())
             }
-            _ => Err(Fault::BadRow),
+            _ => Err(RowFault::BadRow),
         }
     }
 
@@ -207,16 +207,16 @@ impl<'a> Rows<'a> {
     }
 
     /// Has a name stand for the bytes behind it.
-    fn name_text(&mut self, line: &[u8]) -> Result<(), Fault> {
-        let (_, rest) = cut(line, b' ').ok_or(Fault::BadRow)?;
-        let (name, word) = cut(rest, b' ').ok_or(Fault::BadRow)?;
+    fn name_text(&mut self, line: &[u8]) -> Result<(), RowFault> {
+        let (_, rest) = cut(line, b' ').ok_or(RowFault::BadRow)?;
+        let (name, word) = cut(rest, b' ').ok_or(RowFault::BadRow)?;
         let bytes = bytes_of(self.alloc, &self.texts, word)?;
         self.texts.set(self.alloc, name, bytes)
     }
 
     /// Appends the line behind a bar and a name to the text of that name.
-    fn append_text(&mut self, line: &[u8]) -> Result<(), Fault> {
-        let (_, rest) = cut(line, b'|').ok_or(Fault::BadRow)?;
+    fn append_text(&mut self, line: &[u8]) -> Result<(), RowFault> {
+        let (_, rest) = cut(line, b'|').ok_or(RowFault::BadRow)?;
         let (name, text) = cut(rest, b' ').unwrap_or((rest, &[]));
         self.texts.append(self.alloc, name, text)
     }
@@ -225,8 +225,8 @@ impl<'a> Rows<'a> {
     fn run(&mut self, rt: &HostRuntime, subjects: &mut Subjects, line: &[u8]) -> Came {
         match parted(line) {
             Some((row, said)) => {
-                call_again(rt, subjects, &self.texts, row, &mut self.told);
-                if is_said_again(self.alloc, &self.texts, said, &self.told) {
+                call_again(rt, subjects, &self.texts, row, &mut self.output);
+                if is_said_again(self.alloc, &self.texts, said, &self.output) {
                     Came::AsSaid
                 } else {
                     Came::Otherwise
@@ -238,8 +238,8 @@ impl<'a> Rows<'a> {
 
     /// Tells that a line is none that may stand there.
     fn refuse(&mut self) -> Came {
-        self.told.clear();
-        self.told.word(Fault::BadRow.name());
+        self.output.clear();
+        self.output.word(RowFault::BadRow.name());
         Came::Otherwise
     }
 
@@ -250,7 +250,7 @@ impl<'a> Rows<'a> {
         subjects: &mut Subjects,
         template: &'a [u8],
         line: &[u8],
-    ) -> Result<Came, Fault> {
+    ) -> Result<Came, RowFault> {
         match form_of(template) {
             Form::Blank => {}
             Form::Case => self.begin_case(subjects, line),
@@ -258,7 +258,7 @@ impl<'a> Rows<'a> {
             Form::Line => self.append_text(line)?,
             Form::Each => self.begin_loop(template, line)?,
             Form::End if self.end_loop() => {}
-            Form::End => return Err(Fault::BadRow),
+            Form::End => return Err(RowFault::BadRow),
             Form::Row => return Ok(self.run(rt, subjects, line)),
         }
         Ok(Came::NoRow)
@@ -270,7 +270,7 @@ impl<'a> Rows<'a> {
         rt: &HostRuntime,
         subjects: &mut Subjects,
         template: &'a [u8],
-    ) -> Result<Came, Fault> {
+    ) -> Result<Came, RowFault> {
         if !self.is_wanted && form_of(template) == Form::Row {
             return Ok(Came::NoRow);
         }
@@ -292,7 +292,7 @@ impl<'a> Rows<'a> {
         template: &'a [u8],
     ) -> Came {
         let came = match self.step(rt, subjects, template) {
-            Err(Fault::NoMemory) => self.step(rt, subjects, template),
+            Err(RowFault::NoMemory) => self.step(rt, subjects, template),
             came => came,
         };
         match came {

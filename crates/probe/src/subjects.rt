@@ -1,6 +1,6 @@
 //! The subjects of rows. Each group of them keeps the values that its calls change, and makes a call by its words.
-use message_rows::Messages;
-use row_words::{Fault, Told, Words};
+use message_rows::MessageValues;
+use row_words::{Output, RowFault, Words};
 use served_rows::ServedValues;
 use std::alloc::Global;
 use tree_rows::Trees;
@@ -10,7 +10,7 @@ use wire_rows::Wire;
 pub(crate) struct Subjects {
     alloc: Global,
     wire: Wire,
-    messages: Messages,
+    messages: MessageValues,
     trees: Trees,
     served: ServedValues,
 }
@@ -33,7 +33,7 @@ impl Subjects {
         Subjects {
             alloc,
             wire: Wire::new(alloc),
-            messages: Messages::new(alloc),
+            messages: MessageValues::new(alloc),
             trees: Trees::new(alloc),
             served: ServedValues::new(alloc),
         }
@@ -44,22 +44,26 @@ impl Subjects {
         *self = Subjects::new(alloc);
     }
 
-    /// Makes the call that `words` tell, the subject first, and writes its result to `told`.
-    pub(crate) fn call(&mut self, words: &mut Words<'_>, told: &mut Told) -> Result<(), Fault> {
+    /// Makes the call that `words` tell, the subject first, and writes its result to `output`.
+    pub(crate) fn call(
+        &mut self,
+        words: &mut Words<'_>,
+        output: &mut Output,
+    ) -> Result<(), RowFault> {
         let alloc = self.alloc;
         let subject = words.word();
         match subject {
             b"name" | b"perm" | b"codec" | b"queue" | b"arena" | b"fuse" | b"kernel" => {
-                self.wire.call(subject, words, told)
+                self.wire.call(subject, words, output)
             }
             b"broker" | b"desk" | b"frames" | b"mount" | b"node" => {
-                self.messages.call(alloc, subject, words, told)
+                self.messages.call(alloc, subject, words, output)
             }
             b"keys" | b"index" | b"manifest" | b"tree" | b"map" => {
-                self.trees.call(subject, words, told)
+                self.trees.call(subject, words, output)
             }
-            b"served" | b"backing" | b"image" => self.served.call(subject, words, told),
-            _ => Err(Fault::BadRow),
+            b"served" | b"backing" | b"image" => self.served.call(subject, words, output),
+            _ => Err(RowFault::BadRow),
         }
     }
 }

@@ -1,6 +1,6 @@
 //! Lines with the values of loops in them: `{n}`, `{n+1}`, `{n*2-1}`, and `{n:3}` for three digits at least.
 use eden_base::cut;
-use row_words::{Fault, decimal};
+use row_words::{RowFault, decimal};
 use std::alloc::Global;
 
 /// A loop over the lines behind one line, with the value that it has now.
@@ -71,12 +71,12 @@ fn put_value(
     line: &mut Vec<u8>,
     loops: &[Loop<'_>],
     sum: &[u8],
-) -> Result<(), Fault> {
+) -> Result<(), RowFault> {
     let (sum, width) = match cut(sum, b':') {
-        Some((sum, digits)) => (sum, decimal(digits).ok_or(Fault::BadRow)?),
+        Some((sum, digits)) => (sum, decimal(digits).ok_or(RowFault::BadRow)?),
         None => (sum, 1),
     };
-    let value = value_of(loops, sum).ok_or(Fault::BadRow)?;
+    let value = value_of(loops, sum).ok_or(RowFault::BadRow)?;
     let digits = format!(in alloc; "{value}")?;
     let lacking = width.min(255).saturating_sub(digits.len() as u64);
     for _digit in 0..lacking {
@@ -92,7 +92,7 @@ pub(crate) fn fill(
     line: &mut Vec<u8>,
     loops: &[Loop<'_>],
     template: &[u8],
-) -> Result<(), Fault> {
+) -> Result<(), RowFault> {
     line.clear();
     let mut rest = template;
     for _brace in 0..=template.len() {
@@ -101,9 +101,9 @@ pub(crate) fn fill(
             return Ok(());
         };
         line.extend_from_slice(before)?;
-        let (sum, behind) = cut(behind, b'}').ok_or(Fault::BadRow)?;
+        let (sum, behind) = cut(behind, b'}').ok_or(RowFault::BadRow)?;
         put_value(alloc, line, loops, sum)?;
         rest = behind;
     }
-    Err(Fault::BadRow)
+    Err(RowFault::BadRow)
 }

@@ -2,9 +2,9 @@
 //!
 //! A piece is `0x` and hexadecimal digits, `@` and the name of a text, a number as `le32:7` or `be64:7`, or else the
 //! bytes themselves, with `%` and two hexadecimal digits for a byte that stands for something else. Behind it may stand
-//! `[A..B]` for a part, `[I=HEX]` for other bytes from index I on, and `^COUNT` for that many copies.
-use crate::fault::Fault;
+//! `[A..B]` for a part, `[I=HEX]` for other bytes from index I on, and `^COUNT` for COUNT copies.
 use crate::number::{decimal, hex_digit};
+use crate::row_fault::RowFault;
 use crate::texts::Texts;
 use eden_base::cut;
 use std::alloc::Global;
@@ -34,10 +34,10 @@ fn behind<'a>(text: &'a [u8], front: &[u8]) -> Option<&'a [u8]> {
 }
 
 /// Appends the bytes that hexadecimal digits write to `bytes`.
-fn put_hex(bytes: &mut Vec<u8>, digits: &[u8]) -> Result<(), Fault> {
+fn put_hex(bytes: &mut Vec<u8>, digits: &[u8]) -> Result<(), RowFault> {
     let mut high: Option<u8> = None;
     for digit in digits {
-        let value = hex_digit(*digit).ok_or(Fault::BadRow)?;
+        let value = hex_digit(*digit).ok_or(RowFault::BadRow)?;
         high = match high {
             None => Some(value),
             Some(first) => {
@@ -47,7 +47,7 @@ fn put_hex(bytes: &mut Vec<u8>, digits: &[u8]) -> Result<(), Fault> {
         };
     }
     if high.is_some() {
-        return Err(Fault::BadRow);
+        return Err(RowFault::BadRow);
     }
     Ok(())
 }
@@ -61,7 +61,7 @@ enum Escape {
 }
 
 /// Appends `text` to `bytes`, with the byte of each `%` and its two digits in their place.
-fn put_literal(bytes: &mut Vec<u8>, text: &[u8]) -> Result<(), Fault> {
+fn put_literal(bytes: &mut Vec<u8>, text: &[u8]) -> Result<(), RowFault> {
     let mut escape = Escape::None;
     for byte in text {
         escape = match escape {
@@ -70,34 +70,34 @@ fn put_literal(bytes: &mut Vec<u8>, text: &[u8]) -> Result<(), Fault> {
                 bytes.push(*byte)?;
                 Escape::None
             }
-            Escape::Percent => Escape::High(hex_digit(*byte).ok_or(Fault::BadRow)?),
+            Escape::Percent => Escape::High(hex_digit(*byte).ok_or(RowFault::BadRow)?),
             Escape::High(high) => {
-                bytes.push((high & 15) << 4 | hex_digit(*byte).ok_or(Fault::BadRow)?)?;
+                bytes.push((high & 15) << 4 | hex_digit(*byte).ok_or(RowFault::BadRow)?)?;
                 Escape::None
             }
         };
     }
     match escape {
         Escape::None => Ok(()),
-        Escape::Percent | Escape::High(_) => Err(Fault::BadRow),
+        Escape::Percent | Escape::High(_) => Err(RowFault::BadRow),
     }
 }
 
 /// Appends the last `width` bytes of `value` to `bytes`: the least byte first, or last where `is_big`.
-fn put_number(bytes: &mut Vec<u8>, value: u64, width: usize, is_big: bool) -> Result<(), Fault> {
+fn put_number(bytes: &mut Vec<u8>, value: u64, width: usize, is_big: bool) -> Result<(), RowFault> {
     let little = value.to_le_bytes();
     let big = value.to_be_bytes();
-    let told = if is_big {
+    let part = if is_big {
         big.get(8 - width.min(8)..)
     } else {
         little.get(..width.min(8))
     };
-    bytes.extend_from_slice(told.ok_or(Fault::BadRow)?)?;
+    bytes.extend_from_slice(part.ok_or(RowFault::BadRow)?)?;
     Ok(())
 }
 
 /// Appends the number that `text` says, as `le32:7`, to `bytes`. Returns whether it says one.
-fn put_width(bytes: &mut Vec<u8>, text: &[u8]) -> Result<bool, Fault> {
+fn put_width(bytes: &mut Vec<u8>, text: &[u8]) -> Result<bool, RowFault> {
     let Some((form, digits)) = cut(text, b':') else {
         return Ok(false);
     };
@@ -111,16 +111,16 @@ fn put_width(bytes: &mut Vec<u8>, text: &[u8]) -> Result<bool, Fault> {
         b"be64" => (8, true),
         _ => return Ok(false),
     };
-    let value = decimal(digits).ok_or(Fault::BadRow)?;
+    let value = decimal(digits).ok_or(RowFault::BadRow)?;
     put_number(bytes, value, width, is_big)?;
     Ok(true)
 }
 
 /// Makes the bytes of a piece without what stands behind it.
-fn base_of(alloc: Global, texts: &Texts, text: &[u8]) -> Result<Vec<u8>, Fault> {
+fn base_of(alloc: Global, texts: &Texts, text: &[u8]) -> Result<Vec<u8>, RowFault> {
     let mut bytes = Vec::new(alloc);
     if let Some(name) = behind(text, b"@") {
-        let named = texts.get(name).ok_or(Fault::BadRow)?;
+        let named = texts.get(name).ok_or(RowFault::BadRow)?;
         bytes.extend_from_slice(named)?;
     } else if let Some(digits) = behind(text, b"0x") {
         put_hex(&mut bytes, digits)?;
@@ -131,22 +131,22 @@ fn base_of(alloc: Global, texts: &Texts, text: &[u8]) -> Result<Vec<u8>, Fault> 
 }
 
 /// Makes the part of `bytes` that `range` tells, as `2..9`, `2..` or `..9`.
-fn part_of(alloc: Global, bytes: &[u8], range: &[u8]) -> Result<Vec<u8>, Fault> {
-    let (first, rest) = cut(range, b'.').ok_or(Fault::BadRow)?;
-    let end = behind(rest, b".").ok_or(Fault::BadRow)?;
+fn part_of(alloc: Global, bytes: &[u8], range: &[u8]) -> Result<Vec<u8>, RowFault> {
+    let (first, rest) = cut(range, b'.').ok_or(RowFault::BadRow)?;
+    let end = behind(rest, b".").ok_or(RowFault::BadRow)?;
     let first = if first.is_empty() {
         0
     } else {
-        decimal(first).ok_or(Fault::BadRow)?
+        decimal(first).ok_or(RowFault::BadRow)?
     };
     let end = if end.is_empty() {
         bytes.len() as u64
     } else {
-        decimal(end).ok_or(Fault::BadRow)?
+        decimal(end).ok_or(RowFault::BadRow)?
     };
-    let first = usize::try_from(first).ok().ok_or(Fault::BadRow)?;
-    let end = usize::try_from(end).ok().ok_or(Fault::BadRow)?;
-    let part = bytes.get(first..end).ok_or(Fault::BadRow)?;
+    let first = usize::try_from(first).ok().ok_or(RowFault::BadRow)?;
+    let end = usize::try_from(end).ok().ok_or(RowFault::BadRow)?;
+    let part = bytes.get(first..end).ok_or(RowFault::BadRow)?;
     Ok(Vec::from_slice(alloc, part)?)
 }
 
@@ -156,25 +156,25 @@ fn write_over(
     bytes: &mut Vec<u8>,
     index: &[u8],
     digits: &[u8],
-) -> Result<(), Fault> {
+) -> Result<(), RowFault> {
     let mut other = Vec::new(alloc);
     put_hex(&mut other, digits)?;
-    let mut at = usize::try_from(decimal(index).ok_or(Fault::BadRow)?)
+    let mut at = usize::try_from(decimal(index).ok_or(RowFault::BadRow)?)
         .ok()
-        .ok_or(Fault::BadRow)?;
+        .ok_or(RowFault::BadRow)?;
     for byte in &other {
-        *bytes.get_mut(at).ok_or(Fault::BadRow)? = *byte;
+        *bytes.get_mut(at).ok_or(RowFault::BadRow)? = *byte;
         at = at.wrapping_add(1);
     }
     Ok(())
 }
 
 /// Makes `count` copies of `bytes`.
-fn copies_of(alloc: Global, bytes: &[u8], count: &[u8]) -> Result<Vec<u8>, Fault> {
-    let count = decimal(count).ok_or(Fault::BadRow)?;
+fn copies_of(alloc: Global, bytes: &[u8], count: &[u8]) -> Result<Vec<u8>, RowFault> {
+    let count = decimal(count).ok_or(RowFault::BadRow)?;
     let mut copies = Vec::new(alloc);
     if count > MOST_BYTES as u64 {
-        return Err(Fault::BadRow);
+        return Err(RowFault::BadRow);
     }
     for _copy in 0..count {
         copies.extend_from_slice(bytes)?;
@@ -183,23 +183,23 @@ fn copies_of(alloc: Global, bytes: &[u8], count: &[u8]) -> Result<Vec<u8>, Fault
 }
 
 /// Changes `bytes` as the front of `changes` says, and returns the changes behind that.
-fn change<'a>(alloc: Global, bytes: &mut Vec<u8>, changes: &'a [u8]) -> Result<&'a [u8], Fault> {
+fn change<'a>(alloc: Global, bytes: &mut Vec<u8>, changes: &'a [u8]) -> Result<&'a [u8], RowFault> {
     if let Some(inside) = behind(changes, b"[") {
-        let (inner, rest) = cut(inside, b']').ok_or(Fault::BadRow)?;
+        let (inner, rest) = cut(inside, b']').ok_or(RowFault::BadRow)?;
         match cut(inner, b'=') {
             Some((index, digits)) => write_over(alloc, bytes, index, digits)?,
             None => *bytes = part_of(alloc, bytes.as_slice(), inner)?,
         }
         return Ok(rest);
     }
-    let inside = behind(changes, b"^").ok_or(Fault::BadRow)?;
+    let inside = behind(changes, b"^").ok_or(RowFault::BadRow)?;
     let (count, rest) = before_change(inside);
     *bytes = copies_of(alloc, bytes.as_slice(), count)?;
     Ok(rest)
 }
 
 /// Makes the bytes of a piece.
-fn bytes_of_piece(alloc: Global, texts: &Texts, piece: &[u8]) -> Result<Vec<u8>, Fault> {
+fn bytes_of_piece(alloc: Global, texts: &Texts, piece: &[u8]) -> Result<Vec<u8>, RowFault> {
     let (base, changes) = before_change(piece);
     let mut bytes = base_of(alloc, texts, base)?;
     let mut rest = changes;
@@ -209,11 +209,11 @@ fn bytes_of_piece(alloc: Global, texts: &Texts, piece: &[u8]) -> Result<Vec<u8>,
         }
         rest = change(alloc, &mut bytes, rest)?;
     }
-    Err(Fault::BadRow)
+    Err(RowFault::BadRow)
 }
 
 /// Makes the bytes that `word` stands for. `texts` are the named texts.
-pub fn bytes_of(alloc: Global, texts: &Texts, word: &[u8]) -> Result<Vec<u8>, Fault> {
+pub fn bytes_of(alloc: Global, texts: &Texts, word: &[u8]) -> Result<Vec<u8>, RowFault> {
     let mut bytes = Vec::new(alloc);
     let mut rest = Some(word);
     for _piece in 0..=word.len() {

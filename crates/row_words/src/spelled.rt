@@ -8,9 +8,9 @@
 ghost use Rattle.std.specs.Prelude.{IfOk};
 ghost use Rattle.fuse_wire.specs.Request.{IsSendable};
 
-use crate::fault::Fault;
+use crate::output::Output;
+use crate::row_fault::RowFault;
 use crate::table::chosen;
-use crate::told::Told;
 use crate::words::Words;
 use eden_base::{Attr, Errno, Kind, Name, NameFault, Number, Perm, cut};
 use fuse_wire::{Answer, Batch, Item, Items, Request, WireFault};
@@ -96,26 +96,26 @@ pub fn name_fault(fault: NameFault) -> &'static str {
 }
 
 /// Writes the fault of bytes that are no message. That of a name has `BadName` before it.
-pub fn tell_wire_fault(told: &mut Told, fault: WireFault) {
+pub fn tell_wire_fault(output: &mut Output, fault: WireFault) {
     match fault {
-        WireFault::Short => told.word("Short"),
-        WireFault::BadLength => told.word("BadLength"),
-        WireFault::BadBody => told.word("BadBody"),
-        WireFault::BadCount => told.word("BadCount"),
-        WireFault::NoMemory => told.word("NoMemory"),
+        WireFault::Short => output.word("Short"),
+        WireFault::BadLength => output.word("BadLength"),
+        WireFault::BadBody => output.word("BadBody"),
+        WireFault::BadCount => output.word("BadCount"),
+        WireFault::NoMemory => output.word("NoMemory"),
         WireFault::BadName(fault) => {
-            told.word("BadName");
-            told.word(name_fault(fault));
+            output.word("BadName");
+            output.word(name_fault(fault));
         }
     }
 }
 
 /// Makes the name of `bytes`.
-pub fn name_of(alloc: Global, bytes: &[u8]) -> Result<Name, Fault> {
+pub fn name_of(alloc: Global, bytes: &[u8]) -> Result<Name, RowFault> {
     match Name::parse(alloc, bytes) {
         Ok(name) => Ok(name),
-        Err(NameFault::NoMemory) => Err(Fault::NoMemory),
-        Err(_) => Err(Fault::BadRow),
+        Err(NameFault::NoMemory) => Err(RowFault::NoMemory),
+        Err(_) => Err(RowFault::BadRow),
     }
 }
 
@@ -199,8 +199,8 @@ fn read_file(words: &mut Words<'_>) -> (Number, Attr) {
 }
 
 /// Reads the words that are left as an answer.
-pub fn read_answer(words: &mut Words<'_>) -> Result<Answer, Fault> {
-    let kind = chosen(&ANSWER_KINDS, words.word()).ok_or(Fault::BadRow)?;
+pub fn read_answer(words: &mut Words<'_>) -> Result<Answer, RowFault> {
+    let kind = chosen(&ANSWER_KINDS, words.word()).ok_or(RowFault::BadRow)?;
     let answer = match kind {
         AnswerKind::Entry => {
             let (number, attr) = read_file(words);
@@ -222,7 +222,7 @@ pub fn read_answer(words: &mut Words<'_>) -> Result<Answer, Fault> {
 }
 
 /// Reads the words behind `getattr`.
-fn read_getattr(words: &mut Words<'_>) -> Result<Request, Fault>
+fn read_getattr(words: &mut Words<'_>) -> Result<Request, RowFault>
     ensures sendable { IfOk result IsSendable }
 {
     let node = Number(words.number());
@@ -232,17 +232,17 @@ fn read_getattr(words: &mut Words<'_>) -> Result<Request, Fault>
 
 /// Reads the words behind `other`.
 #[tactic(auto, unfolding(fuse_wire::specs::Request::opcode_of))]
-fn read_other(words: &mut Words<'_>) -> Result<Request, Fault>
+fn read_other(words: &mut Words<'_>) -> Result<Request, RowFault>
     ensures sendable { IfOk result IsSendable }
 {
     let opcode = read_u32(words);
     let node = Number(words.number());
     words.end()?;
-    Request::other(opcode, node).ok_or(Fault::BadRow)
+    Request::other(opcode, node).ok_or(RowFault::BadRow)
 }
 
 /// Reads the words behind `forget`.
-fn read_forget(words: &mut Words<'_>) -> Result<Request, Fault>
+fn read_forget(words: &mut Words<'_>) -> Result<Request, RowFault>
     ensures sendable { IfOk result IsSendable }
 {
     let node = Number(words.number());
@@ -263,7 +263,7 @@ fn read_item(words: &mut Words<'_>, items: &mut Items) {
 }
 
 /// Reads the words that are left as items.
-pub fn read_items(words: &mut Words<'_>) -> Result<Items, Fault> {
+pub fn read_items(words: &mut Words<'_>) -> Result<Items, RowFault> {
     let mut items = Items::new();
     for _item in 0..=Items::MAX_LEN {
         if !words.has_more() {
@@ -276,7 +276,7 @@ pub fn read_items(words: &mut Words<'_>) -> Result<Items, Fault> {
 }
 
 /// Reads the words behind `forgets`.
-fn read_forgets(alloc: Global, words: &mut Words<'_>) -> Result<Request, Fault>
+fn read_forgets(alloc: Global, words: &mut Words<'_>) -> Result<Request, RowFault>
     ensures sendable { IfOk result IsSendable }
 {
     let items = read_items(words)?;
@@ -284,7 +284,7 @@ fn read_forgets(alloc: Global, words: &mut Words<'_>) -> Result<Request, Fault>
 }
 
 /// Reads the words behind `lookup`, `unlink` or `rmdir`, as `kind` says.
-fn read_named(alloc: Global, kind: NamedKind, words: &mut Words<'_>) -> Result<Request, Fault>
+fn read_named(alloc: Global, kind: NamedKind, words: &mut Words<'_>) -> Result<Request, RowFault>
     ensures sendable { IfOk result IsSendable }
 {
     let dir = Number(words.number());
@@ -299,7 +299,7 @@ fn read_named(alloc: Global, kind: NamedKind, words: &mut Words<'_>) -> Result<R
 }
 
 /// Reads the words behind `create`, or else behind `mkdir`.
-fn read_made(alloc: Global, is_create: bool, words: &mut Words<'_>) -> Result<Request, Fault>
+fn read_made(alloc: Global, is_create: bool, words: &mut Words<'_>) -> Result<Request, RowFault>
     ensures sendable { IfOk result IsSendable }
 {
     let dir = Number(words.number());
@@ -315,14 +315,14 @@ fn read_made(alloc: Global, is_create: bool, words: &mut Words<'_>) -> Result<Re
 }
 
 /// Reads the words behind `rename`.
-fn read_move(alloc: Global, words: &mut Words<'_>) -> Result<Request, Fault>
+fn read_move(alloc: Global, words: &mut Words<'_>) -> Result<Request, RowFault>
     ensures sendable { IfOk result IsSendable }
 {
     let dir = Number(words.number());
     let to_dir = Number(words.number());
     let bytes = words.bytes();
     words.end()?;
-    let (old, new) = cut(bytes.as_slice(), b'/').ok_or(Fault::BadRow)?;
+    let (old, new) = cut(bytes.as_slice(), b'/').ok_or(RowFault::BadRow)?;
     let name = name_of(alloc, old)?;
     let to_name = name_of(alloc, new)?;
     Ok(Request::Rename {
@@ -334,10 +334,10 @@ fn read_move(alloc: Global, words: &mut Words<'_>) -> Result<Request, Fault>
 }
 
 /// Reads the words that are left as a request.
-pub fn read_request(alloc: Global, words: &mut Words<'_>) -> Result<Request, Fault>
+pub fn read_request(alloc: Global, words: &mut Words<'_>) -> Result<Request, RowFault>
     ensures sendable { IfOk result IsSendable }
 {
-    let kind = chosen(&REQUEST_KINDS, words.word()).ok_or(Fault::BadRow)?;
+    let kind = chosen(&REQUEST_KINDS, words.word()).ok_or(RowFault::BadRow)?;
     match kind {
         RequestKind::Named(kind) => read_named(alloc, kind, words),
         RequestKind::Create => read_made(alloc, true, words),
@@ -351,100 +351,100 @@ pub fn read_request(alloc: Global, words: &mut Words<'_>) -> Result<Request, Fau
 }
 
 /// Writes attributes.
-pub fn tell_attr(told: &mut Told, attr: &Attr) {
-    told.word(attr.kind.name());
-    told.octal(attr.perm.bits());
-    told.number(attr.size);
-    told.number(u64::from(attr.nlink));
+pub fn tell_attr(output: &mut Output, attr: &Attr) {
+    output.word(attr.kind.name());
+    output.octal(attr.perm.bits());
+    output.number(attr.size);
+    output.number(u64::from(attr.nlink));
 }
 
 /// Writes `word`, a number, and the attributes of its file.
-fn tell_file(told: &mut Told, word: &str, number: Number, attr: &Attr) {
-    told.word(word);
-    told.number(number.0);
-    tell_attr(told, attr);
+fn tell_file(output: &mut Output, word: &str, number: Number, attr: &Attr) {
+    output.word(word);
+    output.number(number.0);
+    tell_attr(output, attr);
 }
 
 /// Writes an answer.
-pub fn tell_answer(told: &mut Told, answer: &Answer) {
+pub fn tell_answer(output: &mut Output, answer: &Answer) {
     match answer {
-        Answer::Entry { number, attr } => tell_file(told, "entry", *number, attr),
-        Answer::Opened { number, attr } => tell_file(told, "opened", *number, attr),
-        Answer::Attrs { number, attr } => tell_file(told, "attr", *number, attr),
-        Answer::Done => told.word("done"),
+        Answer::Entry { number, attr } => tell_file(output, "entry", *number, attr),
+        Answer::Opened { number, attr } => tell_file(output, "opened", *number, attr),
+        Answer::Attrs { number, attr } => tell_file(output, "attr", *number, attr),
+        Answer::Done => output.word("done"),
         Answer::Error(errno) => {
-            told.word("error");
-            told.word(errno.name());
+            output.word("error");
+            output.word(errno.name());
         }
     }
 }
 
 /// Writes the number and the count of each item.
-pub fn tell_items(told: &mut Told, items: &[Item]) {
+pub fn tell_items(output: &mut Output, items: &[Item]) {
     for item in items {
-        told.number(item.node.0);
-        told.number(item.k);
+        output.number(item.node.0);
+        output.number(item.k);
     }
 }
 
 /// Writes `word`, a directory's number, and a name in it.
-fn tell_named(told: &mut Told, word: &str, dir: Number, name: &Name) {
-    told.word(word);
-    told.number(dir.0);
-    told.bytes(name.bytes());
+fn tell_named(output: &mut Output, word: &str, dir: Number, name: &Name) {
+    output.word(word);
+    output.number(dir.0);
+    output.bytes(name.bytes());
 }
 
 /// Writes `word`, a directory's number, permissions, and a name in it.
-fn tell_made(told: &mut Told, word: &str, dir: Number, perm: Perm, name: &Name) {
-    told.word(word);
-    told.number(dir.0);
-    told.octal(perm.bits());
-    told.bytes(name.bytes());
+fn tell_made(output: &mut Output, word: &str, dir: Number, perm: Perm, name: &Name) {
+    output.word(word);
+    output.number(dir.0);
+    output.octal(perm.bits());
+    output.bytes(name.bytes());
 }
 
 /// Writes a request.
-pub fn tell_request(told: &mut Told, request: &Request) {
+pub fn tell_request(output: &mut Output, request: &Request) {
     match request {
-        Request::Lookup { dir, name } => tell_named(told, "lookup", *dir, name),
-        Request::Unlink { dir, name } => tell_named(told, "unlink", *dir, name),
-        Request::Rmdir { dir, name } => tell_named(told, "rmdir", *dir, name),
-        Request::Create { dir, name, perm } => tell_made(told, "create", *dir, *perm, name),
-        Request::Mkdir { dir, name, perm } => tell_made(told, "mkdir", *dir, *perm, name),
+        Request::Lookup { dir, name } => tell_named(output, "lookup", *dir, name),
+        Request::Unlink { dir, name } => tell_named(output, "unlink", *dir, name),
+        Request::Rmdir { dir, name } => tell_named(output, "rmdir", *dir, name),
+        Request::Create { dir, name, perm } => tell_made(output, "create", *dir, *perm, name),
+        Request::Mkdir { dir, name, perm } => tell_made(output, "mkdir", *dir, *perm, name),
         Request::Rename {
             dir,
             name,
             to_dir,
             to_name,
         } => {
-            told.word("rename");
-            told.number(dir.0);
-            told.number(to_dir.0);
-            told.bytes(name.bytes());
-            told.behind_slash(to_name.bytes());
+            output.word("rename");
+            output.number(dir.0);
+            output.number(to_dir.0);
+            output.bytes(name.bytes());
+            output.behind_slash(to_name.bytes());
         }
-        _ => tell_of_number(told, request),
+        _ => tell_of_number(output, request),
     }
 }
 
 /// Writes a request that has no name.
-fn tell_of_number(told: &mut Told, request: &Request) {
+fn tell_of_number(output: &mut Output, request: &Request) {
     match request {
         Request::Getattr { node } => {
-            told.word("getattr");
-            told.number(node.0);
+            output.word("getattr");
+            output.number(node.0);
         }
         Request::Other { opcode, node } => {
-            told.word("other");
-            told.number(u64::from(*opcode));
-            told.number(node.0);
+            output.word("other");
+            output.number(u64::from(*opcode));
+            output.number(node.0);
         }
         Request::BatchForget(batch) => {
-            told.word("forgets");
-            tell_items(told, batch.as_slice());
+            output.word("forgets");
+            tell_items(output, batch.as_slice());
         }
         _ => {
-            told.word("forget");
-            tell_items(told, request.items());
+            output.word("forget");
+            tell_items(output, request.items());
         }
     }
 }

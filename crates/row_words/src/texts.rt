@@ -1,5 +1,5 @@
 //! The texts that a file of cases has named.
-use crate::fault::Fault;
+use crate::row_fault::RowFault;
 use std::alloc::Global;
 
 /// A text with its name.
@@ -34,7 +34,7 @@ impl Texts {
     }
 
     /// Has `name` name `bytes` from now on.
-    pub fn set(&mut self, alloc: Global, name: &[u8], bytes: Vec<u8>) -> Result<(), Fault> {
+    pub fn set(&mut self, alloc: Global, name: &[u8], bytes: Vec<u8>) -> Result<(), RowFault> {
         for text in &mut self.texts {
             if text.name.as_slice() == name {
                 text.bytes = bytes;
@@ -47,7 +47,7 @@ impl Texts {
     }
 
     /// Appends `line` and a line feed to the text that `name` names, which is empty if there is none.
-    pub fn append(&mut self, alloc: Global, name: &[u8], line: &[u8]) -> Result<(), Fault> {
+    pub fn append(&mut self, alloc: Global, name: &[u8], line: &[u8]) -> Result<(), RowFault> {
         let mut bytes = match self.get(name) {
             Some(text) => Vec::from_slice(alloc, text)?,
             None => Vec::new(alloc),

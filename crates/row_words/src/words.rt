@@ -1,7 +1,7 @@
 //! The words of a call.
-use crate::fault::Fault;
 use crate::number::decimal;
 use crate::pieces::bytes_of;
+use crate::row_fault::RowFault;
 use crate::texts::Texts;
 use eden_base::{Name, NameFault, cut};
 use std::alloc::Global;
@@ -13,7 +13,7 @@ pub struct Words<'a> {
     alloc: Global,
     texts: &'a Texts,
     rest: &'a [u8],
-    fault: Option<Fault>,
+    fault: Option<RowFault>,
 }
 
 impl<'a> Words<'a> {
@@ -34,7 +34,7 @@ impl<'a> Words<'a> {
 
     /// Notes that a word is none of those that may stand there.
     pub fn refuse(&mut self) {
-        self.fault = Some(Fault::BadRow);
+        self.fault = Some(RowFault::BadRow);
     }
 
     /// Returns whether there are more words.
@@ -43,11 +43,11 @@ impl<'a> Words<'a> {
     }
 
     /// Ends the reading: returns the fault if a word was none of those that may stand there, or if words are left.
-    pub fn end(&self) -> Result<(), Fault> {
+    pub fn end(&self) -> Result<(), RowFault> {
         match self.fault {
             Some(fault) => Err(fault),
             None if self.rest.is_empty() => Ok(()),
-            None => Err(Fault::BadRow),
+            None => Err(RowFault::BadRow),
         }
     }
 
@@ -98,7 +98,7 @@ impl<'a> Words<'a> {
         match Name::parse(self.alloc, bytes.as_slice()) {
             Ok(name) => Some(name),
             Err(NameFault::NoMemory) => {
-                self.fault = Some(Fault::NoMemory);
+                self.fault = Some(RowFault::NoMemory);
                 None
             }
             Err(_) => {

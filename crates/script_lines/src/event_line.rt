@@ -156,7 +156,7 @@ fn read_failing(words: &[u8]) -> Option<(u64, bool)>
     Some((number(position)?, true))
 }
 
-/// Reads two numbers, separated by a space.
+/// Reads two numbers, separated by a space: what follows `post`, `hear`, `forget` or `other`.
 pub(crate) fn read_pair(words: &[u8]) -> Option<(u64, u64)>
     ensures { result ≡ pair_of words.now }
 {

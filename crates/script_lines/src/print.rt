@@ -322,7 +322,8 @@ fn print_kept<W: Write>(
     print_place(out, place)
 }
 
-/// Prints how often a number is held, is under way up and down, and is counted by its daemon.
+/// Prints how often the kernel holds a number, how many lookups of it forgets under way take back (`up`, to the daemon) and
+/// replies under way give out (`down`, to the kernel), and `count`, its daemon's own count.
 fn print_counts<W: Write>(
     out: &mut W,
     world: &World,

@@ -77,7 +77,7 @@ impl Sums {
         self.sums = [0; WIDTH];
     }
 
-    /// Returns the index of the sum for `number`, if `number` is among the summed ones.
+    /// Returns the index of the sum for `number`, or none if `number` isn't one of the 256 from `low` on.
     pub(crate) fn index_of(&self, number: Number) -> Option<usize>
         ensures { MatchOption result (number.0 < self.now.low ⊎ self.now.low + 256 ≤ number.0)
             (λ at. (at < 256) × (self.now.low + at ≡ number.0)) }

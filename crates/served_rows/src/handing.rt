@@ -12,22 +12,22 @@ use crate::hosted::{Hosted, taken};
 use crate::{read_usize, read_version};
 use map_codec::{HandoverFault, hand_over, image_of};
 use map_image::{named_by, read, write};
-use row_words::{Fault, Told, Words};
+use row_words::{Output, RowFault, Words};
 
 /// Hands over.
-fn hand(hosted: &Hosted, words: &mut Words<'_>, told: &mut Told) -> Result<(), Fault> {
+fn hand(hosted: &Hosted, words: &mut Words<'_>, output: &mut Output) -> Result<(), RowFault> {
     let generation = words.number();
     let version = read_version(words);
     words.end()?;
     match hand_over(hosted.alloc(), hosted.served(), generation, version) {
-        Ok(bytes) => told.bytes(bytes.as_slice()),
-        Err(fault) => told.word(handover_word(fault)?),
+        Ok(bytes) => output.bytes(bytes.as_slice()),
+        Err(fault) => output.word(handover_word(fault)?),
     }
     Ok(())
 }
 
 /// Writes the image of what is served.
-fn image(hosted: &Hosted, words: &mut Words<'_>, told: &mut Told) -> Result<(), Fault> {
+fn image(hosted: &Hosted, words: &mut Words<'_>, output: &mut Output) -> Result<(), RowFault> {
     let generation = words.number();
     let version = read_version(words);
     words.end()?;
@@ -40,54 +40,63 @@ fn image(hosted: &Hosted, words: &mut Words<'_>, told: &mut Told) -> Result<(), 
     let written = write(hosted.alloc(), &image, version);
     drop(image);
     match written {
-        Ok(bytes) => told.bytes(bytes.as_slice()),
-        Err(fault) => told.word(write_word(fault)?),
+        Ok(bytes) => output.bytes(bytes.as_slice()),
+        Err(fault) => output.word(write_word(fault)?),
     }
     Ok(())
 }
 
 /// Takes over.
-fn take(hosted: &mut Hosted, words: &mut Words<'_>, told: &mut Told) -> Result<(), Fault> {
+fn take(hosted: &mut Hosted, words: &mut Words<'_>, output: &mut Output) -> Result<(), RowFault> {
     let limit = read_usize(words);
     let generation = words.number();
     let bytes = words.bytes();
     words.end()?;
     match hosted.take(bytes.as_slice(), limit, generation) {
-        Ok(()) => told.word("ok"),
-        Err(fault) => told.word(handover_word(fault)?),
+        Ok(()) => output.word("ok"),
+        Err(fault) => output.word(handover_word(fault)?),
     }
     Ok(())
 }
 
 /// Restores the image in `bytes`.
-fn restore(hosted: &mut Hosted, bytes: &[u8], limit: usize, told: &mut Told) -> Result<(), Fault> {
+fn restore(
+    hosted: &mut Hosted,
+    bytes: &[u8],
+    limit: usize,
+    output: &mut Output,
+) -> Result<(), RowFault> {
     match read(hosted.alloc(), bytes) {
         Ok(image) => match hosted.raise(image, limit) {
-            Ok(()) => told.word("ok"),
-            Err(fault) => tell_raise_fault(told, fault)?,
+            Ok(()) => output.word("ok"),
+            Err(fault) => tell_raise_fault(output, fault)?,
         },
-        Err(fault) => told.word(image_word(fault)?),
+        Err(fault) => output.word(image_word(fault)?),
     }
     Ok(())
 }
 
 /// Restores an image.
-fn raise(hosted: &mut Hosted, words: &mut Words<'_>, told: &mut Told) -> Result<(), Fault> {
+fn raise(hosted: &mut Hosted, words: &mut Words<'_>, output: &mut Output) -> Result<(), RowFault> {
     let limit = read_usize(words);
     let bytes = words.bytes();
     words.end()?;
-    restore(hosted, bytes.as_slice(), limit, told)
+    restore(hosted, bytes.as_slice(), limit, output)
 }
 
 /// Hands over, and restores what was handed over.
-fn hand_on(hosted: &mut Hosted, words: &mut Words<'_>, told: &mut Told) -> Result<(), Fault> {
+fn hand_on(
+    hosted: &mut Hosted,
+    words: &mut Words<'_>,
+    output: &mut Output,
+) -> Result<(), RowFault> {
     let limit = read_usize(words);
     let generation = words.number();
     let version = read_version(words);
     words.end()?;
     match hand_over(hosted.alloc(), hosted.served(), generation, version) {
-        Ok(bytes) => restore(hosted, bytes.as_slice(), limit, told)?,
-        Err(fault) => told.word(handover_word(fault)?),
+        Ok(bytes) => restore(hosted, bytes.as_slice(), limit, output)?,
+        Err(fault) => output.word(handover_word(fault)?),
     }
     Ok(())
 }
@@ -114,14 +123,14 @@ fn is_passed(
 }
 
 /// Tells whether what is handed over and taken over is handed over as the same bytes.
-fn pass(hosted: &Hosted, words: &mut Words<'_>, told: &mut Told) -> Result<(), Fault> {
+fn pass(hosted: &Hosted, words: &mut Words<'_>, output: &mut Output) -> Result<(), RowFault> {
     let limit = read_usize(words);
     let generation = words.number();
     let version = read_version(words);
     words.end()?;
     match is_passed(hosted, limit, generation, version) {
-        Ok(is_passed) => told.flag(is_passed),
-        Err(fault) => told.word(handover_word(fault)?),
+        Ok(is_passed) => output.flag(is_passed),
+        Err(fault) => output.word(handover_word(fault)?),
     }
     Ok(())
 }
@@ -131,15 +140,15 @@ pub(crate) fn call_handing(
     hosted: &mut Hosted,
     call: &[u8],
     words: &mut Words<'_>,
-    told: &mut Told,
-) -> Result<(), Fault> {
+    output: &mut Output,
+) -> Result<(), RowFault> {
     match call {
-        b"hand" => hand(hosted, words, told),
-        b"image" => image(hosted, words, told),
-        b"take" => take(hosted, words, told),
-        b"raise" => raise(hosted, words, told),
-        b"on" => hand_on(hosted, words, told),
-        b"pass" => pass(hosted, words, told),
-        _ => Err(Fault::BadRow),
+        b"hand" => hand(hosted, words, output),
+        b"image" => image(hosted, words, output),
+        b"take" => take(hosted, words, output),
+        b"raise" => raise(hosted, words, output),
+        b"on" => hand_on(hosted, words, output),
+        b"pass" => pass(hosted, words, output),
+        _ => Err(RowFault::BadRow),
     }
 }

@@ -10,11 +10,11 @@ use fuse_wire::{Answer, Request};
 use manifest::{Content, Manifest, ManifestFaultKind};
 use map_codec::{HandoverFault, RaiseFault, raise, take_over};
 use map_image::Image;
-use row_words::Fault;
+use row_words::RowFault;
 use std::alloc::Global;
 use std::marker::Model;
 
-/// When a backing fails: once, behind so many answers, if it has not failed yet.
+/// When a backing fails: once, behind this count of answers, if it has not failed yet.
 #[derive(Clone, Copy)]
 pub(crate) struct Plan {
     pub(crate) answers: u64,
@@ -81,11 +81,11 @@ impl Model for Hosted {
 }
 
 /// Reads the manifest in `text`.
-fn manifest_of(alloc: Global, text: &[u8]) -> Result<Manifest, Fault> {
+fn manifest_of(alloc: Global, text: &[u8]) -> Result<Manifest, RowFault> {
     match Manifest::read(alloc, text) {
         Ok(manifest) => Ok(manifest),
-        Err(fault) if fault.kind == ManifestFaultKind::NoMemory => Err(Fault::NoMemory),
-        Err(_) => Err(Fault::BadRow),
+        Err(fault) if fault.kind == ManifestFaultKind::NoMemory => Err(RowFault::NoMemory),
+        Err(_) => Err(RowFault::BadRow),
     }
 }
 
@@ -104,7 +104,7 @@ pub(crate) fn taken(
 
 impl Hosted {
     /// Begins to serve the manifest in `text`, with up to `limit` attributes loaded.
-    pub(crate) fn of(alloc: Global, text: &[u8], limit: usize) -> Result<Hosted, Fault> {
+    pub(crate) fn of(alloc: Global, text: &[u8], limit: usize) -> Result<Hosted, RowFault> {
         let manifest = manifest_of(alloc, text)?;
         match Served::new(alloc, &manifest, limit) {
             Ok(served) => Ok(Hosted {
@@ -114,7 +114,7 @@ impl Hosted {
             }),
             Err(NoMemory) => {
                 drop(manifest);
-                Err(Fault::NoMemory)
+                Err(RowFault::NoMemory)
             }
         }
     }

@@ -12,7 +12,7 @@ mod wholes;
 use crate::hosted::{Hosted, Plan};
 use crate::wholes::FitImage;
 use map_image::{ImageReader, PartReader};
-use row_words::{Fault, Told, Words};
+use row_words::{Output, RowFault, Words};
 use std::alloc::Global;
 
 /// What one daemon serves, with its manifest, and when the backing below it fails.
@@ -72,13 +72,13 @@ impl ServedValues {
         &mut self,
         subject: &[u8],
         words: &mut Words<'_>,
-        told: &mut Told,
-    ) -> Result<(), Fault> {
+        output: &mut Output,
+    ) -> Result<(), RowFault> {
         match subject {
-            b"served" => self.serving.call(words, told),
-            b"backing" => self.serving.plan(words, told),
-            b"image" => self.images.call(words, told),
-            _ => Err(Fault::BadRow),
+            b"served" => self.serving.call(words, output),
+            b"backing" => self.serving.plan(words, output),
+            b"image" => self.images.call(words, output),
+            _ => Err(RowFault::BadRow),
         }
     }
 }

@@ -8,7 +8,7 @@ ghost use Rattle.map_image.specs.Fit.{IsFit};
 
 use crate::faults::{image_word, write_word};
 use map_image::{Image, ImageFault, cut, read, write};
-use row_words::{Fault, Told, Words};
+use row_words::{Output, RowFault, Words};
 use std::alloc::{AllocError, Global};
 
 /// How many entries have a name of 255 letters.
@@ -49,23 +49,27 @@ fn image_with(alloc: Global, name: &[u8]) -> Result<Image, ImageFault>
 }
 
 /// Makes the call.
-pub(crate) fn longest(alloc: Global, words: &mut Words<'_>, told: &mut Told) -> Result<(), Fault> {
+pub(crate) fn longest(
+    alloc: Global,
+    words: &mut Words<'_>,
+    output: &mut Output,
+) -> Result<(), RowFault> {
     let name = words.bytes();
     words.end()?;
     let written = match image_with(alloc, name.as_slice()) {
         Ok(image) => write(alloc, &image, 2),
         Err(fault) => {
-            told.word(image_word(fault)?);
+            output.word(image_word(fault)?);
             return Ok(());
         }
     };
     match written {
         Ok(text) if !text.is_empty() => {
-            told.number(text.len() as u64);
-            told.number(cut(alloc, text.as_slice())?.len() as u64);
+            output.number(text.len() as u64);
+            output.number(cut(alloc, text)?.len() as u64);
         }
-        Ok(_empty) => told.word("none"),
-        Err(fault) => told.word(write_word(fault)?),
+        Ok(_empty) => output.word("none"),
+        Err(fault) => output.word(write_word(fault)?),
     }
     Ok(())
 }

@@ -10,7 +10,7 @@ use crate::Images;
 use crate::faults::image_word;
 use eden_base::NoMemory;
 use map_image::{Image, ImageFault, ImageReader, PartReader};
-use row_words::{Fault, Told, Words};
+use row_words::{Output, RowFault, Words};
 use std::alloc::Global;
 
 /// Makes a reader that was fed nothing.
@@ -45,34 +45,39 @@ pub(crate) fn image_of_each(alloc: Global, bytes: &[u8]) -> Result<Image, ImageF
 
 impl Images {
     /// Ends the reading, and keeps the image.
-    fn end(&mut self, told: &mut Told) -> Result<(), Fault> {
+    fn end(&mut self, output: &mut Output) -> Result<(), RowFault> {
         match self.reader.take() {
-            Some(reader) => self.keep(reader.finish(), told),
-            None => Err(Fault::BadRow),
+            Some(reader) => self.keep(reader.finish(), output),
+            None => Err(RowFault::BadRow),
         }
     }
 
     /// Reads the parts as if they had been fed.
-    fn read_parts(&mut self) -> Result<(), Fault> {
+    fn read_parts(&mut self) -> Result<(), RowFault> {
         let Some(parts) = self.parts.as_ref() else {
-            return Err(Fault::BadRow);
+            return Err(RowFault::BadRow);
         };
         self.reader = Some(parts.read()?);
         Ok(())
     }
 
     /// Feeds a piece to the reader, or a part to that of parts.
-    fn feed(&mut self, call: &[u8], words: &mut Words<'_>, told: &mut Told) -> Result<(), Fault> {
+    fn feed(
+        &mut self,
+        call: &[u8],
+        words: &mut Words<'_>,
+        output: &mut Output,
+    ) -> Result<(), RowFault> {
         let piece = words.bytes();
         words.end()?;
         let fed = match (call, self.reader.as_mut(), self.parts.as_mut()) {
             (b"feed", Some(reader), _) => reader.feed(piece.as_slice()),
             (b"part", _, Some(parts)) => parts.feed(piece.as_slice()),
-            _ => return Err(Fault::BadRow),
+            _ => return Err(RowFault::BadRow),
         };
         match fed {
-            Ok(()) => told.word("ok"),
-            Err(fault) => told.word(image_word(fault)?),
+            Ok(()) => output.word("ok"),
+            Err(fault) => output.word(image_word(fault)?),
         }
         Ok(())
     }
@@ -82,17 +87,17 @@ impl Images {
         &mut self,
         call: &[u8],
         words: &mut Words<'_>,
-        told: &mut Told,
-    ) -> Result<(), Fault> {
+        output: &mut Output,
+    ) -> Result<(), RowFault> {
         match call {
-            b"feed" | b"part" => return self.feed(call, words, told),
-            b"end" => return self.end(told),
+            b"feed" | b"part" => return self.feed(call, words, output),
+            b"end" => return self.end(output),
             b"new" => self.reader = Some(ImageReader::new(self.alloc)?),
             b"parts" => self.parts = Some(PartReader::new(self.alloc)),
             b"again" => self.read_parts()?,
-            _ => return Err(Fault::BadRow),
+            _ => return Err(RowFault::BadRow),
         }
-        told.word("ok");
+        output.word("ok");
         words.end()
     }
 }

@@ -4,7 +4,6 @@
 //! the first of LEN bytes, and `image each BYTES: ok | FAULT` byte by byte.
 //! `image write VERSION: BYTES | FAULT` writes the image that was kept, and `image write VERSION BYTES: yes | no | FAULT`
 //! tells whether it is written as these bytes.
-//! `image counted COUNT VERSION BYTES: ok | FAULT` reads an image, and writes it with another count in its first entry.
 //! `image cut BYTES: PARTS LAST yes` cuts bytes into parts: how many, the length of the last one, and whether they are
 //! the bytes, in pieces of 4,096.
 //! The other calls stand in `readers.rt` and `longest.rt`.
@@ -16,8 +15,8 @@ use crate::longest::longest;
 use crate::readers::{image_of_each, image_of_two};
 use crate::{Images, read_usize, read_version};
 use byte_codec::Bytes;
-use map_image::{Entries, Image, ImageFault, PART_LEN, WriteFault, cut, read, write};
-use row_words::{Fault, Told, Words};
+use map_image::{Image, ImageFault, PART_LEN, WriteFault, cut, read, write};
+use row_words::{Output, RowFault, Words};
 use std::alloc::Global;
 use std::marker::Model;
 
@@ -57,29 +56,6 @@ fn image_by(alloc: Global, call: &[u8], bytes: &[u8], len: usize) -> Result<Imag
     }
 }
 
-/// Returns `image` with `count` in its first entry.
-fn with_count(image: Image, count: u64) -> Image {
-    let mut image = image;
-    let mut kept = image.entries.into_vec();
-    if let Some(first) = kept.get_mut(0) {
-        first.count = count;
-    }
-    image.entries = Entries::of(kept);
-    image
-}
-
-/// Writes `image` in `version` if it is fit, and tells that it was written.
-fn tell_written(alloc: Global, image: &Image, version: u16, told: &mut Told) -> Result<(), Fault> {
-    if !image.is_fit(alloc)? {
-        return Err(Fault::BadRow);
-    }
-    match write(alloc, image, version) {
-        Ok(_bytes) => told.word("ok"),
-        Err(fault) => told.word(write_word(fault)?),
-    }
-    Ok(())
-}
-
 /// Returns whether `parts` are the pieces of `text`.
 fn are_pieces(parts: &[Bytes], text: &[u8]) -> bool {
     let mut rest = text;
@@ -98,22 +74,27 @@ impl Images {
     pub(crate) fn keep(
         &mut self,
         read: Result<Image, ImageFault>,
-        told: &mut Told,
-    ) -> Result<(), Fault>
+        output: &mut Output,
+    ) -> Result<(), RowFault>
         requires fit { IfOk read IsFit }
     {
         match read {
             Ok(image) => {
                 self.image = Some(FitImage { image });
-                told.word("ok");
+                output.word("ok");
             }
-            Err(fault) => told.word(image_word(fault)?),
+            Err(fault) => output.word(image_word(fault)?),
         }
         Ok(())
     }
 
     /// Reads an image whole, in two pieces or byte by byte, as `call` says.
-    fn read(&mut self, call: &[u8], words: &mut Words<'_>, told: &mut Told) -> Result<(), Fault> {
+    fn read(
+        &mut self,
+        call: &[u8],
+        words: &mut Words<'_>,
+        output: &mut Output,
+    ) -> Result<(), RowFault> {
         let len = if call == b"two".as_slice() {
             read_usize(words)
         } else {
@@ -121,11 +102,11 @@ impl Images {
         };
         let bytes = words.bytes();
         words.end()?;
-        self.keep(image_by(self.alloc, call, bytes.as_slice(), len), told)
+        self.keep(image_by(self.alloc, call, bytes.as_slice(), len), output)
     }
 
     /// Writes the image that was kept.
-    fn write(&self, words: &mut Words<'_>, told: &mut Told) -> Result<(), Fault> {
+    fn write(&self, words: &mut Words<'_>, output: &mut Output) -> Result<(), RowFault> {
         let version = read_version(words);
         let expected = if words.has_more() {
             Some(words.bytes())
@@ -134,53 +115,43 @@ impl Images {
         };
         words.end()?;
         let Some(fit) = self.image.as_ref() else {
-            return Err(Fault::BadRow);
+            return Err(RowFault::BadRow);
         };
         match (fit.write(self.alloc, version), &expected) {
-            (Ok(bytes), None) => told.bytes(bytes.as_slice()),
-            (Ok(bytes), Some(expected)) => told.flag(bytes.as_slice() == expected.as_slice()),
-            (Err(fault), _) => told.word(write_word(fault)?),
-        }
-        Ok(())
-    }
-
-    /// Reads an image, and writes it with another count.
-    fn counted(&self, words: &mut Words<'_>, told: &mut Told) -> Result<(), Fault> {
-        let count = words.number();
-        let version = read_version(words);
-        let bytes = words.bytes();
-        words.end()?;
-        match read(self.alloc, bytes.as_slice()) {
-            Ok(image) => tell_written(self.alloc, &with_count(image, count), version, told)?,
-            Err(fault) => told.word(image_word(fault)?),
+            (Ok(bytes), None) => output.bytes(bytes.as_slice()),
+            (Ok(bytes), Some(expected)) => output.flag(bytes.as_slice() == expected.as_slice()),
+            (Err(fault), _) => output.word(write_word(fault)?),
         }
         Ok(())
     }
 
     /// Cuts bytes into parts.
-    fn cut(&self, words: &mut Words<'_>, told: &mut Told) -> Result<(), Fault> {
+    fn cut(&self, words: &mut Words<'_>, output: &mut Output) -> Result<(), RowFault> {
         let text = words.bytes();
         words.end()?;
         if text.is_empty() {
-            return Err(Fault::BadRow);
+            return Err(RowFault::BadRow);
         }
-        let parts = cut(self.alloc, text.as_slice())?;
-        told.number(parts.len() as u64);
-        told.number(parts.last().map_or(0, |last| last.as_slice().len()) as u64);
-        told.flag(are_pieces(parts.as_slice(), text.as_slice()));
+        let parts = cut(self.alloc, text.as_slice().to_vec(self.alloc)?)?;
+        output.number(parts.len() as u64);
+        output.number(parts.last().map_or(0, |last| last.as_slice().len()) as u64);
+        output.flag(are_pieces(parts.as_slice(), text.as_slice()));
         Ok(())
     }
 
     /// Makes a call of `image`.
-    pub(crate) fn call(&mut self, words: &mut Words<'_>, told: &mut Told) -> Result<(), Fault> {
+    pub(crate) fn call(
+        &mut self,
+        words: &mut Words<'_>,
+        output: &mut Output,
+    ) -> Result<(), RowFault> {
         let call = words.word();
         match call {
-            b"read" | b"two" | b"each" => self.read(call, words, told),
-            b"write" => self.write(words, told),
-            b"counted" => self.counted(words, told),
-            b"cut" => self.cut(words, told),
-            b"longest" => longest(self.alloc, words, told),
-            _ => self.call_readers(call, words, told),
+            b"read" | b"two" | b"each" => self.read(call, words, output),
+            b"write" => self.write(words, output),
+            b"cut" => self.cut(words, output),
+            b"longest" => longest(self.alloc, words, output),
+            _ => self.call_readers(call, words, output),
         }
     }
 }

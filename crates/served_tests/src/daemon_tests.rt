@@ -1,14 +1,11 @@
 //! A new daemon hears data that no daemon of a world says. In a world all daemons have one manifest, and each part but
 //! the last has 4,096 bytes.
-ghost use Rattle.std.specs.Prelude.{◌≡◌, false, IsTrue};
-ghost use Rattle.takeover_core.specs.Phases.{heard, Hear};
-ghost use Rattle.daemon.specs.Talking.{brings_part};
 
 mod count_tests;
 
 use crate::again::manifest_of;
 use byte_codec::Bytes;
-use daemon::{Daemon, Reaction, Turn};
+use daemon::{Daemon, Effect, Reaction};
 use eden_base::NoMemory;
 use manifest::Manifest;
 use std::alloc::{AllocError, Global};
@@ -36,45 +33,29 @@ enum Makes {
     Other,
 }
 
-/// Lets `daemon` hear a part that is not the last, and once more if memory was refused.
-fn fed(alloc: Global, daemon: &mut Daemon, message: &Message) -> Result<Reaction, NoMemory>
-    requires part { IsTrue (brings_part (heard daemon.old.node (Hear message.now))) }
-{
-    match daemon.hear_part(alloc, message) {
-        Err(NoMemory) => daemon.hear_part(alloc, message),
-        reaction => reaction,
-    }
-}
-
-/// Returns the turn of `daemon` by `message`, and tries once more if memory was refused.
-fn turn_by(
+/// Lets `daemon` hear `message`: makes the turn that follows, or reads the part. Returns its reaction.
+fn heard_once(
     alloc: Global,
-    daemon: &Daemon,
+    daemon: &mut Daemon,
     manifest: &Manifest,
     message: &Message,
-) -> Result<Turn, NoMemory>
-    requires no_part { brings_part (heard daemon.now.node (Hear message.now)) ≡ false }
-{
-    match daemon.hear(alloc, manifest, 8, message) {
-        Err(NoMemory) => daemon.hear(alloc, manifest, 8, message),
-        turn => turn,
+) -> Result<Reaction, NoMemory> {
+    match daemon.hear(alloc, manifest, 8, message)? {
+        Effect::Turn(turn) => Ok(daemon.turn(turn)),
+        Effect::Part(node) => daemon.read_part(alloc, node, message),
     }
 }
 
-/// Lets `daemon` hear `message`, and once more if memory was refused. Makes the turn that follows, and returns the
-/// reaction.
+/// Lets `daemon` hear `message`, and once more if memory was refused. Returns its reaction.
 fn heard(
     alloc: Global,
     daemon: &mut Daemon,
     manifest: &Manifest,
     message: &Message,
 ) -> Result<Reaction, NoMemory> {
-    if daemon.is_fed_by(message) {
-        return fed(alloc, daemon, message);
-    }
-    match turn_by(alloc, daemon, manifest, message) {
-        Ok(turn) => Ok(daemon.turn(turn)),
-        Err(NoMemory) => Err(NoMemory),
+    match heard_once(alloc, daemon, manifest, message) {
+        Err(NoMemory) => heard_once(alloc, daemon, manifest, message),
+        reaction => reaction,
     }
 }
 

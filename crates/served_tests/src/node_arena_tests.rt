@@ -1,12 +1,12 @@
 //! Drops of the values of an arena.
 ghost use Rattle.std.specs.Prelude.{◌≤◌};
 
-use node_arena::{Nodes, Slot};
+use node_arena::{NodeArena, Slot};
 use std::alloc::Global;
 use std::cell::Cell;
 
 /// Adds `value`, and returns its slot, or none if the arena is full.
-fn added<T: Drop>(nodes: &mut Nodes<T>, value: T) -> Option<Slot> {
+fn added<T: Drop>(nodes: &mut NodeArena<T>, value: T) -> Option<Slot> {
     match nodes.add(value) {
         Ok(slot) => Some(slot),
         Err(_) => None,
@@ -14,7 +14,7 @@ fn added<T: Drop>(nodes: &mut Nodes<T>, value: T) -> Option<Slot> {
 }
 
 /// Removes the value at `slot` and returns it. Returns none if `slot` was not held before, or is held afterwards.
-fn removed<T: Drop>(nodes: &mut Nodes<T>, slot: Slot) -> Option<T> {
+fn removed<T: Drop>(nodes: &mut NodeArena<T>, slot: Slot) -> Option<T> {
     if !nodes.is_held(slot) {
         return None;
     }
@@ -39,9 +39,13 @@ impl Drop for Counted<'_> {
 /// dropped.
 type Drops = (u32, u32, u32);
 
-/// Adds a value and so many `more`, and drops what the arena gives back. Then removes the first value, and drops it.
+/// Adds a value, and `more` of them, and drops what the arena gives back. Then removes the first value, and drops it.
 /// Returns the counts of drops in between.
-fn drops_in<'a>(nodes: &mut Nodes<Counted<'a>>, drops: &'a Cell<u32>, more: u32) -> Option<Drops> {
+fn drops_in<'a>(
+    nodes: &mut NodeArena<Counted<'a>>,
+    drops: &'a Cell<u32>,
+    more: u32,
+) -> Option<Drops> {
     let first = added(nodes, Counted(drops))?;
     for _more in 0..more {
         drop(nodes.add(Counted(drops)));
@@ -58,7 +62,7 @@ fn drops_of_all(alloc: Global, capacity: usize, more: u32) -> Option<(Drops, u32
     requires capacity { (1 ≤ capacity) × (capacity ≤ 65536) }
 {
     let drops = Cell::new(0);
-    let Ok(mut nodes) = Nodes::new(alloc, capacity) else {
+    let Ok(mut nodes) = NodeArena::new(alloc, capacity) else {
         return None;
     };
     let counts = drops_in(&mut nodes, &drops, more);

@@ -1,20 +1,22 @@
 //! Rounds over channels that have a few asks, and what these rounds leave.
+ghost use Rattle.std.specs.Prelude.{◌≤◌};
+
+mod buffers_tests;
 mod ending_tests;
 mod full_tests;
 mod hooks;
-mod rooms_tests;
 mod rounds;
 mod scripted;
-mod shift_tests;
+mod worker_tests;
 
 use crate::workers_tests::hooks::SecondFirst;
-use crate::workers_tests::rounds::{Change, Left, round, round_again};
+use crate::workers_tests::rounds::{Change, RoundSummary, TwoChannels, round, round_again};
 use std::alloc::Global;
 use std::rt::Clock;
 use std::sync::Wait;
 use std::sync::atomic::Ordering;
 use std::thread::Threads;
-use workers::Stop;
+use workers::{NoHook, RoundOptions, Stop};
 
 /// Serves a round of two channels with one ask each, with uniques `first` and `second`. Returns whether the ask with
 /// unique 2 is first in the journal, and the round is settled exactly if `change` is `None`.
@@ -27,7 +29,7 @@ fn serves_second_first<R: Threads + Wait + Clock + Sync>(
 ) -> bool {
     let hook = SecondFirst::new(rt);
     let place = if first == 2 { 0 } else { 1 };
-    let wanted = Left {
+    let wanted = RoundSummary {
         records: 2,
         first: Some(place),
         second: Some(1 - place),
@@ -35,16 +37,18 @@ fn serves_second_first<R: Threads + Wait + Clock + Sync>(
         replies: 1,
         is_settled: matches!(change, Change::None),
     };
-    let left = round(
-        rt,
-        alloc,
-        &[first],
-        &[second],
-        64,
-        &hook,
-        &Stop::new(),
+    let stop = Stop::new();
+    let row = TwoChannels {
+        first: &[first],
+        second: &[second],
         change,
-    );
+    };
+    let options = RoundOptions {
+        turns: 64,
+        hook: &hook,
+        stop: &stop,
+    };
+    let left = round(rt, alloc, &row, &options);
     left == Some(wanted) && !hook.gave_up.load(Ordering::SeqCst)
 }
 
@@ -67,10 +71,29 @@ fn a_receipt_that_is_taken_out_unsettles_a_round(rt: HostRuntime) {
     assert!(rt; served);
 }
 
+/// Serves a round of at most `turns` turns of each worker over the channels of `row`, without a hook and a stop. Serves
+/// it once more if memory was refused. Returns what the round left.
+fn plain_round<R: Threads + Wait + Sync>(
+    rt: &R,
+    alloc: Global,
+    row: &TwoChannels<'_>,
+    turns: usize,
+) -> Option<RoundSummary>
+    requires turns { (1 ≤ turns) × (turns ≤ 4096) }
+{
+    let stop = Stop::new();
+    let options = RoundOptions {
+        turns,
+        hook: &NoHook,
+        stop: &stop,
+    };
+    round_again(rt, alloc, row, &options)
+}
+
 /// The journal has the asks of each worker in the order in which that worker took them.
 #[test]
 fn receipts_that_are_exchanged_unsettle_a_round(rt: HostRuntime) {
-    let wanted = Left {
+    let wanted = RoundSummary {
         records: 2,
         first: Some(0),
         second: None,
@@ -78,22 +101,19 @@ fn receipts_that_are_exchanged_unsettle_a_round(rt: HostRuntime) {
         replies: 2,
         is_settled: false,
     };
-    let left = round_again(
-        &rt,
-        rt.alloc(),
-        &[1, 2],
-        &[],
-        64,
-        &Stop::new(),
-        Change::Exchange,
-    );
+    let row = TwoChannels {
+        first: &[1, 2],
+        second: &[],
+        change: Change::Exchange,
+    };
+    let left = plain_round(&rt, rt.alloc(), &row, 64);
     let as_wanted = left == Some(wanted);
     assert!(rt; as_wanted);
 }
 
 /// Returns whether a round of one ask on each channel leaves both in its journal, in either order.
 fn serves_both<R: Threads + Wait + Sync>(rt: &R, alloc: Global) -> bool {
-    let in_order = Left {
+    let in_order = RoundSummary {
         records: 2,
         first: Some(0),
         second: Some(1),
@@ -101,12 +121,17 @@ fn serves_both<R: Threads + Wait + Sync>(rt: &R, alloc: Global) -> bool {
         replies: 1,
         is_settled: true,
     };
-    let in_other_order = Left {
+    let in_other_order = RoundSummary {
         first: Some(1),
         second: Some(0),
         ..in_order
     };
-    let left = round_again(rt, alloc, &[1], &[2], 64, &Stop::new(), Change::None);
+    let row = TwoChannels {
+        first: &[1],
+        second: &[2],
+        change: Change::None,
+    };
+    let left = plain_round(rt, alloc, &row, 64);
     left == Some(in_order) || left == Some(in_other_order)
 }
 
@@ -121,7 +146,7 @@ fn an_ask_of_each_channel_is_served(rt: HostRuntime) {
 /// Passes also if one allocation is refused: a round gives back what it was handed, and is served again.
 #[test]
 fn one_turn_takes_one_ask_of_three(rt: HostRuntime) {
-    let wanted = Left {
+    let wanted = RoundSummary {
         records: 1,
         first: Some(0),
         second: None,
@@ -129,15 +154,12 @@ fn one_turn_takes_one_ask_of_three(rt: HostRuntime) {
         replies: 1,
         is_settled: true,
     };
-    let left = round_again(
-        &rt,
-        rt.alloc(),
-        &[1, 2, 3],
-        &[],
-        1,
-        &Stop::new(),
-        Change::None,
-    );
+    let row = TwoChannels {
+        first: &[1, 2, 3],
+        second: &[],
+        change: Change::None,
+    };
+    let left = plain_round(&rt, rt.alloc(), &row, 1);
     let as_wanted = left == Some(wanted);
     assert!(rt; as_wanted);
 }
@@ -145,7 +167,7 @@ fn one_turn_takes_one_ask_of_three(rt: HostRuntime) {
 /// Passes also if one allocation is refused. A stop that is asked for twice stays asked for.
 #[test]
 fn a_stop_that_was_asked_for_takes_nothing(rt: HostRuntime) {
-    let wanted = Left {
+    let wanted = RoundSummary {
         records: 0,
         first: None,
         second: None,
@@ -156,7 +178,17 @@ fn a_stop_that_was_asked_for_takes_nothing(rt: HostRuntime) {
     let stop = Stop::new();
     stop.ask();
     stop.ask();
-    let left = round_again(&rt, rt.alloc(), &[1], &[2], 64, &stop, Change::None);
+    let row = TwoChannels {
+        first: &[1],
+        second: &[2],
+        change: Change::None,
+    };
+    let options = RoundOptions {
+        turns: 64,
+        hook: &NoHook,
+        stop: &stop,
+    };
+    let left = round_again(&rt, rt.alloc(), &row, &options);
     let as_wanted = left == Some(wanted);
     assert!(rt; as_wanted);
 }

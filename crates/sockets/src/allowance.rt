@@ -37,7 +37,7 @@ impl Allowance {
         is_at_once(self.looked, other.looked) && self.left.as_nanos() == other.left.as_nanos()
     }
 
-    /// Returns whether nothing is left.
+    /// Returns whether no time is left.
     pub fn is_spent(&self) -> bool
         ensures spent { result ≡ is_spent self.now }
     {
@@ -69,7 +69,7 @@ pub(crate) fn slice_of(left: Duration) -> Duration
     shorter(left, SLICE)
 }
 
-/// Returns `wait`, or so many milliseconds if that is shorter.
+/// Returns the shorter one of `wait` and a time in `milliseconds`.
 fn shorter(wait: Duration, milliseconds: u64) -> Duration
     ensures shorter { as_nanos result ≡ min (as_nanos wait) (milliseconds * 1_000_000) }
 {

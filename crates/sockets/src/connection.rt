@@ -1,6 +1,6 @@
 //! A connection that carries frames.
 use crate::timed::Timed;
-use crate::{Deadline, Writer};
+use crate::{Deadline, TimeoutWriter};
 use links::{Frame, FrameFault, MAX_SEAT_TEXT, read_frame_to, write_frame_to};
 use std::alloc::Global;
 use std::io::{self, BufRead, BufReader};
@@ -18,7 +18,7 @@ const AHEAD: usize = 65_536;
 pub struct Connection<'a, R> {
     alloc: Global,
     reader: BufReader<Timed<'a, R>>,
-    writer: Writer<'a, R>,
+    writer: TimeoutWriter<'a, R>,
     /// Room for the text of a frame that is written.
     text: Vec<u8>,
     /// Room for the body of a frame that is read.
@@ -38,7 +38,7 @@ impl<'a, R: Clock> Connection<'a, R> {
         stream: UnixStream,
         patience: Option<Duration>,
     ) -> io::Result<Connection<'a, R>> {
-        let writer = Writer::over(clock, stream.try_clone()?, patience)?;
+        let writer = TimeoutWriter::over(clock, stream.try_clone()?, patience)?;
         let reader = BufReader::with_capacity(alloc, AHEAD, Timed::over(clock, stream))?;
         let text = Vec::with_capacity(alloc, MAX_SEAT_TEXT)?;
         let body = Vec::with_capacity(alloc, MAX_SEAT_TEXT)?;
@@ -103,7 +103,9 @@ impl<'a, R: Clock> Connection<'a, R> {
             reply,
         } = frame
         {
-            self.body = reply.into_vec();
+            if let Some(body) = reply.into_vec() {
+                self.body = body;
+            }
         }
     }
 
@@ -124,7 +126,7 @@ impl<'a, R: Clock> Connection<'a, R> {
     }
 
     /// Returns the end to which frames are written.
-    pub fn writer(&mut self) -> &mut Writer<'a, R> {
+    pub fn writer(&mut self) -> &mut TimeoutWriter<'a, R> {
         &mut self.writer
     }
 

@@ -18,4 +18,4 @@ pub use deadline::{Deadline, Left};
 pub use first::First;
 pub use listening::{Hidden, changed_at, listen_alone_at, listen_at, remove_unchanged};
 pub use timed::Timed;
-pub use writer::Writer;
+pub use writer::TimeoutWriter;

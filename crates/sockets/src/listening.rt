@@ -27,8 +27,9 @@ pub struct Hidden {
     name: String,
 }
 
-/// Listens at `path`, for this user alone. A socket at `path` is replaced, and there is one at every moment. Any other
-/// file at `path` is left alone, and is an error.
+/// Listens at `path`, for this user alone. A socket that a process before left at `path` is replaced, and there is one at
+/// every moment. Any other file at `path` is left alone, and is an error. A daemon takes the two steps one by one, since it
+/// listens before it has the seat, and shows the socket once it has it.
 pub fn listen_at<R: Files + Net + Clock>(
     rt: &R,
     alloc: Global,

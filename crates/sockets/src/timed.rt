@@ -157,8 +157,9 @@ impl<'a, R: Clock> Timed<'a, R> {
         }
     }
 
-    /// Takes in the bytes that a read gave.
-    fn note(&mut self, bytes: &[u8]) {
+    /// Counts the bytes that a read gave. Where a frame ended with them, none has begun, and so no deadline holds for the
+    /// rest of one.
+    fn count_read(&mut self, bytes: &[u8]) {
         if self.passage.pass_all(bytes) {
             self.rest = None;
         }
@@ -182,7 +183,7 @@ impl<R: Clock> Read for Timed<'_, R> {
             self.set_timeout()?;
             match self.stream.read(bytes) {
                 Ok(count) => {
-                    self.note(&bytes[..count]);
+                    self.count_read(&bytes[..count]);
                     return Ok(count);
                 }
                 Err(error) if error.kind() == ErrorKind::WouldBlock => {}

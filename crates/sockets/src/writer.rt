@@ -10,21 +10,21 @@ use std::time::Duration;
 /// The writing end of a socket. A write that waits longer than its patience for the other end to read fails with
 /// `WouldBlock`. It waits in slices, so that only time counts in which this process ran.
 #[derive(Drop)]
-pub struct Writer<'a, R> {
+pub struct TimeoutWriter<'a, R> {
     clock: &'a R,
     stream: UnixStream,
     patience: Option<Duration>,
 }
 
-impl<'a, R: Clock> Writer<'a, R> {
+impl<'a, R: Clock> TimeoutWriter<'a, R> {
     /// Returns the writing end of a socket. Without a `patience` a write waits for as long as the connection stands.
     pub fn over(
         clock: &'a R,
         stream: UnixStream,
         patience: Option<Duration>,
-    ) -> io::Result<Writer<'a, R>> {
+    ) -> io::Result<TimeoutWriter<'a, R>> {
         stream.set_write_timeout(patience.map(slice_of))?;
-        Ok(Writer {
+        Ok(TimeoutWriter {
             clock,
             stream,
             patience,
@@ -50,7 +50,7 @@ impl<'a, R: Clock> Writer<'a, R> {
     }
 }
 
-impl<R: Clock> Write for Writer<'_, R> {
+impl<R: Clock> Write for TimeoutWriter<'_, R> {
     fn write(&mut self, bytes: &[u8]) -> io::Result<usize> {
         let mut deadline = self.deadline();
         for _slice in 0..u64::MAX {

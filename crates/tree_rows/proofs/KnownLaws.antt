@@ -2,7 +2,6 @@
 use Rattle.std.proofs.Common.{◌≡◌, ℕ, Bool, true, false, cond, List, Option, Some, None, is_some, refl, sym, ap, ◌∙◌, inl, inr, ◌⊎◌}
 use Rattle.std.specs.Prelude.{nat_eq}
 use Rattle.std.specs.HashMap as hash
-use Rattle.std.specs.Map.{lookup}
 use Rattle.std.specs.Option.{option_map}
 use Rattle.eden_base.proofs.NumberTests.{eq-true, eq-false}
 use Rattle.directory_index.proofs.Standings.{inserted-was, removed-was}
@@ -17,10 +16,6 @@ none-there None test is f = refl
 none-there (Some x) test is f = let no : ⊥ = cc in absurd no
 
 module _ (at : Standing) (old new : KnownPlaces) (known : AreKnown at (place_in old)) where
-  -- the same entries know the same
-  pub known-unchanged : new.places.entries ≡ old.places.entries → AreKnown at (place_in new)
-  known-unchanged same d q n e = ap (λ es. option_map dir_and_name (lookup (nat_eq n) es)) same ∙ known d q n e
-
   -- a number that isn't known stands nowhere
   pub unknown-nowhere : (number : ℕ) → hash.get nat_eq old.places number ≡ None → StandsNowhere at number
   unknown-nowhere number none d q e =

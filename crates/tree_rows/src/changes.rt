@@ -3,7 +3,7 @@
 use crate::{Done, file_of, file_or_none, kind_of, perm_of, put_file};
 use checkout::{Changes, LinkList, Made, MadeList, Tree};
 use manifest::LinkChange;
-use row_words::{Fault, Told, Words};
+use row_words::{Output, RowFault, Words};
 use std::alloc::Global;
 
 /// How many changes a row may have.
@@ -59,7 +59,7 @@ fn push_changes(lists: &mut Lists, words: &mut Words<'_>) -> Done {
 }
 
 /// Reads changes.
-pub(crate) fn changes_of(alloc: Global, words: &mut Words<'_>) -> Result<Changes, Fault> {
+pub(crate) fn changes_of(alloc: Global, words: &mut Words<'_>) -> Result<Changes, RowFault> {
     if words.word() != b"next".as_slice() {
         words.refuse();
     }
@@ -78,39 +78,39 @@ pub(crate) fn changes_of(alloc: Global, words: &mut Words<'_>) -> Result<Changes
 }
 
 /// Writes made files.
-fn put_made(made: &[Made], told: &mut Told) {
+fn put_made(made: &[Made], output: &mut Output) {
     for made in made {
-        told.word("made");
-        told.number(made.file.0);
-        told.word(made.kind.name());
-        told.octal(made.perm.bits());
+        output.word("made");
+        output.number(made.file.0);
+        output.word(made.kind.name());
+        output.octal(made.perm.bits());
     }
 }
 
 /// Writes changed names.
-fn put_names(links: &[LinkChange], told: &mut Told) {
+fn put_names(links: &[LinkChange], output: &mut Output) {
     for link in links {
-        told.word("name");
-        told.number(link.dir.0);
-        told.bytes(link.name.bytes());
-        put_file(told, link.target);
+        output.word("name");
+        output.number(link.dir.0);
+        output.bytes(link.name.bytes());
+        put_file(output, link.target);
     }
 }
 
 /// Writes the changes of `tree`: how many files were made, the changed names alone, or all, as `part` says.
-pub(crate) fn put_changes(tree: &Tree, part: Part, told: &mut Told) -> Done {
+pub(crate) fn put_changes(tree: &Tree, part: Part, output: &mut Output) -> Done {
     let changes = tree.changes()?;
     match part {
-        Part::Made => told.number(changes.made.as_slice().len() as u64),
+        Part::Made => output.number(changes.made.as_slice().len() as u64),
         Part::Names => {
-            told.number(changes.links.as_slice().len() as u64);
-            put_names(changes.links.as_slice(), told);
+            output.number(changes.links.as_slice().len() as u64);
+            put_names(changes.links.as_slice(), output);
         }
         Part::All => {
-            told.word("next");
-            told.number(changes.next_file.0);
-            put_made(changes.made.as_slice(), told);
-            put_names(changes.links.as_slice(), told);
+            output.word("next");
+            output.number(changes.next_file.0);
+            put_made(changes.made.as_slice(), output);
+            put_names(changes.links.as_slice(), output);
         }
     }
     Ok(())

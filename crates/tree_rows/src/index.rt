@@ -1,4 +1,4 @@
-//! `index new`: makes an empty index. `index new NUMBERS`: makes one with buckets for so many numbers.
+//! `index new`: makes an empty index. `index new NUMBERS`: makes one with buckets for as many.
 //! `index put DIR NAME NUMBER`: puts a number under a name of a directory. `index remove DIR NAME NUMBER`: removes it.
 //! These two tell `refused` where a condition of the call does not hold, and then make no call.
 //! `index get DIR NAME`: the number under a name. `index names DIR`: whether a directory has a number.
@@ -9,7 +9,7 @@ ghost use Rattle.directory_index.specs.Standing.{nothing};
 use crate::known::KnownIndex;
 use crate::{Done, Trees, put};
 use directory_index::DirectoryIndex;
-use row_words::{Fault, Told, Words};
+use row_words::{Output, RowFault, Words};
 use std::alloc::Global;
 
 /// Makes an empty index, with buckets for numbers if the words tell how many.
@@ -23,22 +23,26 @@ fn empty_of(alloc: Global, words: &mut Words<'_>) -> DirectoryIndex
 }
 
 /// Makes an empty index.
-fn new(trees: &mut Trees, words: &mut Words<'_>, told: &mut Told) -> Done {
+fn new(trees: &mut Trees, words: &mut Words<'_>, output: &mut Output) -> Done {
     let index = KnownIndex::of(trees.alloc, empty_of(trees.alloc, words));
     words.end()?;
     trees.index = Some(index);
-    told.word("ok");
+    output.word("ok");
     Ok(())
 }
 
 /// Tells whether a call was made.
-fn tell_made(told: &mut Told, is_made: bool) -> Done {
-    told.word(if is_made { "ok" } else { "refused" });
+fn tell_made(output: &mut Output, is_made: bool) -> Done {
+    output.word(if is_made { "ok" } else { "refused" });
     Ok(())
 }
 
 /// Puts a number under a name.
-fn put_number(alloc: Global, index: &mut KnownIndex, words: &mut Words<'_>) -> Result<bool, Fault> {
+fn put_number(
+    alloc: Global,
+    index: &mut KnownIndex,
+    words: &mut Words<'_>,
+) -> Result<bool, RowFault> {
     let dir = words.number();
     let name = words.bytes();
     let number = words.number();
@@ -47,7 +51,7 @@ fn put_number(alloc: Global, index: &mut KnownIndex, words: &mut Words<'_>) -> R
 }
 
 /// Removes a number from a name.
-fn remove(index: &mut KnownIndex, words: &mut Words<'_>) -> Result<bool, Fault> {
+fn remove(index: &mut KnownIndex, words: &mut Words<'_>) -> Result<bool, RowFault> {
     let dir = words.number();
     let name = words.bytes();
     let number = words.number();
@@ -56,53 +60,53 @@ fn remove(index: &mut KnownIndex, words: &mut Words<'_>) -> Result<bool, Fault> 
 }
 
 /// Tells the number under a name.
-fn get(index: &KnownIndex, words: &mut Words<'_>, told: &mut Told) -> Done {
+fn get(index: &KnownIndex, words: &mut Words<'_>, output: &mut Output) -> Done {
     let dir = words.number();
     let name = words.bytes();
     words.end()?;
-    put(told, index.get(dir, name.as_slice()));
+    put(output, index.get(dir, name.as_slice()));
     Ok(())
 }
 
 /// Tells whether a directory has a number.
-fn names(index: &KnownIndex, words: &mut Words<'_>, told: &mut Told) -> Done {
+fn names(index: &KnownIndex, words: &mut Words<'_>, output: &mut Output) -> Done {
     let dir = words.number();
     words.end()?;
-    told.flag(index.has_names(dir));
+    output.flag(index.has_names(dir));
     Ok(())
 }
 
 /// Tells the first number of a directory from a number on.
-fn first(index: &KnownIndex, words: &mut Words<'_>, told: &mut Told) -> Done {
+fn first(index: &KnownIndex, words: &mut Words<'_>, output: &mut Output) -> Done {
     let dir = words.number();
     let least = words.number();
     words.end()?;
-    put(told, index.first_from(dir, least));
+    put(output, index.first_from(dir, least));
     Ok(())
 }
 
 /// Gives back spare room.
-fn trim(index: &mut KnownIndex, words: &mut Words<'_>, told: &mut Told) -> Done {
+fn trim(index: &mut KnownIndex, words: &mut Words<'_>, output: &mut Output) -> Done {
     words.end()?;
     index.trim();
-    told.word("ok");
+    output.word("ok");
     Ok(())
 }
 
 /// Makes a call of an index.
-pub(crate) fn call(trees: &mut Trees, words: &mut Words<'_>, told: &mut Told) -> Done {
+pub(crate) fn call(trees: &mut Trees, words: &mut Words<'_>, output: &mut Output) -> Done {
     let word = words.word();
     if word == b"new".as_slice() {
-        return new(trees, words, told);
+        return new(trees, words, output);
     }
-    let index = trees.index.as_mut().ok_or(Fault::BadRow)?;
+    let index = trees.index.as_mut().ok_or(RowFault::BadRow)?;
     match word {
-        b"put" => tell_made(told, put_number(trees.alloc, index, words)?),
-        b"remove" => tell_made(told, remove(index, words)?),
-        b"get" => get(index, words, told),
-        b"names" => names(index, words, told),
-        b"first" => first(index, words, told),
-        b"trim" => trim(index, words, told),
-        _ => Err(Fault::BadRow),
+        b"put" => tell_made(output, put_number(trees.alloc, index, words)?),
+        b"remove" => tell_made(output, remove(index, words)?),
+        b"get" => get(index, words, output),
+        b"names" => names(index, words, output),
+        b"first" => first(index, words, output),
+        b"trim" => trim(index, words, output),
+        _ => Err(RowFault::BadRow),
     }
 }

@@ -4,7 +4,7 @@ ghost use Rattle.directory_index.specs.Standing.{nothing};
 ghost use Rattle.tree_rows.specs.Known.{place_in};
 
 use directory_index::{DirectoryIndex, Places};
-use row_words::Fault;
+use row_words::RowFault;
 use std::alloc::Global;
 use std::collections::HashMap;
 use std::marker::Model;
@@ -91,7 +91,7 @@ impl KnownIndex {
         dir: u64,
         name: &[u8],
         number: u64,
-    ) -> Result<bool, Fault> {
+    ) -> Result<bool, RowFault> {
         if self.known.places.contains_key(&number) {
             return Ok(false);
         }

@@ -17,12 +17,12 @@ use eden_base::{Attr, FileId, Kind, Name, Perm};
 use inode_map::InodeMap;
 use key_map::KeyMap;
 use manifest::{Manifest, mode_of};
-use row_words::{Fault, Told, Words, chosen, decimal};
+use row_words::{Output, RowFault, Words, chosen, decimal};
 use std::alloc::Global;
 
-/// What these calls are of.
+/// The subject of a call.
 #[derive(Clone, Copy)]
-enum Subject {
+enum TreeSubject {
     Keys,
     Index,
     Manifest,
@@ -30,16 +30,16 @@ enum Subject {
     Map,
 }
 
-static SUBJECTS: [(&str, Subject); 5] = [
-    ("keys", Subject::Keys),
-    ("index", Subject::Index),
-    ("manifest", Subject::Manifest),
-    ("tree", Subject::Tree),
-    ("map", Subject::Map),
+static SUBJECTS: [(&str, TreeSubject); 5] = [
+    ("keys", TreeSubject::Keys),
+    ("index", TreeSubject::Index),
+    ("manifest", TreeSubject::Manifest),
+    ("tree", TreeSubject::Tree),
+    ("map", TreeSubject::Map),
 ];
 
 /// What a call comes to that writes its result itself.
-pub type Done = Result<(), Fault>;
+pub type Done = Result<(), RowFault>;
 
 /// The last value of each kind that a row made.
 pub struct Trees {
@@ -78,21 +78,21 @@ impl Trees {
     }
 
     /// Makes the call of `subject` that `words` tell.
-    pub fn call(&mut self, subject: &[u8], words: &mut Words<'_>, told: &mut Told) -> Done {
-        match chosen(&SUBJECTS, subject).ok_or(Fault::BadRow)? {
-            Subject::Keys => keys::call(self, words, told),
-            Subject::Index => index::call(self, words, told),
-            Subject::Manifest => manifests::call(self, words, told),
-            Subject::Tree => tree::call(self, words, told),
-            Subject::Map => map::call(self, words, told),
+    pub fn call(&mut self, subject: &[u8], words: &mut Words<'_>, output: &mut Output) -> Done {
+        match chosen(&SUBJECTS, subject).ok_or(RowFault::BadRow)? {
+            TreeSubject::Keys => keys::call(self, words, output),
+            TreeSubject::Index => index::call(self, words, output),
+            TreeSubject::Manifest => manifests::call(self, words, output),
+            TreeSubject::Tree => tree::call(self, words, output),
+            TreeSubject::Map => map::call(self, words, output),
         }
     }
 }
 
 /// Ends the reading of words, and returns the name that was among them.
-fn ended(words: &Words<'_>, name: Option<Name>) -> Result<Name, Fault> {
+fn ended(words: &Words<'_>, name: Option<Name>) -> Result<Name, RowFault> {
     words.end()?;
-    name.ok_or(Fault::BadRow)
+    name.ok_or(RowFault::BadRow)
 }
 
 /// Reads the id of a file.
@@ -135,26 +135,26 @@ fn perm_of(words: &mut Words<'_>) -> Perm {
 }
 
 /// Writes a number, or `none`.
-fn put(told: &mut Told, number: Option<u64>) {
+fn put(output: &mut Output, number: Option<u64>) {
     match number {
-        Some(number) => told.number(number),
-        None => told.word("none"),
+        Some(number) => output.number(number),
+        None => output.word("none"),
     }
 }
 
 /// Writes the id of a file, or `none`.
-fn put_file(told: &mut Told, file: Option<FileId>) {
-    put(told, file.map(|file| file.0));
+fn put_file(output: &mut Output, file: Option<FileId>) {
+    put(output, file.map(|file| file.0));
 }
 
 /// Writes a kind, permissions, a size and a count of links, or `none`.
-fn put_attr(told: &mut Told, attr: Option<Attr>) {
+fn put_attr(output: &mut Output, attr: Option<Attr>) {
     let Some(attr) = attr else {
-        told.word("none");
+        output.word("none");
         return;
     };
-    told.word(attr.kind.name());
-    told.octal(attr.perm.bits());
-    told.number(attr.size);
-    told.number(u64::from(attr.nlink));
+    output.word(attr.kind.name());
+    output.octal(attr.perm.bits());
+    output.number(attr.size);
+    output.number(u64::from(attr.nlink));
 }

@@ -8,7 +8,7 @@
 use crate::{Done, Trees, file_of, put_file};
 use checkout::{Backing, ManifestBacking};
 use manifest::{Manifest, ManifestFaultKind};
-use row_words::{Fault, Told, Words, chosen};
+use row_words::{Output, RowFault, Words, chosen};
 
 /// The calls that make a manifest.
 #[derive(Clone, Copy)]
@@ -43,102 +43,105 @@ static ASK_CALLS: [(&str, AskCall); 5] = [
 ];
 
 /// Reads the manifest in `text`.
-fn read_text(trees: &mut Trees, text: &[u8], told: &mut Told) -> Done {
+fn read_text(trees: &mut Trees, text: &[u8], output: &mut Output) -> Done {
     match Manifest::read(trees.alloc, text) {
         Ok(manifest) => {
             trees.manifest = Some(manifest);
-            told.word("ok");
+            output.word("ok");
         }
-        Err(fault) if fault.kind == ManifestFaultKind::NoMemory => return Err(Fault::NoMemory),
-        Err(fault) => told.word(format!(in trees.alloc; "{fault}")?.as_str()),
+        Err(fault) if fault.kind == ManifestFaultKind::NoMemory => return Err(RowFault::NoMemory),
+        Err(fault) => output.word(format!(in trees.alloc; "{fault}")?.as_str()),
     }
     Ok(())
 }
 
 /// Reads a manifest.
-fn read(trees: &mut Trees, words: &mut Words<'_>, told: &mut Told) -> Done {
+fn read(trees: &mut Trees, words: &mut Words<'_>, output: &mut Output) -> Done {
     let text = words.bytes();
     words.end()?;
-    read_text(trees, text.as_slice(), told)
+    read_text(trees, text.as_slice(), output)
 }
 
 /// Reads a manifest with one more line.
-fn read_with(trees: &mut Trees, words: &mut Words<'_>, told: &mut Told) -> Done {
+fn read_with(trees: &mut Trees, words: &mut Words<'_>, output: &mut Output) -> Done {
     let mut text = words.bytes();
     let line = words.line();
     words.end()?;
     text.extend_from_slice(line)?;
     text.push(b'\n')?;
-    read_text(trees, text.as_slice(), told)
+    read_text(trees, text.as_slice(), output)
 }
 
 /// Shares the manifest.
-fn share(trees: &mut Trees, told: &mut Told) -> Done {
-    let shared = trees.manifest.as_ref().ok_or(Fault::BadRow)?.share()?;
+fn share(trees: &mut Trees, output: &mut Output) -> Done {
+    let shared = trees.manifest.as_ref().ok_or(RowFault::BadRow)?.share()?;
     trees.manifest = Some(shared);
-    told.word("ok");
+    output.word("ok");
     Ok(())
 }
 
 /// Tells the line of a file.
-fn line(manifest: &Manifest, words: &mut Words<'_>, told: &mut Told) -> Done {
-    let place = words.number().checked_sub(2).ok_or(Fault::BadRow)?;
+fn line(manifest: &Manifest, words: &mut Words<'_>, output: &mut Output) -> Done {
+    let place = words.number().checked_sub(2).ok_or(RowFault::BadRow)?;
     words.end()?;
-    let line = manifest.lines().get(place as usize).ok_or(Fault::BadRow)?;
-    told.number(line.dir.0);
-    told.bytes(line.name.bytes());
-    told.word(line.kind.name());
-    told.octal(line.perm.bits());
-    told.number(line.size);
+    let line = manifest
+        .lines()
+        .get(place as usize)
+        .ok_or(RowFault::BadRow)?;
+    output.number(line.dir.0);
+    output.bytes(line.name.bytes());
+    output.word(line.kind.name());
+    output.octal(line.perm.bits());
+    output.number(line.size);
     Ok(())
 }
 
 /// Tells the file that a name gives.
-fn child(manifest: &Manifest, words: &mut Words<'_>, told: &mut Told) -> Done {
+fn child(manifest: &Manifest, words: &mut Words<'_>, output: &mut Output) -> Done {
     let dir = file_of(words);
     let name = words.bytes();
     words.end()?;
-    put_file(told, manifest.child(dir, name.as_slice()));
+    put_file(output, manifest.child(dir, name.as_slice()));
     Ok(())
 }
 
 /// Tells what the backing has for a file.
-fn backing(manifest: &Manifest, words: &mut Words<'_>, told: &mut Told) -> Done {
+fn backing(manifest: &Manifest, words: &mut Words<'_>, output: &mut Output) -> Done {
     let file = file_of(words);
     words.end()?;
     if manifest.content(file).is_none() {
-        return Err(Fault::BadRow);
+        return Err(RowFault::BadRow);
     }
     let mut backing = ManifestBacking::of(manifest);
-    let content = backing.attr(file).ok().ok_or(Fault::BadRow)?;
-    told.octal(content.perm.bits());
-    told.number(content.size);
-    told.number(backing.failures());
+    let content = backing.attr(file).ok().ok_or(RowFault::BadRow)?;
+    output.octal(content.perm.bits());
+    output.number(content.size);
+    output.number(backing.failures());
     Ok(())
 }
 
 /// Makes a call on a manifest.
-fn ask(manifest: &Manifest, word: &[u8], words: &mut Words<'_>, told: &mut Told) -> Done {
-    match chosen(&ASK_CALLS, word).ok_or(Fault::BadRow)? {
-        AskCall::Commit => told.hex(&manifest.commit()),
-        AskCall::Lines => told.number(manifest.lines().len() as u64),
-        AskCall::Line => return line(manifest, words, told),
-        AskCall::Child => return child(manifest, words, told),
-        AskCall::Backing => return backing(manifest, words, told),
+fn ask(manifest: &Manifest, word: &[u8], words: &mut Words<'_>, output: &mut Output) -> Done {
+    match chosen(&ASK_CALLS, word).ok_or(RowFault::BadRow)? {
+        AskCall::Commit => output.hex(&manifest.commit()),
+        AskCall::Lines => output.number(manifest.lines().len() as u64),
+        AskCall::Line => return line(manifest, words, output),
+        AskCall::Child => return child(manifest, words, output),
+        AskCall::Backing => return backing(manifest, words, output),
     }
     words.end()
 }
 
 /// Makes a call of manifests.
-pub(crate) fn call(trees: &mut Trees, words: &mut Words<'_>, told: &mut Told) -> Done {
+pub(crate) fn call(trees: &mut Trees, words: &mut Words<'_>, output: &mut Output) -> Done {
     let word = words.word();
     match chosen(&MAKE_CALLS, word) {
-        Some(MakeCall::Read) => read(trees, words, told),
-        Some(MakeCall::With) => read_with(trees, words, told),
-        Some(MakeCall::Share) => share(trees, told),
+        Some(MakeCall::Read) => read(trees, words, output),
+        Some(MakeCall::With) => read_with(trees, words, output),
+        Some(MakeCall::Share) => share(trees, output),
         None => match trees.manifest.as_ref() {
-            Some(manifest) => ask(manifest, word, words, told),
-            None => Err(Fault::BadRow),
+            Some(manifest) => ask(manifest, word, words, output),
+            None => Err(RowFault::BadRow),
         },
     }
 }

@@ -1,4 +1,4 @@
-//! `map new LIMIT`: makes an empty map that may keep so many attributes loaded.
+//! `map new LIMIT`: makes an empty map that may keep LIMIT attributes loaded.
 //! `map one NUMBER COUNT PLACE`: makes a map of one entry, at `named NAME` in the root or at `mark FILE`.
 //! `map give PARENT NAME`: gives a number to a name, and tells it. `map find PARENT NAME`: the number of a name.
 //! `map give_ready PARENT NAME`: makes room first, and gives a number in it. `map reserve`: makes room.
@@ -7,7 +7,7 @@
 //! `map unlink NUMBER FILE`: takes the name of a number, which names FILE from then on.
 //! `map load NUMBER`: loads attributes for a number, with the number as their size.
 //! These three tell `refused` where a condition of the call does not hold, and then make no call.
-//! `map attr NUMBER`: the loaded attributes of a number. `map unload`: unloads the oldest, if there are any.
+//! `map attr NUMBER`: the loaded attributes of a number.
 //! `map place NUMBER`: the directory and the name of a number, or `mark` and a file. `map count NUMBER`: its count.
 //! `map after NUMBER`: the next number that has an entry. `map know NUMBER`: whether a number is known.
 //! `map at`: the next number, and how many forgets were bad. `map kept`: how many entries there are.
@@ -19,7 +19,7 @@ use crate::numbers::{given_ready, loaded, move_to, new, one, put_made, tell_give
 use crate::{Done, Trees, ended, file_of, put, put_attr, put_file};
 use eden_base::{FileId, Number, Place};
 use inode_map::{InodeMap, Kept};
-use row_words::{Fault, Told, Words, chosen};
+use row_words::{Output, RowFault, Words, chosen};
 use std::alloc::Global;
 
 /// The calls of more than the map: those that make it, and the one that asks the tree.
@@ -46,7 +46,7 @@ enum TwoCall {
 
 /// The calls of a map with a number alone.
 #[derive(Clone, Copy)]
-enum NumberCall {
+enum MapNumberCall {
     Load,
     Attr,
     Place,
@@ -59,7 +59,6 @@ enum NumberCall {
 #[derive(Clone, Copy)]
 enum AllCall {
     Reserve,
-    Unload,
     At,
     Kept,
     Entries,
@@ -74,11 +73,11 @@ enum OnCall {
     Find,
     Move,
     Two(TwoCall),
-    Number(NumberCall),
+    Number(MapNumberCall),
     All(AllCall),
 }
 
-static ON_CALLS: [(&str, OnCall); 19] = [
+static ON_CALLS: [(&str, OnCall); 18] = [
     ("give", OnCall::Give),
     ("give_ready", OnCall::GiveReady),
     ("find", OnCall::Find),
@@ -86,14 +85,13 @@ static ON_CALLS: [(&str, OnCall); 19] = [
     ("forget", OnCall::Two(TwoCall::Forget)),
     ("foresee", OnCall::Two(TwoCall::Foresee)),
     ("unlink", OnCall::Two(TwoCall::Unlink)),
-    ("load", OnCall::Number(NumberCall::Load)),
-    ("attr", OnCall::Number(NumberCall::Attr)),
-    ("place", OnCall::Number(NumberCall::Place)),
-    ("count", OnCall::Number(NumberCall::Count)),
-    ("after", OnCall::Number(NumberCall::After)),
-    ("know", OnCall::Number(NumberCall::Know)),
+    ("load", OnCall::Number(MapNumberCall::Load)),
+    ("attr", OnCall::Number(MapNumberCall::Attr)),
+    ("place", OnCall::Number(MapNumberCall::Place)),
+    ("count", OnCall::Number(MapNumberCall::Count)),
+    ("after", OnCall::Number(MapNumberCall::After)),
+    ("know", OnCall::Number(MapNumberCall::Know)),
     ("reserve", OnCall::All(AllCall::Reserve)),
-    ("unload", OnCall::All(AllCall::Unload)),
     ("at", OnCall::All(AllCall::At)),
     ("kept", OnCall::All(AllCall::Kept)),
     ("entries", OnCall::All(AllCall::Entries)),
@@ -104,100 +102,105 @@ static ON_CALLS: [(&str, OnCall); 19] = [
 const MOST_ENTRIES: u64 = 1 << 20;
 
 /// Writes where a number stands.
-fn put_place(told: &mut Told, place: Option<&Place>) {
+fn put_place(output: &mut Output, place: Option<&Place>) {
     match place {
         Some(Place::Linked { parent, name }) => {
-            told.number(parent.0);
-            told.bytes(name.bytes());
+            output.number(parent.0);
+            output.bytes(name.bytes());
         }
         Some(Place::Unlinked { file }) => {
-            told.word("mark");
-            told.number(file.0);
+            output.word("mark");
+            output.number(file.0);
         }
-        None => told.word("none"),
+        None => output.word("none"),
     }
 }
 
 /// Writes entries.
-fn put_entries(told: &mut Told, entries: &[Kept]) {
+fn put_entries(output: &mut Output, entries: &[Kept]) {
     for entry in entries {
-        told.word("/");
-        told.number(entry.number.0);
-        put_place(told, Some(&entry.place));
-        told.number(entry.count);
+        output.word("/");
+        output.number(entry.number.0);
+        put_place(output, Some(&entry.place));
+        output.number(entry.count);
     }
 }
 
 /// Writes the entry of a number.
-fn put_entry(told: &mut Told, map: &InodeMap, number: Number) {
-    told.word("/");
-    told.number(number.0);
-    put_place(told, map.entry(number));
-    told.number(map.count(number));
+fn put_entry(output: &mut Output, map: &InodeMap, number: Number) {
+    output.word("/");
+    output.number(number.0);
+    put_place(output, map.entry(number));
+    output.number(map.count(number));
     if let Some(Place::Linked { parent, name }) = map.entry(number) {
         if map.number_for(*parent, name) != Some(number) {
-            told.word("lost");
+            output.word("lost");
         }
     }
 }
 
 /// Writes each entry as it is asked by itself.
-fn put_each(told: &mut Told, map: &InodeMap) {
+fn put_each(output: &mut Output, map: &InodeMap) {
     let mut last = Number::ROOT;
     for _entry in 0..MOST_ENTRIES {
         let Some(number) = map.after(last) else {
             return;
         };
-        put_entry(told, map, number);
+        put_entry(output, map, number);
         last = number;
     }
 }
 
 /// Gives a number to a name.
-fn give(alloc: Global, map: &mut InodeMap, words: &mut Words<'_>, told: &mut Told) -> Done {
+fn give(alloc: Global, map: &mut InodeMap, words: &mut Words<'_>, output: &mut Output) -> Done {
     let parent = Number(words.number());
     let name = words.name();
     let name = ended(words, name)?;
-    tell_given(map.give(alloc, parent, &name), told)
+    tell_given(map.give(alloc, parent, &name), output)
 }
 
 /// Gives a number to a name in room that is made first.
-fn give_ready(alloc: Global, map: &mut InodeMap, words: &mut Words<'_>, told: &mut Told) -> Done {
+fn give_ready(
+    alloc: Global,
+    map: &mut InodeMap,
+    words: &mut Words<'_>,
+    output: &mut Output,
+) -> Done {
     let parent = Number(words.number());
     let name = words.name();
     let name = ended(words, name)?;
     map.reserve(alloc)?;
-    tell_given(given_ready(map, parent, name), told)
+    tell_given(given_ready(map, parent, name), output)
 }
 
 /// Tells the number of a name.
-fn find(map: &InodeMap, words: &mut Words<'_>, told: &mut Told) -> Done {
+fn find(map: &InodeMap, words: &mut Words<'_>, output: &mut Output) -> Done {
     let parent = Number(words.number());
     let name = words.name();
     let name = ended(words, name)?;
-    put(told, map.number_for(parent, &name).map(|number| number.0));
+    put(output, map.number_for(parent, &name).map(|number| number.0));
     Ok(())
 }
 
 /// Tells the file that a number names in the tree.
-fn locate(trees: &mut Trees, words: &mut Words<'_>, told: &mut Told) -> Done {
+fn locate(trees: &mut Trees, words: &mut Words<'_>, output: &mut Output) -> Done {
     let number = Number(words.number());
     words.end()?;
-    let tree = trees.tree.as_ref().ok_or(Fault::BadRow)?;
-    let map = trees.map.as_mut().ok_or(Fault::BadRow)?;
-    put_file(told, map.locate(tree, number));
+    let tree = trees.tree.as_ref().ok_or(RowFault::BadRow)?;
+    let map = trees.map.as_mut().ok_or(RowFault::BadRow)?;
+    put_file(output, map.locate(tree, number));
     Ok(())
 }
 
 /// Makes a call with a number and another one.
-fn call_two(map: &mut InodeMap, call: TwoCall, words: &mut Words<'_>, told: &mut Told) -> Done {
+fn call_two(map: &mut InodeMap, call: TwoCall, words: &mut Words<'_>, output: &mut Output) -> Done {
     let number = Number(words.number());
     let other = words.number();
     words.end()?;
     match call {
-        TwoCall::Forget => told.word(map.forget(number, other).name()),
-        TwoCall::Foresee => told.word(map.forgot(number, other).name()),
-        TwoCall::Unlink => put_made(told, unlinked(map, number, FileId(other))),
+        TwoCall::Forget => output.word(map.forget(number, other).name()),
+        TwoCall::Foresee => output.word(map.forgot(number, other).name()),
+        TwoCall::Unlink => put_made(output, unlinked(map, number, FileId(other))),
     }
     Ok(())
 }
@@ -205,44 +208,44 @@ fn call_two(map: &mut InodeMap, call: TwoCall, words: &mut Words<'_>, told: &mut
 /// Makes a call with a number.
 fn call_number(
     map: &mut InodeMap,
-    call: NumberCall,
+    call: MapNumberCall,
     words: &mut Words<'_>,
-    told: &mut Told,
+    output: &mut Output,
 ) -> Done {
     let number = Number(words.number());
     words.end()?;
     match call {
-        NumberCall::Load => put_made(told, loaded(map, number)),
-        NumberCall::Attr => put_attr(told, map.attr(number)),
-        NumberCall::Place => put_place(told, map.entry(number)),
-        NumberCall::Count => told.number(map.count(number)),
-        NumberCall::After => put(told, map.after(number).map(|number| number.0)),
-        NumberCall::Know => told.flag(map.known(number)),
+        MapNumberCall::Load => put_made(output, loaded(map, number)),
+        MapNumberCall::Attr => put_attr(output, map.attr(number)),
+        MapNumberCall::Place => put_place(output, map.entry(number)),
+        MapNumberCall::Count => output.number(map.count(number)),
+        MapNumberCall::After => put(output, map.after(number).map(|number| number.0)),
+        MapNumberCall::Know => output.flag(map.known(number)),
     }
     Ok(())
 }
 
 /// Makes room for an entry.
-fn reserve(alloc: Global, map: &mut InodeMap, told: &mut Told) -> Done {
+fn reserve(alloc: Global, map: &mut InodeMap, output: &mut Output) -> Done {
     map.reserve(alloc)?;
-    told.word("ok");
+    output.word("ok");
     Ok(())
 }
 
 /// Tells how many entries there are, and what they are if `is_whole`.
-fn tell_entries(alloc: Global, map: &InodeMap, is_whole: bool, told: &mut Told) -> Done {
+fn tell_entries(alloc: Global, map: &InodeMap, is_whole: bool, output: &mut Output) -> Done {
     let entries = map.to_entries(alloc)?;
-    told.number(entries.len() as u64);
+    output.number(entries.len() as u64);
     if is_whole {
-        put_entries(told, entries.as_slice());
+        put_entries(output, entries.as_slice());
     }
     Ok(())
 }
 
 /// Tells the next number, and how many forgets were bad.
-fn tell_at(map: &InodeMap, told: &mut Told) {
-    told.number(map.next());
-    told.number(map.bad_items());
+fn tell_at(map: &InodeMap, output: &mut Output) {
+    output.number(map.next());
+    output.number(map.bad_items());
 }
 
 /// Makes a call that has no word more.
@@ -251,18 +254,17 @@ fn call_all(
     map: &mut InodeMap,
     call: AllCall,
     words: &Words<'_>,
-    told: &mut Told,
+    output: &mut Output,
 ) -> Done {
     words.end()?;
     match call {
-        AllCall::Reserve => return reserve(alloc, map, told),
-        AllCall::Unload => told.flag(map.unload_oldest()),
-        AllCall::At => tell_at(map, told),
-        AllCall::Kept => return tell_entries(alloc, map, false, told),
-        AllCall::Entries => return tell_entries(alloc, map, true, told),
+        AllCall::Reserve => return reserve(alloc, map, output),
+        AllCall::At => tell_at(map, output),
+        AllCall::Kept => return tell_entries(alloc, map, false, output),
+        AllCall::Entries => return tell_entries(alloc, map, true, output),
         AllCall::List => {
-            tell_at(map, told);
-            put_each(told, map);
+            tell_at(map, output);
+            put_each(output, map);
         }
     }
     Ok(())
@@ -274,29 +276,29 @@ fn call_on(
     map: &mut InodeMap,
     word: &[u8],
     words: &mut Words<'_>,
-    told: &mut Told,
+    output: &mut Output,
 ) -> Done {
-    match chosen(&ON_CALLS, word).ok_or(Fault::BadRow)? {
-        OnCall::Give => give(alloc, map, words, told),
-        OnCall::GiveReady => give_ready(alloc, map, words, told),
-        OnCall::Find => find(map, words, told),
-        OnCall::Move => move_to(alloc, map, words, told),
-        OnCall::Two(call) => call_two(map, call, words, told),
-        OnCall::Number(call) => call_number(map, call, words, told),
-        OnCall::All(call) => call_all(alloc, map, call, words, told),
+    match chosen(&ON_CALLS, word).ok_or(RowFault::BadRow)? {
+        OnCall::Give => give(alloc, map, words, output),
+        OnCall::GiveReady => give_ready(alloc, map, words, output),
+        OnCall::Find => find(map, words, output),
+        OnCall::Move => move_to(alloc, map, words, output),
+        OnCall::Two(call) => call_two(map, call, words, output),
+        OnCall::Number(call) => call_number(map, call, words, output),
+        OnCall::All(call) => call_all(alloc, map, call, words, output),
     }
 }
 
 /// Makes a call of maps.
-pub(crate) fn call(trees: &mut Trees, words: &mut Words<'_>, told: &mut Told) -> Done {
+pub(crate) fn call(trees: &mut Trees, words: &mut Words<'_>, output: &mut Output) -> Done {
     let word = words.word();
     match chosen(&MAP_CALLS, word) {
-        Some(MapCall::New) => new(trees, words, told),
-        Some(MapCall::One) => one(trees, words, told),
-        Some(MapCall::Locate) => locate(trees, words, told),
+        Some(MapCall::New) => new(trees, words, output),
+        Some(MapCall::One) => one(trees, words, output),
+        Some(MapCall::Locate) => locate(trees, words, output),
         None => match trees.map.as_mut() {
-            Some(map) => call_on(trees.alloc, map, word, words, told),
-            None => Err(Fault::BadRow),
+            Some(map) => call_on(trees.alloc, map, word, words, output),
+            None => Err(RowFault::BadRow),
         },
     }
 }

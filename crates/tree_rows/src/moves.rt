@@ -5,7 +5,7 @@ ghost use Rattle.checkout.specs.RenamedTree.{can_replace};
 use crate::{Done, ended, file_of, kind_of, perm_of, put_file};
 use checkout::{CreateFault, Tree};
 use eden_base::{FileId, Kind, Name, NoMemory, Perm};
-use row_words::{Fault, Told, Words};
+use row_words::{Output, RowFault, Words};
 
 /// Makes a file, or returns none if a condition of `Tree::create` doesn't hold.
 fn created(
@@ -30,17 +30,17 @@ fn created(
 }
 
 /// Makes a file.
-pub(crate) fn create(tree: &mut Tree, words: &mut Words<'_>, told: &mut Told) -> Done {
+pub(crate) fn create(tree: &mut Tree, words: &mut Words<'_>, output: &mut Output) -> Done {
     let dir = file_of(words);
     let name = words.name();
     let kind = kind_of(words);
     let perm = perm_of(words);
     let name = ended(words, name)?;
     match created(tree, dir, &name, kind, perm) {
-        Some(Ok(file)) => told.number(file.0),
-        Some(Err(CreateFault::NoFileId)) => told.word("NoFileId"),
-        Some(Err(CreateFault::NoMemory)) => return Err(Fault::NoMemory),
-        None => told.word("refused"),
+        Some(Ok(file)) => output.number(file.0),
+        Some(Err(CreateFault::NoFileId)) => output.word("NoFileId"),
+        Some(Err(CreateFault::NoMemory)) => return Err(RowFault::NoMemory),
+        None => output.word("refused"),
     }
     Ok(())
 }
@@ -60,13 +60,13 @@ fn removed(tree: &mut Tree, dir: FileId, name: &Name) -> Option<FileId> {
 }
 
 /// Removes a name.
-pub(crate) fn remove(tree: &mut Tree, words: &mut Words<'_>, told: &mut Told) -> Done {
+pub(crate) fn remove(tree: &mut Tree, words: &mut Words<'_>, output: &mut Output) -> Done {
     let dir = file_of(words);
     let name = words.name();
     let name = ended(words, name)?;
     match removed(tree, dir, &name) {
-        Some(file) => told.number(file.0),
-        None => told.word("refused"),
+        Some(file) => output.number(file.0),
+        None => output.word("refused"),
     }
     Ok(())
 }
@@ -115,17 +115,17 @@ fn renamed(
 }
 
 /// Moves a file.
-pub(crate) fn rename(tree: &mut Tree, words: &mut Words<'_>, told: &mut Told) -> Done {
+pub(crate) fn rename(tree: &mut Tree, words: &mut Words<'_>, output: &mut Output) -> Done {
     let dir = file_of(words);
     let name = words.name();
     let to_dir = file_of(words);
     let to_name = words.name();
     let name = ended(words, name)?;
-    let to_name = to_name.ok_or(Fault::BadRow)?;
+    let to_name = to_name.ok_or(RowFault::BadRow)?;
     match renamed(tree, dir, &name, to_dir, &to_name) {
-        Some(Ok(replaced)) => put_file(told, replaced),
-        Some(Err(NoMemory)) => return Err(Fault::NoMemory),
-        None => told.word("refused"),
+        Some(Ok(replaced)) => put_file(output, replaced),
+        Some(Err(NoMemory)) => return Err(RowFault::NoMemory),
+        None => output.word("refused"),
     }
     Ok(())
 }

@@ -5,19 +5,19 @@ ghost use Rattle.eden_base.specs.Limits.{end_of_numbers};
 use crate::{Done, Trees, ended, file_of, file_or_none};
 use eden_base::{Attr, END_OF_NUMBERS, FileId, Kind, Name, NoMemory, Number, Perm, Place};
 use inode_map::{Forgot, GiveFault, InodeMap, Kept, NamedEntries};
-use row_words::{Fault, Told, Words};
+use row_words::{Output, RowFault, Words};
 use std::alloc::Global;
 
 /// Makes an empty map.
-pub(crate) fn new(trees: &mut Trees, words: &mut Words<'_>, told: &mut Told) -> Done {
+pub(crate) fn new(trees: &mut Trees, words: &mut Words<'_>, output: &mut Output) -> Done {
     let limit = words.number() as usize;
     words.end()?;
     if limit == 0 {
-        return Err(Fault::BadRow);
+        return Err(RowFault::BadRow);
     }
     let map = InodeMap::new(trees.alloc, limit)?;
     trees.map = Some(map);
-    told.word("ok");
+    output.word("ok");
     Ok(())
 }
 
@@ -40,7 +40,7 @@ fn map_of_one(alloc: Global, number: u64, place: Place, count: u64) -> Result<In
 }
 
 /// Reads a place: a name in the root, or `mark` and the file of the mark.
-fn place_of(words: &mut Words<'_>) -> Result<Place, Fault> {
+fn place_of(words: &mut Words<'_>) -> Result<Place, RowFault> {
     if words.word() == b"mark".as_slice() {
         let file = file_of(words);
         words.end()?;
@@ -53,26 +53,26 @@ fn place_of(words: &mut Words<'_>) -> Result<Place, Fault> {
 }
 
 /// Makes a map of one entry.
-pub(crate) fn one(trees: &mut Trees, words: &mut Words<'_>, told: &mut Told) -> Done {
+pub(crate) fn one(trees: &mut Trees, words: &mut Words<'_>, output: &mut Output) -> Done {
     let number = words.number();
     let count = words.number();
     if number < 2 || number >= END_OF_NUMBERS || count == 0 {
-        return Err(Fault::BadRow);
+        return Err(RowFault::BadRow);
     }
     let place = place_of(words)?;
     let map = map_of_one(trees.alloc, number, place, count)?;
     trees.map = Some(map);
-    told.word("ok");
+    output.word("ok");
     Ok(())
 }
 
 /// Tells the number that was given, or why none was.
-pub(crate) fn tell_given(given: Result<Number, GiveFault>, told: &mut Told) -> Done {
+pub(crate) fn tell_given(given: Result<Number, GiveFault>, output: &mut Output) -> Done {
     match given {
-        Ok(number) => told.number(number.0),
-        Err(GiveFault::NoNumber) => told.word("NoNumber"),
-        Err(GiveFault::TooMany) => told.word("TooMany"),
-        Err(GiveFault::NoMemory) => return Err(Fault::NoMemory),
+        Ok(number) => output.number(number.0),
+        Err(GiveFault::NoNumber) => output.word("NoNumber"),
+        Err(GiveFault::TooMany) => output.word("TooMany"),
+        Err(GiveFault::NoMemory) => return Err(RowFault::NoMemory),
     }
     Ok(())
 }
@@ -158,8 +158,8 @@ fn moved_freely(map: &mut InodeMap, number: Number, parent: Number, name: Name) 
 }
 
 /// Writes `ok` if a call was made, and else `refused`.
-pub(crate) fn put_made(told: &mut Told, is_made: bool) {
-    told.word(if is_made { "ok" } else { "refused" });
+pub(crate) fn put_made(output: &mut Output, is_made: bool) {
+    output.word(if is_made { "ok" } else { "refused" });
 }
 
 /// Makes room, and moves a number to another name there.
@@ -167,7 +167,7 @@ pub(crate) fn move_to(
     alloc: Global,
     map: &mut InodeMap,
     words: &mut Words<'_>,
-    told: &mut Told,
+    output: &mut Output,
 ) -> Done {
     let number = Number(words.number());
     let parent = Number(words.number());
@@ -179,6 +179,6 @@ pub(crate) fn move_to(
         Some(file) => moved_over(map, number, parent, name, file),
         None => moved_freely(map, number, parent, name),
     };
-    put_made(told, is_moved);
+    put_made(output, is_moved);
     Ok(())
 }

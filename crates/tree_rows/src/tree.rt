@@ -8,7 +8,7 @@
 //! `tree above FILE OTHER`: whether a file is another one, or stands above it.
 //! `tree attr FILE`: the kind, the permissions, the size and the count of links of a file. `tree kind FILE`: its kind.
 //! `tree tell FILE`: the count of links of a file, its kind, `linked` if it stands under a name, and `empty` if it is an
-//! empty directory. `tree empty FILE`: whether a file is that. `tree perm FILE`: the permissions of a made file.
+//! empty directory. `tree empty FILE`: whether a file is that.
 //! `tree next`: the id that the next made file gets. `tree commit`: the commit.
 //! `tree changes`: the changes of the tree. `tree names`: how many names changed, and which. `tree made`: how many files
 //! were made.
@@ -19,7 +19,7 @@ use crate::moves::{create, remove, rename};
 use crate::{Done, Trees, ended, file_of, put_attr, put_file};
 use checkout::{ChangeFault, Tree};
 use eden_base::{FileId, Number, Perm};
-use row_words::{Fault, Told, Words, chosen};
+use row_words::{Output, RowFault, Words, chosen};
 
 /// The calls of more than the tree: those that make one, and the one that asks none.
 #[derive(Clone, Copy)]
@@ -45,7 +45,6 @@ enum FileCall {
     Kind,
     Tell,
     Empty,
-    Perm,
     Above,
 }
 
@@ -62,7 +61,7 @@ enum OnCall {
     Changes(Part),
 }
 
-static ON_CALLS: [(&str, OnCall); 15] = [
+static ON_CALLS: [(&str, OnCall); 14] = [
     ("create", OnCall::Create),
     ("remove", OnCall::Remove),
     ("rename", OnCall::Rename),
@@ -72,7 +71,6 @@ static ON_CALLS: [(&str, OnCall); 15] = [
     ("kind", OnCall::File(FileCall::Kind)),
     ("tell", OnCall::File(FileCall::Tell)),
     ("empty", OnCall::File(FileCall::Empty)),
-    ("perm", OnCall::File(FileCall::Perm)),
     ("next", OnCall::Next),
     ("commit", OnCall::Commit),
     ("changes", OnCall::Changes(Part::All)),
@@ -81,130 +79,126 @@ static ON_CALLS: [(&str, OnCall); 15] = [
 ];
 
 /// Makes the tree of the manifest.
-fn new(trees: &mut Trees, told: &mut Told) -> Done {
-    let manifest = trees.manifest.as_ref().ok_or(Fault::BadRow)?;
+fn new(trees: &mut Trees, output: &mut Output) -> Done {
+    let manifest = trees.manifest.as_ref().ok_or(RowFault::BadRow)?;
     let tree = Tree::of(trees.alloc, manifest)?;
     trees.tree = Some(tree);
-    told.word("ok");
+    output.word("ok");
     Ok(())
 }
 
 /// Tells why changes make no tree.
-fn tell_fault(fault: ChangeFault, told: &mut Told) -> Done {
+fn tell_fault(fault: ChangeFault, output: &mut Output) -> Done {
     let ChangeFault::BadChange(place) = fault else {
-        return Err(Fault::NoMemory);
+        return Err(RowFault::NoMemory);
     };
-    told.word("BadChange");
-    told.number(place as u64);
+    output.word("BadChange");
+    output.number(place as u64);
     Ok(())
 }
 
 /// Makes the tree of the manifest with changes.
-fn with(trees: &mut Trees, words: &mut Words<'_>, told: &mut Told) -> Done {
-    let manifest = trees.manifest.as_ref().ok_or(Fault::BadRow)?;
+fn with(trees: &mut Trees, words: &mut Words<'_>, output: &mut Output) -> Done {
+    let manifest = trees.manifest.as_ref().ok_or(RowFault::BadRow)?;
     let changes = changes_of(trees.alloc, words)?;
     match Tree::with_changes(trees.alloc, manifest, &changes) {
         Ok(tree) => {
             trees.tree = Some(tree);
-            told.word("ok");
+            output.word("ok");
             Ok(())
         }
-        Err(fault) => tell_fault(fault, told),
+        Err(fault) => tell_fault(fault, output),
     }
 }
 
 /// Makes another tree of the changes of the tree, and tells the changes of that one as `put_changes` does.
-fn again(trees: &Trees, part: Part, told: &mut Told) -> Done {
-    let manifest = trees.manifest.as_ref().ok_or(Fault::BadRow)?;
-    let changes = trees.tree.as_ref().ok_or(Fault::BadRow)?.changes()?;
+fn again(trees: &Trees, part: Part, output: &mut Output) -> Done {
+    let manifest = trees.manifest.as_ref().ok_or(RowFault::BadRow)?;
+    let changes = trees.tree.as_ref().ok_or(RowFault::BadRow)?.changes()?;
     match Tree::with_changes(trees.alloc, manifest, &changes) {
-        Ok(other) => put_changes(&other, part, told),
-        Err(fault) => tell_fault(fault, told),
+        Ok(other) => put_changes(&other, part, output),
+        Err(fault) => tell_fault(fault, output),
     }
 }
 
 /// Tells the file that a name gives.
-fn child(tree: &Tree, words: &mut Words<'_>, told: &mut Told) -> Done {
+fn child(tree: &Tree, words: &mut Words<'_>, output: &mut Output) -> Done {
     let dir = file_of(words);
     let name = words.name();
     let name = ended(words, name)?;
-    put_file(told, tree.child(dir, &name));
+    put_file(output, tree.child(dir, &name));
     Ok(())
 }
 
 /// Writes the kind of a file, or `none`.
-fn put_kind(tree: &Tree, file: FileId, told: &mut Told) {
+fn put_kind(tree: &Tree, file: FileId, output: &mut Output) {
     match tree.kind(file) {
-        Some(kind) => told.word(kind.name()),
-        None => told.word("none"),
+        Some(kind) => output.word(kind.name()),
+        None => output.word("none"),
     }
 }
 
 /// Writes the count of links and the kind of a file, whether it is linked, and whether it is an empty directory.
-fn put_tell(tree: &Tree, file: FileId, told: &mut Told) {
+fn put_tell(tree: &Tree, file: FileId, output: &mut Output) {
     if let Some(attr) = tree.attr(file) {
-        told.number(u64::from(attr.nlink));
+        output.number(u64::from(attr.nlink));
     }
-    put_kind(tree, file, told);
+    put_kind(tree, file, output);
     if tree.is_linked(file) {
-        told.word("linked");
+        output.word("linked");
     }
     if tree.is_empty_dir(file) {
-        told.word("empty");
+        output.word("empty");
     }
 }
 
 /// Makes a call that asks for files.
-fn ask_file(tree: &Tree, call: FileCall, words: &mut Words<'_>, told: &mut Told) -> Done {
+fn ask_file(tree: &Tree, call: FileCall, words: &mut Words<'_>, output: &mut Output) -> Done {
     let file = file_of(words);
     match call {
-        FileCall::Attr => put_attr(told, tree.attr(file)),
-        FileCall::Kind => put_kind(tree, file, told),
-        FileCall::Tell => put_tell(tree, file, told),
-        FileCall::Empty => told.flag(tree.is_empty_dir(file)),
-        FileCall::Perm => match tree.perm_made(file) {
-            Some(perm) => told.octal(perm.bits()),
-            None => told.word("none"),
-        },
-        FileCall::Above => told.flag(tree.is_at_or_above(file, file_of(words))),
+        FileCall::Attr => put_attr(output, tree.attr(file)),
+        FileCall::Kind => put_kind(tree, file, output),
+        FileCall::Tell => put_tell(tree, file, output),
+        FileCall::Empty => output.flag(tree.is_empty_dir(file)),
+        FileCall::Above => output.flag(tree.is_at_or_above(file, file_of(words))),
     }
     words.end()
 }
 
 /// Writes the ids of the root and its permissions.
-fn root(told: &mut Told) -> Done {
-    told.number(FileId::ROOT.0);
-    told.number(Number::ROOT.0);
-    told.octal(Perm::DIRECTORY.bits);
+fn root(output: &mut Output) -> Done {
+    output.number(FileId::ROOT.0);
+    output.number(Number::ROOT.0);
+    output.octal(Perm::DIRECTORY.bits);
     Ok(())
 }
 
 /// Makes a call on a tree.
-fn call_on(tree: &mut Tree, word: &[u8], words: &mut Words<'_>, told: &mut Told) -> Done {
-    match chosen(&ON_CALLS, word).ok_or(Fault::BadRow)? {
-        OnCall::Create => return create(tree, words, told),
-        OnCall::Remove => return remove(tree, words, told),
-        OnCall::Rename => return rename(tree, words, told),
-        OnCall::Child => return child(tree, words, told),
-        OnCall::File(call) => return ask_file(tree, call, words, told),
-        OnCall::Changes(part) => return put_changes(tree, part, told),
-        OnCall::Commit => told.hex(&tree.commit()),
-        OnCall::Next => told.number(tree.next_file().0),
+fn call_on(tree: &mut Tree, word: &[u8], words: &mut Words<'_>, output: &mut Output) -> Done {
+    match chosen(&ON_CALLS, word).ok_or(RowFault::BadRow)? {
+        OnCall::Create => return create(tree, words, output),
+        OnCall::Remove => return remove(tree, words, output),
+        OnCall::Rename => return rename(tree, words, output),
+        OnCall::Child => return child(tree, words, output),
+        OnCall::File(call) => return ask_file(tree, call, words, output),
+        OnCall::Changes(part) => return put_changes(tree, part, output),
+        OnCall::Commit => output.hex(&tree.commit()),
+        OnCall::Next => output.number(tree.next_file().0),
     }
     words.end()
 }
 
 /// Makes a call of trees.
-pub(crate) fn call(trees: &mut Trees, words: &mut Words<'_>, told: &mut Told) -> Done {
+pub(crate) fn call(trees: &mut Trees, words: &mut Words<'_>, output: &mut Output) -> Done {
     let word = words.word();
     match chosen(&TREE_CALLS, word) {
-        Some(TreeCall::New) => new(trees, told),
-        Some(TreeCall::With) => with(trees, words, told),
-        Some(TreeCall::Again(part)) => again(trees, part, told),
-        Some(TreeCall::Root) => root(told),
+        Some(TreeCall::New) => new(trees, output),
+        Some(TreeCall::With) => with(trees, words, output),
+        Some(TreeCall::Again(part)) => again(trees, part, output),
+        Some(TreeCall::Root) => root(output),
         None => match trees.tree.as_mut() {
-            Some(tree) => call_on(tree, word, words, told),
-            None => Err(Fault::BadRow),
+            Some(tree) => call_on(tree, word, words, output),
+            None => Err(RowFault::BadRow),
         },
     }
 }

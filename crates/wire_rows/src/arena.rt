@@ -1,12 +1,12 @@
 //! Arenas of numbers. A row names a slot by its place in a list of slots.
 //!
-//! `arena new CAPACITY`: the capacity; `arena add PLACE N`: adds N, and puts its slot at PLACE, or `back N`;
-//! `arena touch PLACE`, `arena set PLACE N`, `arena remove PLACE`: `none` if the slot isn't held;
-//! `arena is_held PLACE`, `arena is_oldest PLACE`, `arena same PLACE PLACE`; `arena take_oldest`: removes the oldest;
-//! `arena order`: all values, the oldest first; `arena agree PLACE ..`: the values there, the last place first, then how
-//! many there are, and whether the last place is the oldest; `arena len`.
-use node_arena::{Nodes, Slot};
-use row_words::{Fault, Told, Words, chosen};
+//! `arena new CAPACITY`: the capacity. `arena add PLACE N`: adds N, and puts its slot at PLACE, or `back N`.
+//! `arena touch PLACE`, `arena set PLACE N`, `arena remove PLACE`: `none` if the slot isn't held.
+//! `arena is_held PLACE`, `arena is_oldest PLACE`, `arena same PLACE PLACE`. `arena take_oldest`: removes the oldest.
+//! `arena order`: all values, the oldest first. `arena agree PLACE ..`: the values there, the last place first, then how
+//! many there are, and whether the last place is the oldest. `arena len`.
+use node_arena::{NodeArena, Slot};
+use row_words::{Output, RowFault, Words, chosen};
 
 /// How many places a row may have.
 const MOST_PLACES: usize = 64;
@@ -52,12 +52,12 @@ static SLOT_CALLS: [(&str, SlotCall); 6] = [
 /// An arena, and the slots that rows name.
 #[derive(Drop)]
 pub(crate) struct Arena {
-    nodes: Nodes<u64>,
+    nodes: NodeArena<u64>,
     slots: Vec<Slot>,
 }
 
 /// Puts `slot` at `place`, which has one already or is the next one.
-fn put_slot(slots: &mut Vec<Slot>, place: u64, slot: Slot) -> Result<(), Fault> {
+fn put_slot(slots: &mut Vec<Slot>, place: u64, slot: Slot) -> Result<(), RowFault> {
     match slots.get_mut(place as usize) {
         Some(old) => *old = slot,
         None => slots.push(slot)?,
@@ -67,13 +67,13 @@ fn put_slot(slots: &mut Vec<Slot>, place: u64, slot: Slot) -> Result<(), Fault> 
 
 impl Arena {
     /// Makes an arena.
-    fn make(words: &mut Words<'_>, told: &mut Told) -> Result<Arena, Fault> {
+    fn make(words: &mut Words<'_>, output: &mut Output) -> Result<Arena, RowFault> {
         let capacity = words.number() as usize;
         if capacity < 1 || capacity > 65_536 {
-            return Err(Fault::BadRow);
+            return Err(RowFault::BadRow);
         }
-        let nodes = Nodes::new(words.alloc(), capacity)?;
-        told.number(nodes.capacity() as u64);
+        let nodes = NodeArena::new(words.alloc(), capacity)?;
+        output.number(nodes.capacity() as u64);
         Ok(Arena {
             nodes,
             slots: Vec::new(words.alloc()),
@@ -81,73 +81,73 @@ impl Arena {
     }
 
     /// Adds a value, and puts its slot at a place.
-    fn add(&mut self, words: &mut Words<'_>, told: &mut Told) -> Result<(), Fault> {
+    fn add(&mut self, words: &mut Words<'_>, output: &mut Output) -> Result<(), RowFault> {
         let place = words.number();
         let value = words.number();
         self.slots.reserve(1)?;
         match self.nodes.add(value) {
             Ok(slot) => {
                 put_slot(&mut self.slots, place, slot)?;
-                told.word("ok");
+                output.word("ok");
             }
             Err(value) => {
-                told.word("back");
-                told.number(value);
+                output.word("back");
+                output.number(value);
             }
         }
         Ok(())
     }
 
     /// Removes the value at `slot`, if it is held, and writes it.
-    fn remove(&mut self, slot: Slot, told: &mut Told) {
+    fn remove(&mut self, slot: Slot, output: &mut Output) {
         if !self.nodes.is_held(slot) {
-            told.word("none");
+            output.word("none");
             return;
         }
-        told.number(self.nodes.remove(slot));
+        output.number(self.nodes.remove(slot));
         if self.nodes.is_held(slot) {
-            told.word("held");
+            output.word("held");
         }
     }
 
     /// Writes the value at `slot`, or `none` if it isn't held.
-    fn get(&self, slot: Slot, told: &mut Told) {
+    fn get(&self, slot: Slot, output: &mut Output) {
         if self.nodes.is_held(slot) {
-            told.number(*self.nodes.get(slot));
+            output.number(*self.nodes.get(slot));
         } else {
-            told.word("none");
+            output.word("none");
         }
     }
 
     /// Puts `value` at `slot`, or touches it where there is none, if it is held.
-    fn change(&mut self, slot: Slot, value: Option<u64>, told: &mut Told) {
+    fn change(&mut self, slot: Slot, value: Option<u64>, output: &mut Output) {
         if !self.nodes.is_held(slot) {
-            told.word("none");
+            output.word("none");
             return;
         }
         match value {
             Some(value) => *self.nodes.get_mut(slot) = value,
             None => self.nodes.touch(slot),
         }
-        told.word("ok");
+        output.word("ok");
     }
 
     /// Writes all values, the oldest first. Touches each once, so the order stays.
-    fn tell_order(&mut self, told: &mut Told) {
+    fn tell_order(&mut self, output: &mut Output) {
         for _value in 0..self.nodes.len() {
             let Some(slot) = self.nodes.oldest() else {
                 return;
             };
-            told.number(*self.nodes.get(slot));
+            output.number(*self.nodes.get(slot));
             self.nodes.touch(slot);
         }
     }
 
     /// Removes the oldest value, if there is one, and writes it.
-    fn take_oldest(&mut self, told: &mut Told) {
+    fn take_oldest(&mut self, output: &mut Output) {
         match self.nodes.oldest() {
-            Some(slot) => self.remove(slot, told),
-            None => told.word("none"),
+            Some(slot) => self.remove(slot, output),
+            None => output.word("none"),
         }
     }
 
@@ -163,45 +163,45 @@ impl Arena {
     }
 
     /// Writes the values at the places that `words` tell, how many there are, and whether the last place is the oldest.
-    fn agree(&self, words: &mut Words<'_>, told: &mut Told) {
+    fn agree(&self, words: &mut Words<'_>, output: &mut Output) {
         let mut last = None;
         for _place in 0..MOST_PLACES {
             if !words.has_more() {
                 break;
             }
             let slot = self.slot(words);
-            self.get(slot, told);
+            self.get(slot, output);
             last = Some(slot);
         }
-        told.number(self.nodes.len() as u64);
-        told.flag(self.nodes.oldest() == last);
+        output.number(self.nodes.len() as u64);
+        output.flag(self.nodes.oldest() == last);
     }
 
     /// Makes a call of a slot.
-    fn call_slot(&mut self, call: SlotCall, words: &mut Words<'_>, told: &mut Told) {
+    fn call_slot(&mut self, call: SlotCall, words: &mut Words<'_>, output: &mut Output) {
         let slot = self.slot(words);
         match call {
-            SlotCall::Touch => self.change(slot, None, told),
-            SlotCall::Set => self.change(slot, Some(words.number()), told),
-            SlotCall::Remove => self.remove(slot, told),
-            SlotCall::IsHeld => told.flag(self.nodes.is_held(slot)),
-            SlotCall::IsOldest => told.flag(self.nodes.oldest() == Some(slot)),
-            SlotCall::Same => told.flag(self.slot(words) == slot),
+            SlotCall::Touch => self.change(slot, None, output),
+            SlotCall::Set => self.change(slot, Some(words.number()), output),
+            SlotCall::Remove => self.remove(slot, output),
+            SlotCall::IsHeld => output.flag(self.nodes.is_held(slot)),
+            SlotCall::IsOldest => output.flag(self.nodes.oldest() == Some(slot)),
+            SlotCall::Same => output.flag(self.slot(words) == slot),
         }
     }
 
     /// Makes a call.
-    fn call(&mut self, words: &mut Words<'_>, told: &mut Told) -> Result<(), Fault> {
+    fn call(&mut self, words: &mut Words<'_>, output: &mut Output) -> Result<(), RowFault> {
         let word = words.word();
         match chosen(&ARENA_CALLS, word) {
-            Some(ArenaCall::Add) => self.add(words, told)?,
-            Some(ArenaCall::TakeOldest) => self.take_oldest(told),
-            Some(ArenaCall::Order) => self.tell_order(told),
-            Some(ArenaCall::Agree) => self.agree(words, told),
-            Some(ArenaCall::Len) => told.number(self.nodes.len() as u64),
+            Some(ArenaCall::Add) => self.add(words, output)?,
+            Some(ArenaCall::TakeOldest) => self.take_oldest(output),
+            Some(ArenaCall::Order) => self.tell_order(output),
+            Some(ArenaCall::Agree) => self.agree(words, output),
+            Some(ArenaCall::Len) => output.number(self.nodes.len() as u64),
             None => {
-                let call = chosen(&SLOT_CALLS, word).ok_or(Fault::BadRow)?;
-                self.call_slot(call, words, told);
+                let call = chosen(&SLOT_CALLS, word).ok_or(RowFault::BadRow)?;
+                self.call_slot(call, words, output);
             }
         }
         words.end()
@@ -212,14 +212,14 @@ impl Arena {
 pub(crate) fn call_arena(
     arena: &mut Option<Arena>,
     words: &mut Words<'_>,
-    told: &mut Told,
-) -> Result<(), Fault> {
+    output: &mut Output,
+) -> Result<(), RowFault> {
     match arena {
-        Some(arena) => arena.call(words, told),
+        Some(arena) => arena.call(words, output),
         None if words.word() == b"new".as_slice() => {
-            *arena = Some(Arena::make(words, told)?);
+            *arena = Some(Arena::make(words, output)?);
             Ok(())
         }
-        None => Err(Fault::BadRow),
+        None => Err(RowFault::BadRow),
     }
 }

@@ -1,9 +1,9 @@
 //! Fields that are written and read with their highest byte first.
 //!
-//! `codec put BYTE TWO FOUR EIGHT LETTERS`: the bytes of numbers of one, two, four and eight bytes, and of letters;
-//! `codec take BYTES`: the same fields, with three letters, at the front of BYTES, and what is behind them, or `Short`;
-//! `codec number BYTES`: the number in two, four or eight BYTES; `codec bytes BYTES`: the same, as `Bytes` show them and
-//! give them back; `codec equal BYTES BYTES`.
+//! `codec put BYTE TWO FOUR EIGHT LETTERS`: the bytes of numbers of one, two, four and eight bytes, and of letters.
+//! `codec take BYTES`: the same fields, with three letters, at the front of BYTES, and what is behind them, or `Short`.
+//! `codec number BYTES`: the number in two, four or eight BYTES. `codec bytes BYTES`: the same, as `Bytes` show them and
+//! give them back. `codec equal BYTES BYTES`.
 ghost use Rattle.std.specs.Prelude.{◌+◌, length};
 ghost use Rattle.byte_codec.specs.Writing.{HasRoom};
 
@@ -11,7 +11,7 @@ use byte_codec::{
     Bytes, byte_at, bytes_at, put_byte, put_slice, put_u16, put_u32, put_u64, u16_at, u16_in,
     u32_at, u32_in, u64_at, u64_in,
 };
-use row_words::{Fault, Told, Words, chosen};
+use row_words::{Output, RowFault, Words, chosen};
 
 /// The calls of fields.
 #[derive(Clone, Copy)]
@@ -48,7 +48,7 @@ fn put_fields(out: &mut Vec<u8>, numbers: [u64; 4], letters: &[u8])
 }
 
 /// Writes the fields that `words` tell.
-fn put(words: &mut Words<'_>, told: &mut Told) -> Result<(), Fault> {
+fn put(words: &mut Words<'_>, output: &mut Output) -> Result<(), RowFault> {
     let byte = words.number();
     let two = words.number();
     let four = words.number();
@@ -57,57 +57,60 @@ fn put(words: &mut Words<'_>, told: &mut Told) -> Result<(), Fault> {
     let mut out = Vec::new(words.alloc());
     out.reserve(letters.len().saturating_add(15))?;
     put_fields(&mut out, numbers, letters.as_slice());
-    told.bytes(out.as_slice());
+    output.bytes(out.as_slice());
     words.end()
 }
 
 /// Writes the fields at the front of `bytes`.
-fn tell_fields(bytes: &[u8], told: &mut Told) -> Result<(), Short> {
+fn tell_fields(bytes: &[u8], output: &mut Output) -> Result<(), Short> {
     let (byte, rest) = byte_at(bytes, Short)?;
     let (two, rest) = u16_at(rest, Short)?;
     let (four, rest) = u32_at(rest, Short)?;
     let (eight, rest) = u64_at(rest, Short)?;
     let (letters, rest) = bytes_at(rest, 3, Short)?;
-    told.number(u64::from(byte));
-    told.number(u64::from(two));
-    told.number(u64::from(four));
-    told.number(eight);
-    told.bytes(letters);
-    told.bytes(rest);
+    output.number(u64::from(byte));
+    output.number(u64::from(two));
+    output.number(u64::from(four));
+    output.number(eight);
+    output.bytes(letters);
+    output.bytes(rest);
     Ok(())
 }
 
 /// Writes the number that all of `field` tells.
-fn tell_number(field: &[u8], told: &mut Told) {
+fn tell_number(field: &[u8], output: &mut Output) {
     match field.len() {
-        2 => told.number(u64::from(u16_in(field))),
-        4 => told.number(u64::from(u32_in(field))),
-        8 => told.number(u64_in(field)),
-        _ => told.word("none"),
+        2 => output.number(u64::from(u16_in(field))),
+        4 => output.number(u64::from(u32_in(field))),
+        8 => output.number(u64_in(field)),
+        _ => output.word("none"),
     }
 }
 
 /// Writes the fields at the front of `bytes`, or `Short`.
-fn take(bytes: &[u8], told: &mut Told) {
-    if tell_fields(bytes, told).is_err() {
-        told.word("Short");
+fn take(bytes: &[u8], output: &mut Output) {
+    if tell_fields(bytes, output).is_err() {
+        output.word("Short");
     }
 }
 
 /// Writes `bytes` as they are shown, and as they are given back.
-fn tell_bytes(bytes: Bytes, told: &mut Told) {
-    told.bytes(bytes.as_slice());
-    told.bytes(bytes.into_vec().as_slice());
+fn tell_bytes(bytes: Bytes, output: &mut Output) {
+    output.bytes(bytes.as_slice());
+    match bytes.into_vec() {
+        Some(bytes) => output.bytes(bytes.as_slice()),
+        None => output.word("shared"),
+    }
 }
 
 /// Makes a call of fields.
-pub(crate) fn call_codec(words: &mut Words<'_>, told: &mut Told) -> Result<(), Fault> {
-    match chosen(&CODEC_CALLS, words.word()).ok_or(Fault::BadRow)? {
-        CodecCall::Put => return put(words, told),
-        CodecCall::Take => take(words.bytes().as_slice(), told),
-        CodecCall::Number => tell_number(words.bytes().as_slice(), told),
-        CodecCall::Equal => told.flag(Bytes::of(words.bytes()) == Bytes::of(words.bytes())),
-        CodecCall::Bytes => tell_bytes(Bytes::of(words.bytes()), told),
+pub(crate) fn call_codec(words: &mut Words<'_>, output: &mut Output) -> Result<(), RowFault> {
+    match chosen(&CODEC_CALLS, words.word()).ok_or(RowFault::BadRow)? {
+        CodecCall::Put => return put(words, output),
+        CodecCall::Take => take(words.bytes().as_slice(), output),
+        CodecCall::Number => tell_number(words.bytes().as_slice(), output),
+        CodecCall::Equal => output.flag(Bytes::of(words.bytes()) == Bytes::of(words.bytes())),
+        CodecCall::Bytes => tell_bytes(Bytes::of(words.bytes()), output),
     }
     words.end()
 }

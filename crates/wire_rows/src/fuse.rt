@@ -2,8 +2,7 @@
 //!
 //! `fuse read BYTES`: UNIQUE REQUEST, or the fault; `fuse again BYTES`: the bytes of the request that is read from BYTES;
 //! `fuse kept BYTES`: whether the request that is read into rooms, the copy, and the copy in rooms equal the request;
-//! `fuse write UNIQUE REQUEST`: its bytes; `fuse items BYTES`: N K of each item of a forget, or the fault;
-//! `fuse batch BYTES`: how many items, and whether a batch of them, its copy, and its copy in a room have the same;
+//! `fuse write UNIQUE REQUEST`: its bytes;
 //! `fuse goes BYTES`: `ask` and the numbers that the request is for, or `forget`; `fuse other OPCODE N`: that request, or
 //! `none`; `fuse write_reply UNIQUE ANSWER`: its bytes; `fuse read_reply BYTES`: UNIQUE ANSWER, or the fault;
 //! `fuse fault_reply BYTES FAULT`: UNIQUE ANSWER of the reply to a request that was refused so, or `none`.
@@ -11,12 +10,12 @@ ghost use Rattle.fuse_wire.specs.Request.{IsSendable};
 
 use eden_base::{NameFault, NameRoom, Number};
 use fuse_wire::{
-    Ask, Batch, BatchRoom, Items, MAX_REPLY_LEN, Reply, Request, WireFault, fault_reply,
-    read_items, read_reply, read_request, read_request_to, write_reply, write_request,
+    Ask, BatchRoom, MAX_REPLY_LEN, Reply, Request, RequestRoom, WireFault, fault_reply, read_reply,
+    read_request, read_request_to, write_reply, write_request_to,
 };
 use row_words::{
-    Fault, Told, Words, chosen, read_answer, read_request as request_of, read_u32, tell_answer,
-    tell_items, tell_request, tell_wire_fault,
+    Output, RowFault, Words, chosen, read_answer, read_request as request_of, read_u32,
+    tell_answer, tell_request, tell_wire_fault,
 };
 use std::alloc::Global;
 
@@ -44,7 +43,7 @@ static FAULTS: [(&str, WireFault); 4] = [
 ];
 
 /// Returns whether the request in `bytes`, read into rooms, equals `ask`.
-fn is_read_to_rooms(alloc: Global, bytes: &[u8], ask: &Ask) -> Result<bool, Fault> {
+fn is_read_to_rooms(alloc: Global, bytes: &[u8], ask: &Ask) -> Result<bool, RowFault> {
     let first = NameRoom::new(alloc)?;
     let second = NameRoom::new(alloc)?;
     let batch = BatchRoom::new(alloc)?;
@@ -55,13 +54,13 @@ fn is_read_to_rooms(alloc: Global, bytes: &[u8], ask: &Ask) -> Result<bool, Faul
 }
 
 /// Returns whether a copy of `request` equals it.
-fn is_copied(alloc: Global, request: &Request) -> Result<bool, Fault> {
+fn is_copied(alloc: Global, request: &Request) -> Result<bool, RowFault> {
     let copy = request.copy(alloc)?;
     Ok(copy == *request)
 }
 
 /// Returns whether a copy of `request` into rooms equals it.
-fn is_copied_to_rooms(alloc: Global, request: &Request) -> Result<bool, Fault> {
+fn is_copied_to_rooms(alloc: Global, request: &Request) -> Result<bool, RowFault> {
     let first = NameRoom::new(alloc)?;
     let second = NameRoom::new(alloc)?;
     let batch = BatchRoom::new(alloc)?;
@@ -69,27 +68,27 @@ fn is_copied_to_rooms(alloc: Global, request: &Request) -> Result<bool, Fault> {
 }
 
 /// Writes whether the request in `bytes`, which is `ask`, is kept in rooms and in copies.
-fn tell_kept(alloc: Global, bytes: &[u8], ask: &Ask, told: &mut Told) -> Result<(), Fault> {
-    told.flag(is_read_to_rooms(alloc, bytes, ask)?);
-    told.flag(is_copied(alloc, &ask.what)?);
-    told.flag(is_copied_to_rooms(alloc, &ask.what)?);
+fn tell_kept(alloc: Global, bytes: &[u8], ask: &Ask, output: &mut Output) -> Result<(), RowFault> {
+    output.flag(is_read_to_rooms(alloc, bytes, ask)?);
+    output.flag(is_copied(alloc, &ask.what)?);
+    output.flag(is_copied_to_rooms(alloc, &ask.what)?);
     Ok(())
 }
 
 /// Writes the bytes of `ask`.
-fn tell_written(alloc: Global, ask: &Ask, told: &mut Told) -> Result<(), Fault>
+fn tell_written(alloc: Global, ask: &Ask, output: &mut Output) -> Result<(), RowFault>
     requires { IsSendable ask.now.what }
 {
-    let bytes = write_request(alloc, ask)?;
-    told.bytes(bytes.as_slice());
+    let bytes = write_request_to(RequestRoom::new(alloc)?, ask);
+    output.bytes(bytes.as_slice());
     Ok(())
 }
 
 /// Writes whether the kernel waits for a reply, and the numbers of the files that `request` is for.
-fn tell_nodes(request: &Request, told: &mut Told) {
-    told.word(if request.is_ask() { "ask" } else { "forget" });
+fn tell_nodes(request: &Request, output: &mut Output) {
+    output.word(if request.is_ask() { "ask" } else { "forget" });
     for node in request.nodes().as_slice() {
-        told.number(node.0);
+        output.number(node.0);
     }
 }
 
@@ -99,93 +98,66 @@ fn tell_ask(
     call: &[u8],
     bytes: &[u8],
     ask: &Ask,
-    told: &mut Told,
-) -> Result<(), Fault>
+    output: &mut Output,
+) -> Result<(), RowFault>
     requires { IsSendable ask.now.what }
 {
     match call {
-        b"again" => tell_written(alloc, ask, told),
-        b"kept" => tell_kept(alloc, bytes, ask, told),
+        b"again" => tell_written(alloc, ask, output),
+        b"kept" => tell_kept(alloc, bytes, ask, output),
         b"goes" => {
-            tell_nodes(&ask.what, told);
+            tell_nodes(&ask.what, output);
             Ok(())
         }
         _ => {
-            told.number(ask.unique);
-            tell_request(told, &ask.what);
+            output.number(ask.unique);
+            tell_request(output, &ask.what);
             Ok(())
         }
     }
 }
 
 /// Reads the request in `bytes`, and writes what `call` asks of it.
-fn call_ask(alloc: Global, call: &[u8], bytes: &[u8], told: &mut Told) -> Result<(), Fault> {
+fn call_ask(alloc: Global, call: &[u8], bytes: &[u8], output: &mut Output) -> Result<(), RowFault> {
     match read_request(alloc, bytes) {
-        Ok(ask) => tell_ask(alloc, call, bytes, &ask, told),
-        Err(WireFault::NoMemory) => Err(Fault::NoMemory),
+        Ok(ask) => tell_ask(alloc, call, bytes, &ask, output),
+        Err(WireFault::NoMemory) => Err(RowFault::NoMemory),
         Err(fault) => {
-            tell_wire_fault(told, fault);
+            tell_wire_fault(output, fault);
             Ok(())
         }
     }
 }
 
 /// Writes a request.
-fn write(words: &mut Words<'_>, told: &mut Told) -> Result<(), Fault> {
+fn write(words: &mut Words<'_>, output: &mut Output) -> Result<(), RowFault> {
     let alloc = words.alloc();
     let unique = words.number();
     let what = request_of(alloc, words)?;
-    tell_written(alloc, &Ask { unique, what }, told)
-}
-
-/// Writes how many `items` there are, and whether a batch of them, its copy, and its copy in a room have the same.
-fn tell_batch(alloc: Global, items: &Items, told: &mut Told) -> Result<(), Fault> {
-    let room = BatchRoom::new(alloc)?;
-    let batch = Batch::of(alloc, items.as_slice())?;
-    let copy = batch.copy(alloc)?;
-    told.number(items.len() as u64);
-    told.flag(batch.as_slice() == items.as_slice());
-    told.flag(copy == batch);
-    told.flag(batch.copy_to(room) == batch);
-    Ok(())
-}
-
-/// Reads the items of the forget in `bytes`, and writes them, or what becomes of a batch of them.
-fn call_items(alloc: Global, is_batch: bool, bytes: &[u8], told: &mut Told) -> Result<(), Fault> {
-    match read_items(bytes) {
-        Ok(items) if is_batch => tell_batch(alloc, &items, told),
-        Ok(items) => {
-            tell_items(told, items.as_slice());
-            Ok(())
-        }
-        Err(fault) => {
-            tell_wire_fault(told, fault);
-            Ok(())
-        }
-    }
+    tell_written(alloc, &Ask { unique, what }, output)
 }
 
 /// Writes `reply`.
-fn tell_reply(reply: &Reply, told: &mut Told) {
-    told.number(reply.unique);
-    tell_answer(told, &reply.answer);
+fn tell_reply(reply: &Reply, output: &mut Output) {
+    output.number(reply.unique);
+    tell_answer(output, &reply.answer);
 }
 
 /// Reads the reply in `bytes`.
-fn call_reply(bytes: &[u8], told: &mut Told) {
+fn call_reply(bytes: &[u8], output: &mut Output) {
     match read_reply(bytes) {
-        Ok(reply) => tell_reply(&reply, told),
-        Err(fault) => tell_wire_fault(told, fault),
+        Ok(reply) => tell_reply(&reply, output),
+        Err(fault) => tell_wire_fault(output, fault),
     }
 }
 
 /// Writes the bytes of a reply.
-fn put_reply(words: &mut Words<'_>, told: &mut Told) -> Result<(), Fault> {
+fn put_reply(words: &mut Words<'_>, output: &mut Output) -> Result<(), RowFault> {
     let unique = words.number();
     let answer = read_answer(words)?;
     let mut out = [7; MAX_REPLY_LEN];
     let len = write_reply(&Reply { unique, answer }, &mut out);
-    told.bytes(&out[..len]);
+    output.bytes(&out[..len]);
     Ok(())
 }
 
@@ -203,54 +175,57 @@ fn read_fault(words: &mut Words<'_>) -> WireFault {
 }
 
 /// Writes the reply to a request that was refused.
-fn call_fault(words: &mut Words<'_>, told: &mut Told) -> Result<(), Fault> {
+fn call_fault(words: &mut Words<'_>, output: &mut Output) -> Result<(), RowFault> {
     let bytes = words.bytes();
     let fault = read_fault(words);
     words.end()?;
     match fault_reply(bytes.as_slice(), &fault) {
-        Some(reply) => tell_reply(&reply, told),
-        None => told.word("none"),
+        Some(reply) => tell_reply(&reply, output),
+        None => output.word("none"),
     }
     Ok(())
 }
 
 /// Makes a request of another opcode.
-fn call_other(words: &mut Words<'_>, told: &mut Told) -> Result<(), Fault> {
+fn call_other(words: &mut Words<'_>, output: &mut Output) -> Result<(), RowFault> {
     let opcode = read_u32(words);
     let node = Number(words.number());
     words.end()?;
     match Request::other(opcode, node) {
-        Some(request) => tell_request(told, &request),
-        None => told.word("none"),
+        Some(request) => tell_request(output, &request),
+        None => output.word("none"),
     }
     Ok(())
 }
 
 /// Makes the call of `bytes` that `call` tells.
-fn call_bytes(alloc: Global, call: &[u8], bytes: &[u8], told: &mut Told) -> Result<(), Fault> {
+fn call_bytes(
+    alloc: Global,
+    call: &[u8],
+    bytes: &[u8],
+    output: &mut Output,
+) -> Result<(), RowFault> {
     match call {
-        b"items" => call_items(alloc, false, bytes, told),
-        b"batch" => call_items(alloc, true, bytes, told),
         b"read_reply" => {
-            call_reply(bytes, told);
+            call_reply(bytes, output);
             Ok(())
         }
-        _ => call_ask(alloc, call, bytes, told),
+        _ => call_ask(alloc, call, bytes, output),
     }
 }
 
 /// Makes a call of requests and replies.
-pub(crate) fn call_fuse(words: &mut Words<'_>, told: &mut Told) -> Result<(), Fault> {
+pub(crate) fn call_fuse(words: &mut Words<'_>, output: &mut Output) -> Result<(), RowFault> {
     let word = words.word();
     match chosen(&FUSE_CALLS, word) {
-        Some(FuseCall::Write) => write(words, told),
-        Some(FuseCall::Other) => call_other(words, told),
-        Some(FuseCall::WriteReply) => put_reply(words, told),
-        Some(FuseCall::FaultReply) => call_fault(words, told),
+        Some(FuseCall::Write) => write(words, output),
+        Some(FuseCall::Other) => call_other(words, output),
+        Some(FuseCall::WriteReply) => put_reply(words, output),
+        Some(FuseCall::FaultReply) => call_fault(words, output),
         None => {
             let bytes = words.bytes();
             words.end()?;
-            call_bytes(words.alloc(), word, bytes.as_slice(), told)
+            call_bytes(words.alloc(), word, bytes.as_slice(), output)
         }
     }
 }

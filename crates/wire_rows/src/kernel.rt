@@ -1,11 +1,11 @@
 //! Messages of a kernel, and what it is told.
 //!
-//! `kernel header BYTES`: OPCODE UNIQUE; `kernel responder OPCODE`; `kernel agree BYTES`: MINOR READAHEAD FLAGS of what
-//! is agreed to that offer, or `MajorAlone`; `kernel offer BYTES`: UNIQUE MAJOR MINOR READAHEAD FLAGS;
-//! `kernel init BYTES`: the bytes of the reply to it; `kernel statfs UNIQUE`: the bytes of the reply;
-//! `kernel items BYTES`: the items of a batch of forgets, each as the 16 bytes that it has there;
+//! `kernel header BYTES`: OPCODE UNIQUE. `kernel responder OPCODE`. `kernel agree BYTES`: MINOR READAHEAD FLAGS of what
+//! is agreed to that offer, or `MajorAlone`. `kernel offer BYTES`: UNIQUE MAJOR MINOR READAHEAD FLAGS.
+//! `kernel init BYTES`: the bytes of the reply to it. `kernel statfs UNIQUE`: the bytes of the reply.
+//! `kernel items BYTES`: the items of a batch of forgets, each as the 16 bytes that it has there.
 //! `kernel read BYTES`: what becomes of a message: `asked UNIQUE REQUEST`, `forgot N K`, `forgot_many`, `ignored`, or the
-//! bytes of a reply; `kernel error UNIQUE ERRNO`, `kernel tell UNIQUE SECONDS NANOSECONDS USER GROUP ANSWER`: the bytes of
+//! bytes of a reply. `kernel error UNIQUE ERRNO`, `kernel tell UNIQUE SECONDS NANOSECONDS USER GROUP ANSWER`: the bytes of
 //! that reply.
 use mount_wire::{
     Agreement, BatchReader, FileOwner, KernelMessage, KernelMessageFault, MountAttributes,
@@ -13,7 +13,7 @@ use mount_wire::{
     read_message, read_offer, responder_of, tell_answer, tell_error,
 };
 use row_words::{
-    Fault, Told, Words, chosen, read_answer, read_errno, read_u32, tell_items, tell_request,
+    Output, RowFault, Words, chosen, read_answer, read_errno, read_u32, tell_items, tell_request,
 };
 use std::alloc::Global;
 
@@ -64,16 +64,16 @@ fn responder_name(responder: Responder) -> &'static str {
 }
 
 /// Writes an offer.
-fn tell_offer(offer: &Offer, told: &mut Told) {
-    told.number(offer.unique);
-    told.number(u64::from(offer.major));
-    told.number(u64::from(offer.minor));
-    told.number(u64::from(offer.max_readahead));
-    told.number(u64::from(offer.flags));
+fn tell_offer(offer: &Offer, output: &mut Output) {
+    output.number(offer.unique);
+    output.number(u64::from(offer.major));
+    output.number(u64::from(offer.minor));
+    output.number(u64::from(offer.max_readahead));
+    output.number(u64::from(offer.flags));
 }
 
 /// Writes what is agreed to an offer.
-fn tell_agreement(offer: &Offer, told: &mut Told) {
+fn tell_agreement(offer: &Offer, output: &mut Output) {
     match agree(offer) {
         Ok(
             Agreement::Version {
@@ -82,40 +82,40 @@ fn tell_agreement(offer: &Offer, told: &mut Told) {
                 flags,
             },
         ) => {
-            told.number(u64::from(minor));
-            told.number(u64::from(max_readahead));
-            told.number(u64::from(flags));
+            output.number(u64::from(minor));
+            output.number(u64::from(max_readahead));
+            output.number(u64::from(flags));
         }
-        Ok(Agreement::MajorAlone) => told.word("MajorAlone"),
-        Err(fault) => told.word(fault_name(fault)),
+        Ok(Agreement::MajorAlone) => output.word("MajorAlone"),
+        Err(fault) => output.word(fault_name(fault)),
     }
 }
 
 /// Reads the offer in `bytes`, and writes it, what is agreed to it, or the reply to it.
-fn call_offer(call: &[u8], bytes: &[u8], told: &mut Told) {
+fn call_offer(call: &[u8], bytes: &[u8], output: &mut Output) {
     match read_offer(bytes) {
         Ok(offer) => match call {
-            b"offer" => tell_offer(&offer, told),
-            b"agree" => tell_agreement(&offer, told),
-            _ => told.bytes(answer_init(&offer).as_slice()),
+            b"offer" => tell_offer(&offer, output),
+            b"agree" => tell_agreement(&offer, output),
+            _ => output.bytes(answer_init(&offer).as_slice()),
         },
-        Err(fault) => told.word(fault_name(fault)),
+        Err(fault) => output.word(fault_name(fault)),
     }
 }
 
 /// Reads the header in `bytes`.
-fn call_header(bytes: &[u8], told: &mut Told) {
+fn call_header(bytes: &[u8], output: &mut Output) {
     match read_header(bytes) {
         Ok(RequestHeader { opcode, unique }) => {
-            told.number(u64::from(opcode));
-            told.number(unique);
+            output.number(u64::from(opcode));
+            output.number(unique);
         }
-        Err(fault) => told.word(fault_name(fault)),
+        Err(fault) => output.word(fault_name(fault)),
     }
 }
 
 /// Appends the items that are left of `reader`, and goes one step further.
-fn put_items(reader: &mut BatchReader<'_>, out: &mut Vec<u8>) -> Result<(), Fault> {
+fn put_items(reader: &mut BatchReader<'_>, out: &mut Vec<u8>) -> Result<(), RowFault> {
     for _item in 0..MOST_ITEMS {
         let Some(item) = reader.first() else {
             break;
@@ -126,63 +126,68 @@ fn put_items(reader: &mut BatchReader<'_>, out: &mut Vec<u8>) -> Result<(), Faul
     }
     reader.skip_first();
     if reader.first().is_some() {
-        return Err(Fault::BadRow);
+        return Err(RowFault::BadRow);
     }
     Ok(())
 }
 
 /// Reads the items of a batch.
-fn call_items(alloc: Global, bytes: &[u8], told: &mut Told) -> Result<(), Fault> {
+fn call_items(alloc: Global, bytes: &[u8], output: &mut Output) -> Result<(), RowFault> {
     match BatchReader::of(bytes) {
         Ok(mut reader) => {
             let mut out = Vec::new(alloc);
             put_items(&mut reader, &mut out)?;
-            told.bytes(out.as_slice());
+            output.bytes(out.as_slice());
         }
-        Err(fault) => told.word(fault_name(fault)),
+        Err(fault) => output.word(fault_name(fault)),
     }
     Ok(())
 }
 
 /// Reads the message in `bytes`. A message that is answered ENOMEM was refused memory.
-fn call_read(alloc: Global, bytes: &[u8], told: &mut Told) -> Result<(), Fault> {
+fn call_read(alloc: Global, bytes: &[u8], output: &mut Output) -> Result<(), RowFault> {
     match read_message(alloc, bytes) {
         KernelMessage::Answered(reply) => {
             if reply.as_slice().get(4..8) == Some(NO_MEMORY.as_slice()) {
-                return Err(Fault::NoMemory);
+                return Err(RowFault::NoMemory);
             }
-            told.bytes(reply.as_slice());
+            output.bytes(reply.as_slice());
         }
         KernelMessage::Asked(ask) => {
-            told.word("asked");
-            told.number(ask.unique);
-            tell_request(told, &ask.what);
+            output.word("asked");
+            output.number(ask.unique);
+            tell_request(output, &ask.what);
         }
         KernelMessage::Forgot(item) => {
-            told.word("forgot");
-            tell_items(told, &[item]);
+            output.word("forgot");
+            tell_items(output, &[item]);
         }
-        KernelMessage::ForgotMany(_) => told.word("forgot_many"),
-        KernelMessage::Ignored => told.word("ignored"),
+        KernelMessage::ForgotMany(_) => output.word("forgot_many"),
+        KernelMessage::Ignored => output.word("ignored"),
     }
     Ok(())
 }
 
 /// Makes the call of `bytes` that `call` tells.
-fn call_bytes(alloc: Global, call: &[u8], bytes: &[u8], told: &mut Told) -> Result<(), Fault> {
+fn call_bytes(
+    alloc: Global,
+    call: &[u8],
+    bytes: &[u8],
+    output: &mut Output,
+) -> Result<(), RowFault> {
     match call {
-        b"read" => call_read(alloc, bytes, told)?,
-        b"items" => call_items(alloc, bytes, told)?,
-        b"header" => call_header(bytes, told),
-        _ => call_offer(call, bytes, told),
+        b"read" => call_read(alloc, bytes, output)?,
+        b"items" => call_items(alloc, bytes, output)?,
+        b"header" => call_header(bytes, output),
+        _ => call_offer(call, bytes, output),
     }
     Ok(())
 }
 
 /// Makes the call of a message that `call` tells.
-fn call_message(call: &[u8], words: &mut Words<'_>, told: &mut Told) -> Result<(), Fault> {
+fn call_message(call: &[u8], words: &mut Words<'_>, output: &mut Output) -> Result<(), RowFault> {
     let bytes = words.bytes();
-    call_bytes(words.alloc(), call, bytes.as_slice(), told)?;
+    call_bytes(words.alloc(), call, bytes.as_slice(), output)?;
     words.end()
 }
 
@@ -202,26 +207,26 @@ fn read_attributes(words: &mut Words<'_>) -> MountAttributes {
 }
 
 /// Tells an answer.
-fn call_tell(words: &mut Words<'_>, told: &mut Told) -> Result<(), Fault> {
+fn call_tell(words: &mut Words<'_>, output: &mut Output) -> Result<(), RowFault> {
     let unique = words.number();
     let own = read_attributes(words);
     let answer = read_answer(words)?;
-    told.bytes(tell_answer(unique, &answer, &own).as_slice());
+    output.bytes(tell_answer(unique, &answer, &own).as_slice());
     Ok(())
 }
 
 /// Makes a call of a kernel's messages.
-pub(crate) fn call_kernel(words: &mut Words<'_>, told: &mut Told) -> Result<(), Fault> {
+pub(crate) fn call_kernel(words: &mut Words<'_>, output: &mut Output) -> Result<(), RowFault> {
     let word = words.word();
     match chosen(&KERNEL_CALLS, word) {
-        Some(KernelCall::Responder) => told.word(responder_name(responder_of(read_u32(words)))),
-        Some(KernelCall::Statfs) => told.bytes(answer_statfs(words.number()).as_slice()),
+        Some(KernelCall::Responder) => output.word(responder_name(responder_of(read_u32(words)))),
+        Some(KernelCall::Statfs) => output.bytes(answer_statfs(words.number()).as_slice()),
         Some(KernelCall::Error) => {
             let unique = words.number();
-            told.bytes(tell_error(unique, read_errno(words)).as_slice());
+            output.bytes(tell_error(unique, read_errno(words)).as_slice());
         }
-        Some(KernelCall::Tell) => return call_tell(words, told),
-        None => return call_message(word, words, told),
+        Some(KernelCall::Tell) => return call_tell(words, output),
+        None => return call_message(word, words, output),
     }
     words.end()
 }

@@ -15,12 +15,12 @@ use crate::kernel::call_kernel;
 use crate::names::{call_names, call_perms};
 use crate::queue::call_queue;
 use block_queue::BlockQueue;
-use row_words::{Fault, Told, Words, chosen};
+use row_words::{Output, RowFault, Words, chosen};
 use std::alloc::Global;
 
-/// What these calls are of.
+/// The subject of a call.
 #[derive(Clone, Copy)]
-enum Subject {
+enum WireSubject {
     Name,
     Perm,
     Codec,
@@ -30,14 +30,14 @@ enum Subject {
     Kernel,
 }
 
-static SUBJECTS: [(&str, Subject); 7] = [
-    ("name", Subject::Name),
-    ("perm", Subject::Perm),
-    ("codec", Subject::Codec),
-    ("queue", Subject::Queue),
-    ("arena", Subject::Arena),
-    ("fuse", Subject::Fuse),
-    ("kernel", Subject::Kernel),
+static SUBJECTS: [(&str, WireSubject); 7] = [
+    ("name", WireSubject::Name),
+    ("perm", WireSubject::Perm),
+    ("codec", WireSubject::Codec),
+    ("queue", WireSubject::Queue),
+    ("arena", WireSubject::Arena),
+    ("fuse", WireSubject::Fuse),
+    ("kernel", WireSubject::Kernel),
 ];
 
 /// A queue and an arena.
@@ -66,16 +66,16 @@ impl Wire {
         &mut self,
         subject: &[u8],
         words: &mut Words<'_>,
-        told: &mut Told,
-    ) -> Result<(), Fault> {
-        match chosen(&SUBJECTS, subject).ok_or(Fault::BadRow)? {
-            Subject::Name => call_names(words, told),
-            Subject::Perm => call_perms(words, told),
-            Subject::Codec => call_codec(words, told),
-            Subject::Queue => call_queue(&mut self.queue, words, told),
-            Subject::Arena => call_arena(&mut self.arena, words, told),
-            Subject::Fuse => call_fuse(words, told),
-            Subject::Kernel => call_kernel(words, told),
+        output: &mut Output,
+    ) -> Result<(), RowFault> {
+        match chosen(&SUBJECTS, subject).ok_or(RowFault::BadRow)? {
+            WireSubject::Name => call_names(words, output),
+            WireSubject::Perm => call_perms(words, output),
+            WireSubject::Codec => call_codec(words, output),
+            WireSubject::Queue => call_queue(&mut self.queue, words, output),
+            WireSubject::Arena => call_arena(&mut self.arena, words, output),
+            WireSubject::Fuse => call_fuse(words, output),
+            WireSubject::Kernel => call_kernel(words, output),
         }
     }
 }

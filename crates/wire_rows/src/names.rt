@@ -1,10 +1,10 @@
 //! Names and permissions.
 //!
-//! `name parse BYTES`, `name parse_to BYTES`: the name, made in memory that is asked for or in a room, or the fault of
-//! bytes that are none; `name copy BYTES`, `name copy_to BYTES`: the name's copy, if it is the name;
-//! `name compare BYTES BYTES`: the order of two names, and whether the first is less; `perm of BITS`: octal, or `none`.
+//! `name parse BYTES`: the name, or the fault of bytes that are none. `name copy BYTES`, `name copy_to BYTES`: the name's
+//! copy, if it is the name. `name compare BYTES BYTES`: the order of two names, and whether the first is less. `perm of
+//! BITS`: octal, or `none`.
 use eden_base::{Name, NameFault, NameRoom, Perm};
-use row_words::{Fault, Told, Words, chosen, name_fault, name_of, octal};
+use row_words::{Output, RowFault, Words, chosen, name_fault, name_of, octal};
 use std::alloc::Global;
 use std::cmp::Ordering;
 
@@ -12,112 +12,108 @@ use std::cmp::Ordering;
 #[derive(Clone, Copy)]
 enum NameCall {
     Parse,
-    ParseTo,
     Copy,
     CopyTo,
 }
 
-static NAME_CALLS: [(&str, NameCall); 4] = [
+static NAME_CALLS: [(&str, NameCall); 3] = [
     ("parse", NameCall::Parse),
-    ("parse_to", NameCall::ParseTo),
     ("copy", NameCall::Copy),
     ("copy_to", NameCall::CopyTo),
 ];
 
 /// Writes the name that was read, or why there is none.
-fn tell(parsed: Result<Name, NameFault>, told: &mut Told) -> Result<(), Fault> {
+fn tell(parsed: Result<Name, NameFault>, output: &mut Output) -> Result<(), RowFault> {
     match parsed {
-        Ok(name) => told.bytes(name.bytes()),
-        Err(NameFault::NoMemory) => return Err(Fault::NoMemory),
-        Err(fault) => told.word(name_fault(fault)),
+        Ok(name) => output.bytes(name.bytes()),
+        Err(NameFault::NoMemory) => return Err(RowFault::NoMemory),
+        Err(fault) => output.word(name_fault(fault)),
     }
     Ok(())
 }
 
 /// Writes `copy`, if it is the name that was copied.
-fn tell_copy(copy: &Name, is_name: bool, told: &mut Told) {
+fn tell_copy(copy: &Name, is_name: bool, output: &mut Output) {
     if is_name {
-        told.bytes(copy.bytes());
+        output.bytes(copy.bytes());
     } else {
-        told.word("differs");
+        output.word("differs");
     }
 }
 
 /// Copies the name of `bytes`.
-fn copy(alloc: Global, bytes: &[u8], told: &mut Told) -> Result<(), Fault> {
+fn copy(alloc: Global, bytes: &[u8], output: &mut Output) -> Result<(), RowFault> {
     let name = name_of(alloc, bytes)?;
     let copy = name.copy(alloc)?;
-    tell_copy(&copy, copy.is(&name), told);
+    tell_copy(&copy, copy.is(&name), output);
     Ok(())
 }
 
 /// Copies the name of `bytes` into a room.
-fn copy_to(alloc: Global, bytes: &[u8], told: &mut Told) -> Result<(), Fault> {
+fn copy_to(alloc: Global, bytes: &[u8], output: &mut Output) -> Result<(), RowFault> {
     let room = NameRoom::new(alloc)?;
     let name = name_of(alloc, bytes)?;
     let copy = name.copy_to(room);
-    tell_copy(&copy, copy == name, told);
+    tell_copy(&copy, copy == name, output);
     Ok(())
 }
 
 /// Compares the names of `left` and `right`.
-fn compare(alloc: Global, left: &[u8], right: &[u8], told: &mut Told) -> Result<(), Fault> {
+fn compare(alloc: Global, left: &[u8], right: &[u8], output: &mut Output) -> Result<(), RowFault> {
     let left = name_of(alloc, left)?;
     let right = name_of(alloc, right)?;
-    told.word(match left.cmp(&right) {
+    output.word(match left.cmp(&right) {
         Ordering::Less => "Less",
         Ordering::Equal => "Equal",
         Ordering::Greater => "Greater",
     });
-    told.flag(left < right);
+    output.flag(left < right);
     Ok(())
 }
 
-/// Reads `bytes` as a name, in the memory of a room.
-fn parse_to(alloc: Global, bytes: &[u8], told: &mut Told) -> Result<(), Fault> {
-    let room = NameRoom::new(alloc)?;
-    tell(Name::parse_to(room, bytes), told)
-}
-
 /// Makes the call of `bytes` that `call` tells.
-fn call_bytes(alloc: Global, call: &[u8], bytes: &[u8], told: &mut Told) -> Result<(), Fault> {
-    match chosen(&NAME_CALLS, call).ok_or(Fault::BadRow)? {
-        NameCall::Parse => tell(Name::parse(alloc, bytes), told),
-        NameCall::ParseTo => parse_to(alloc, bytes, told),
-        NameCall::Copy => copy(alloc, bytes, told),
-        NameCall::CopyTo => copy_to(alloc, bytes, told),
+fn call_bytes(
+    alloc: Global,
+    call: &[u8],
+    bytes: &[u8],
+    output: &mut Output,
+) -> Result<(), RowFault> {
+    match chosen(&NAME_CALLS, call).ok_or(RowFault::BadRow)? {
+        NameCall::Parse => tell(Name::parse(alloc, bytes), output),
+        NameCall::Copy => copy(alloc, bytes, output),
+        NameCall::CopyTo => copy_to(alloc, bytes, output),
     }
 }
 
 /// Compares two names.
-fn call_compare(words: &mut Words<'_>, told: &mut Told) -> Result<(), Fault> {
+fn call_compare(words: &mut Words<'_>, output: &mut Output) -> Result<(), RowFault> {
     let left = words.bytes();
     let right = words.bytes();
     words.end()?;
-    compare(words.alloc(), left.as_slice(), right.as_slice(), told)
+    compare(words.alloc(), left.as_slice(), right.as_slice(), output)
 }
 
 /// Makes a call of names.
-pub(crate) fn call_names(words: &mut Words<'_>, told: &mut Told) -> Result<(), Fault> {
+pub(crate) fn call_names(words: &mut Words<'_>, output: &mut Output) -> Result<(), RowFault> {
     let call = words.word();
     if call == b"compare".as_slice() {
-        return call_compare(words, told);
+        return call_compare(words, output);
     }
     let bytes = words.bytes();
     words.end()?;
-    call_bytes(words.alloc(), call, bytes.as_slice(), told)
+    call_bytes(words.alloc(), call, bytes.as_slice(), output)
 }
 
 /// Makes a call of permissions.
-pub(crate) fn call_perms(words: &mut Words<'_>, told: &mut Told) -> Result<(), Fault> {
+pub(crate) fn call_perms(words: &mut Words<'_>, output: &mut Output) -> Result<(), RowFault> {
     if words.word() != b"of".as_slice() {
-        return Err(Fault::BadRow);
+        return Err(RowFault::BadRow);
     }
-    let bits = octal(words.word()).ok_or(Fault::BadRow)?;
+    let bits = octal(words.word()).ok_or(RowFault::BadRow)?;
     words.end()?;
     match Perm::of(bits) {
-        Some(perm) => told.octal(perm.bits()),
-        None => told.word("none"),
+        Some(perm) => output.octal(perm.bits()),
+        None => output.word("none"),
     }
     Ok(())
 }

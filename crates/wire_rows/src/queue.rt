@@ -1,18 +1,18 @@
 //! Queues in blocks, of numbers.
 //!
-//! `queue reserve N`; `queue push N`; `queue fill COUNT STEP`: appends 0, STEP, 2 * STEP and so on; `queue len`;
+//! `queue reserve N`. `queue push N`. `queue fill COUNT STEP`: appends 0, STEP, 2 * STEP and so on. `queue len`.
 //! `queue runs COUNT STEP`: whether a run of at least one member begins at each index below COUNT, none at COUNT, and all
-//! members are those of `fill`; `queue remove I ..`: the members at these indexes, each as `get` shows it before it is
+//! members are those of `fill`. `queue remove I ..`: the members at these indexes, each as `get` shows it before it is
 //! removed, or `none`.
 ghost use Rattle.std.specs.Prelude.{◌≤◌, OnOk};
 
 use block_queue::BlockQueue;
-use row_words::{Fault, Told, Words, chosen};
+use row_words::{Output, RowFault, Words, chosen};
 use std::alloc::AllocError;
 
 /// The calls that have a number.
 #[derive(Clone, Copy)]
-enum NumberCall {
+enum QueueNumberCall {
     Reserve,
     Push,
     Fill,
@@ -22,16 +22,16 @@ enum NumberCall {
 /// The calls of a queue.
 #[derive(Clone, Copy)]
 enum QueueCall {
-    Number(NumberCall),
+    Number(QueueNumberCall),
     Remove,
     Len,
 }
 
 static QUEUE_CALLS: [(&str, QueueCall); 6] = [
-    ("reserve", QueueCall::Number(NumberCall::Reserve)),
-    ("push", QueueCall::Number(NumberCall::Push)),
-    ("fill", QueueCall::Number(NumberCall::Fill)),
-    ("runs", QueueCall::Number(NumberCall::Runs)),
+    ("reserve", QueueCall::Number(QueueNumberCall::Reserve)),
+    ("push", QueueCall::Number(QueueNumberCall::Push)),
+    ("fill", QueueCall::Number(QueueNumberCall::Fill)),
+    ("runs", QueueCall::Number(QueueNumberCall::Runs)),
     ("remove", QueueCall::Remove),
     ("len", QueueCall::Len),
 ];
@@ -81,49 +81,49 @@ fn has_runs(queue: &BlockQueue<u64>, count: u64, step: u64) -> bool {
 }
 
 /// Removes the member at `index`, and writes it.
-fn remove(queue: &mut BlockQueue<u64>, index: u64, told: &mut Told) {
+fn remove(queue: &mut BlockQueue<u64>, index: u64, output: &mut Output) {
     let shown = queue.get(index as usize).copied();
     let removed = queue.remove(index as usize);
     match removed {
-        Some(member) if shown == removed => told.number(member),
-        None if shown.is_none() => told.word("none"),
-        _ => told.word("differs"),
+        Some(member) if shown == removed => output.number(member),
+        None if shown.is_none() => output.word("none"),
+        _ => output.word("differs"),
     }
 }
 
 /// Removes the members at the indexes that are left of `words`.
-fn remove_each(queue: &mut BlockQueue<u64>, words: &mut Words<'_>, told: &mut Told) {
+fn remove_each(queue: &mut BlockQueue<u64>, words: &mut Words<'_>, output: &mut Output) {
     for _index in 0..MOST_INDEXES {
         if !words.has_more() {
             break;
         }
-        remove(queue, words.number(), told);
+        remove(queue, words.number(), output);
     }
 }
 
 /// Makes a call that has a number.
 fn call_number(
     queue: &mut BlockQueue<u64>,
-    call: NumberCall,
+    call: QueueNumberCall,
     words: &mut Words<'_>,
-    told: &mut Told,
-) -> Result<(), Fault> {
+    output: &mut Output,
+) -> Result<(), RowFault> {
     let number = words.number();
     let step = if words.has_more() { words.number() } else { 1 };
     words.end()?;
     match call {
-        NumberCall::Reserve => queue.reserve(number as usize)?,
-        NumberCall::Push => {
+        QueueNumberCall::Reserve => queue.reserve(number as usize)?,
+        QueueNumberCall::Push => {
             queue.reserve(1)?;
             queue.push_reserved(number);
         }
-        NumberCall::Fill => fill(queue, number, step)?,
-        NumberCall::Runs => {
-            told.flag(has_runs(queue, number, step));
+        QueueNumberCall::Fill => fill(queue, number, step)?,
+        QueueNumberCall::Runs => {
+            output.flag(has_runs(queue, number, step));
             return Ok(());
         }
     }
-    told.word("ok");
+    output.word("ok");
     Ok(())
 }
 
@@ -131,12 +131,12 @@ fn call_number(
 pub(crate) fn call_queue(
     queue: &mut BlockQueue<u64>,
     words: &mut Words<'_>,
-    told: &mut Told,
-) -> Result<(), Fault> {
-    match chosen(&QUEUE_CALLS, words.word()).ok_or(Fault::BadRow)? {
-        QueueCall::Number(call) => return call_number(queue, call, words, told),
-        QueueCall::Remove => remove_each(queue, words, told),
-        QueueCall::Len => told.number(queue.len() as u64),
+    output: &mut Output,
+) -> Result<(), RowFault> {
+    match chosen(&QUEUE_CALLS, words.word()).ok_or(RowFault::BadRow)? {
+        QueueCall::Number(call) => return call_number(queue, call, words, output),
+        QueueCall::Remove => remove_each(queue, words, output),
+        QueueCall::Len => output.number(queue.len() as u64),
     }
     words.end()
 }

@@ -42,6 +42,6 @@ pub replays_by :
     (records later : List Record) (opening last next : ServedState) (request : Request) (answer : Option Answer) →
     Replays opening records last → Replay last request answer next → later ≡ records ++ applied request answer ∷ [] →
     Replays opening later next
-replays_by records later opening last next request answer is step told =
-    subst (λ (l : List Record). Replays opening l next) (sym told)
+replays_by records later opening last next request answer is step reported =
+    subst (λ (l : List Record). Replays opening l next) (sym reported)
     (replays_more records opening last next request answer is step)

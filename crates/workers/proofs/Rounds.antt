@@ -7,10 +7,10 @@ use Rattle.fuse_wire.specs.declared.reply.Reply.{Reply}
 use Rattle.journal.specs.Journal.{JournalState}
 use Rattle.journal.specs.Receipts.{ReceiptsState}
 use Rattle.workers.specs.Faults.{IsBroken}
-use Rattle.workers.specs.Rooms.{HasPlaces, HaveRoom, rooms_of}
+use Rattle.workers.specs.Buffers.{HasPlaces, HaveRoom, buffers_of}
 use Rattle.workers.specs.Round.{OneBreaks}
 use Rattle.workers.specs.declared.channel.Posted.{Posted}
-use Rattle.workers.specs.declared.channel.Taken.{Taken}
+use Rattle.workers.specs.declared.channel.NextAsk.{NextAsk}
 use Rattle.workers.specs.declared.fault.RoundFault.{RoundFault}
 use Rattle.workers.specs.declared.fault.RoundFault.TheVariants.{Broken}
 
@@ -24,7 +24,7 @@ two_of_ok P (Err e) f g a k fa gk d go = tt
 
 -- a round that broke gives back its channels as their workers left them
 pub broken_by :
-    {R B C D : Type 0} (takes : C → Taken → C → Type 0) (posts : C → Reply → Posted → C → Type 0) (turns : ℕ)
+    {R B C D : Type 0} (takes : C → NextAsk → C → Type 0) (posts : C → Reply → Posted → C → Type 0) (turns : ℕ)
     (channels : List C) (left : Vec C) (r : Result R (RoundFault B C)) →
     OnErr r D → IfErr r (λ why. why ≡ Broken left) → (D → OneBreaks takes posts turns channels left.items) →
     IfErr r (IsBroken takes posts turns channels)
@@ -39,7 +39,7 @@ pub room_kept :
     IfOk r (λ x. parts ≤ length (journal x).records + (journal x).room + 1) → IfOk r (λ x. receipts x ≡ kept) →
     IfOk r (λ x. workers x ≡ count) → parts ≡ channels * (turns + 1) → count ≡ channels →
     All (HasPlaces turns) kept →
-    IfOk r (λ x. HaveRoom channels turns (rooms_of (journal x) (receipts x) (workers x)))
+    IfOk r (λ x. HaveRoom channels turns (buffers_of (journal x) (receipts x) (workers x)))
 room_kept (Ok x) journal receipts workers parts channels turns count kept room same many parts_are count_is places =
     record {
       room = omega (arith, room, parts_are);

@@ -1,9 +1,9 @@
--- What a channel in memory tells of an ask that was taken.
+-- What a channel in memory reports of an ask that was taken.
 use Rattle.std.proofs.Common.{◌≡◌, ℕ, ◌+◌, zero, suc, List, [], ◌∷◌, ◌++◌, take, slice_get, Some, ap, ◌∙◌, subst, arith}
 use Rattle.fuse_wire.specs.declared.request.Ask.{Ask}
-use Rattle.workers.specs.Channel.{MemoryState, Takes, told_of, with_ask}
-use Rattle.workers.specs.declared.channel.Taken.{Taken}
-use Rattle.workers.specs.declared.channel.Taken.TheVariants.{Ask as TheAsk}
+use Rattle.workers.specs.Channel.{MemoryState, Takes, reported_of, with_ask}
+use Rattle.workers.specs.declared.channel.NextAsk.{NextAsk}
+use Rattle.workers.specs.declared.channel.NextAsk.TheVariants.{Ask as TheAsk}
 
 -- the first ones and the next one
 taken_more :
@@ -13,12 +13,12 @@ taken_more [] count x is = absurd (let none : ⊥ = cc in none)
 taken_more (first ∷ rest) zero x is = let same : first ≡ x = cc in ap (λ (y : _). y ∷ []) same
 taken_more (first ∷ rest) (suc count) x is = ap (λ (ys : List _). first ∷ ys) (taken_more rest count x is)
 
--- an ask that was taken is told after those before
-pub told_more :
-    (old new : MemoryState) (taken : Taken) (ask : Ask) → Takes old taken new → taken ≡ TheAsk ask →
-    told_of new ≡ with_ask (told_of old) ask
-told_more old new taken ask takes is =
-    let steps = subst (λ (t : Taken). Takes old t new) is takes in
+-- an ask that was taken is reported after those before
+pub reported_more :
+    (old new : MemoryState) (taken : NextAsk) (ask : Ask) → Takes old taken new → taken ≡ TheAsk ask →
+    reported_of new ≡ with_ask (reported_of old) ask
+reported_more old new taken ask takes is =
+    let steps = subst (λ (t : NextAsk). Takes old t new) is takes in
     let one_more : old.taken + 1 ≡ suc old.taken = omega arith in
     let asks = ap (λ (n : ℕ). take n old.asks) one_more ∙ taken_more old.asks old.taken ask steps.0 in
-    ap told_of steps.1 ∙ ap (λ (told : List Ask). record { taken = told; posted = old.replies }) asks
+    ap reported_of steps.1 ∙ ap (λ (reported : List Ask). record { taken = reported; posted = old.replies }) asks

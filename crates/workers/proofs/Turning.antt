@@ -2,17 +2,17 @@
 use Rattle.std.proofs.Common.{◌≡◌, Bool, true, false, List, [], ◌∷◌, ◌++◌, Option, refl, sym, subst, inr}
 use Rattle.fuse_wire.specs.declared.reply.Reply.{Reply}
 use Rattle.journal.specs.declared.receipt.Receipt.{Receipt}
-use Rattle.workers.specs.Shift.{Ends, Goes, GoesOrEnds, Replies, Turns, after_turn}
-use Rattle.workers.specs.declared.channel.Taken.{Taken}
-use Rattle.workers.specs.declared.channel.Taken.TheVariants as took
+use Rattle.workers.specs.Endings.{Ends, Goes, GoesOrEnds, Replies, Turns, after_turn}
+use Rattle.workers.specs.declared.channel.NextAsk.{NextAsk}
+use Rattle.workers.specs.declared.channel.NextAsk.TheVariants as took
 use Rattle.workers.specs.declared.channel.Posted.{Posted}
 use Rattle.workers.specs.declared.channel.Posted.TheVariants as post
-use Rattle.workers.specs.declared.worker.Ending.{Ending}
-use Rattle.workers.specs.declared.worker.Ending.TheVariants.{Broken}
+use Rattle.workers.specs.declared.worker.WorkerEnd.{WorkerEnd}
+use Rattle.workers.specs.declared.worker.WorkerEnd.TheVariants.{Broken}
 
 -- one more turn, with its reply posted
 goes_more :
-    {C : Type 0} (takes : C → Taken → C → Type 0) (posts : C → Reply → Posted → C → Type 0)
+    {C : Type 0} (takes : C → NextAsk → C → Type 0) (posts : C → Reply → Posted → C → Type 0)
     (start : C) (receipts : List Receipt) (final : Receipt) (before after : C) →
     Goes takes posts start receipts before → Turns takes posts before final post.Done after →
     Goes takes posts start (receipts ++ final ∷ []) after
@@ -23,7 +23,7 @@ goes_more {C} takes posts start (first ∷ rest) final before after went turn =
 
 -- a turn whose reply was posted, of an ask that was taken before
 pub turned_well :
-    {C : Type 0} (takes : C → Taken → C → Type 0) (posts : C → Reply → Posted → C → Type 0)
+    {C : Type 0} (takes : C → NextAsk → C → Type 0) (posts : C → Reply → Posted → C → Type 0)
     (start : C) (receipts later : List Receipt) (final : Receipt) (before held after : C) →
     later ≡ receipts ++ final ∷ [] → Goes takes posts start receipts before →
     takes before (took.Ask final.ask) held → Replies posts held final.ask.unique final.answer post.Done after →
@@ -34,18 +34,18 @@ turned_well {C} takes posts start receipts later final before held after is went
 
 -- a worker goes on after such a turn, or its spare room is used
 pub goes_after :
-    {C : Type 0} (takes : C → Taken → C → Type 0) (posts : C → Reply → Posted → C → Type 0)
-    (start : C) (receipts : List Receipt) (after : C) (result : Option Ending) (spare : Bool) →
+    {C : Type 0} (takes : C → NextAsk → C → Type 0) (posts : C → Reply → Posted → C → Type 0)
+    (start : C) (receipts : List Receipt) (after : C) (result : Option WorkerEnd) (spare : Bool) →
     result ≡ after_turn spare → Goes takes posts start receipts after →
     GoesOrEnds takes posts start receipts result after
 goes_after takes posts start receipts after result true is went =
-    subst (λ (r : Option Ending). GoesOrEnds takes posts start receipts r after) (sym is) went
+    subst (λ (r : Option WorkerEnd). GoesOrEnds takes posts start receipts r after) (sym is) went
 goes_after takes posts start receipts after result false is went =
-    subst (λ (r : Option Ending). GoesOrEnds takes posts start receipts r after) (sym is) went
+    subst (λ (r : Option WorkerEnd). GoesOrEnds takes posts start receipts r after) (sym is) went
 
 -- a turn whose reply found the channel broken
 pub turned_broken :
-    {C : Type 0} (takes : C → Taken → C → Type 0) (posts : C → Reply → Posted → C → Type 0)
+    {C : Type 0} (takes : C → NextAsk → C → Type 0) (posts : C → Reply → Posted → C → Type 0)
     (start : C) (receipts later : List Receipt) (final : Receipt) (before held after : C) →
     later ≡ receipts ++ final ∷ [] → Goes takes posts start receipts before →
     takes before (took.Ask final.ask) held → Replies posts held final.ask.unique final.answer post.Broken after →

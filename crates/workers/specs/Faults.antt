@@ -5,9 +5,9 @@ use Rattle.fuse_wire.specs.declared.reply.Reply.{Reply}
 use Rattle.journal.specs.Receipts.{ReceiptsState}
 use Rattle.journal.specs.Settled.{IsSettled}
 use Rattle.journal.specs.declared.journal.Record.{Record}
-use Rattle.workers.specs.Rooms.{AreEmptied, Fit, RoomsState}
+use Rattle.workers.specs.Buffers.{AreEmptied, Fit, BuffersState}
 use Rattle.workers.specs.Round.{OneBreaks}
-use Rattle.workers.specs.declared.channel.Taken.{Taken}
+use Rattle.workers.specs.declared.channel.NextAsk.{NextAsk}
 use Rattle.workers.specs.declared.channel.Posted.{Posted}
 use Rattle.workers.specs.declared.fault.RoundFault.{RoundFault}
 use Rattle.workers.specs.declared.fault.RoundFault.TheVariants.{Broken, Unsettled, NoMemory}
@@ -27,28 +27,28 @@ GivesBack served backing channels Unsettled = ⊤
 
 -- a round broke: one of its workers found its channel broken, and the channels come back as their workers left them
 abbrev pub IsBroken :
-    {B C : Type 0} → (C → Taken → C → Type 0) → (C → Reply → Posted → C → Type 0) → ℕ → List C
+    {B C : Type 0} → (C → NextAsk → C → Type 0) → (C → Reply → Posted → C → Type 0) → ℕ → List C
     → RoundFault B C → Type 0
 IsBroken takes posts turns channels (Broken left) = OneBreaks takes posts turns channels left.items
 IsBroken takes posts turns channels why = ⊥
 
 -- a round is not served for this cause: it broke, or memory was refused
 abbrev pub IsUnserved :
-    {B C : Type 0} → (C → Taken → C → Type 0) → (C → Reply → Posted → C → Type 0) → ℕ → List C
+    {B C : Type 0} → (C → NextAsk → C → Type 0) → (C → Reply → Posted → C → Type 0) → ℕ → List C
     → RoundFault B C → Type 0
 IsUnserved takes posts turns channels (Broken left) = OneBreaks takes posts turns channels left.items
 IsUnserved takes posts turns channels Unsettled = ⊥
 IsUnserved takes posts turns channels (NoMemory back) = ⊤
 
--- if memory was refused for a round of these channels and turns, then its rooms lacked memory
-abbrev pub WasNeeded : {B C : Type 0} → ℕ → ℕ → RoomsState → RoundFault B C → Type 0
-WasNeeded channels turns rooms (NoMemory back) = Fit channels turns rooms → ⊥
-WasNeeded channels turns rooms why = ⊤
+-- if memory was refused for a round of these channels and turns, then its buffers lacked memory
+abbrev pub WasNeeded : {B C : Type 0} → ℕ → ℕ → BuffersState → RoundFault B C → Type 0
+WasNeeded channels turns buffers (NoMemory back) = Fit channels turns buffers → ⊥
+WasNeeded channels turns buffers why = ⊤
 
--- if memory was refused, the rooms of the round are given back empty
-abbrev pub GivesRooms : {B C : Type 0} → RoomsState → RoundFault B C → Type 0
-GivesRooms rooms (NoMemory back) = AreEmptied rooms back.rooms
-GivesRooms rooms why = ⊤
+-- if memory was refused, the buffers of the round are given back empty
+abbrev pub GivesBuffers : {B C : Type 0} → BuffersState → RoundFault B C → Type 0
+GivesBuffers buffers (NoMemory back) = AreEmptied buffers back.buffers
+GivesBuffers buffers why = ⊤
 
 -- a round is not drained for this cause: its receipts are not its journal, or memory was refused
 abbrev pub IsUndrained : {B C : Type 0} → List Record → List ReceiptsState → RoundFault B C → Type 0

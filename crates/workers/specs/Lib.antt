@@ -1,6 +1,6 @@
 pub mod Channel
 pub mod Replays
-pub mod Shift
-pub mod Rooms
+pub mod Endings
+pub mod Buffers
 pub mod Round
 pub mod Faults

@@ -2,9 +2,9 @@
 ghost use Rattle.std.specs.Prelude.{◌≡◌, ◌∷◌, [], Bool, true};
 ghost use Rattle.fuse_wire.specs.declared.request.Ask.{Ask as AskValue};
 ghost use Rattle.fuse_wire.specs.declared.reply.Reply.{Reply as ReplyValue};
-ghost use Rattle.workers.specs.Channel.{Told, with_ask, with_replies};
-ghost use Rattle.workers.specs.declared.channel.Taken.{Taken as TakenValue};
-ghost use Rattle.workers.specs.declared.channel.Taken.TheVariants as took;
+ghost use Rattle.workers.specs.Channel.{Reported, with_ask, with_replies};
+ghost use Rattle.workers.specs.declared.channel.NextAsk.{NextAsk as TakenValue};
+ghost use Rattle.workers.specs.declared.channel.NextAsk.TheVariants as took;
 ghost use Rattle.workers.specs.declared.channel.Posted.{Posted as PostedValue};
 ghost use Rattle.workers.specs.declared.channel.Posted.TheVariants as post;
 
@@ -12,7 +12,7 @@ use fuse_wire::{Ask, Reply};
 
 /// The result of `Channel::take`.
 #[derive(Drop)]
-pub enum Taken {
+pub enum NextAsk {
     Ask(Ask),
     /// There is no ask now.
     Empty,
@@ -31,7 +31,7 @@ pub enum Posted {
 }
 
 /// The kernel's side for one worker. Each implementation says by `takes` and `posts` what its calls do, also what makes
-/// a result Broken. If `tells` is true, `told` says which asks were taken and which replies were posted.
+/// a result Broken. If `reports` is true, `reported` says which asks were taken and which replies were posted.
 pub trait Channel {
     /// Relates the channel before a `take`, the result, and the channel after the call.
     ghost takes: { Self → TakenValue → Self → Type 0 };
@@ -39,23 +39,23 @@ pub trait Channel {
     /// Relates the channel before a `post`, the reply, the result, and the channel after the call.
     ghost posts: { Self → ReplyValue → PostedValue → Self → Type 0 };
 
-    /// Whether `told` says which asks were taken and which replies were posted.
-    ghost tells: { Bool };
+    /// Whether `reported` says which asks were taken and which replies were posted.
+    ghost reports: { Bool };
 
     /// The asks that were taken from the channel, and the replies that were posted to it.
-    ghost told: { Self → Told };
+    ghost reported: { Self → Reported };
 
     /// Takes the next ask.
-    fn take(&mut self) -> Taken
+    fn take(&mut self) -> NextAsk
         ensures takes { takes self.old result self.new }
-        ensures taken { tells ≡ true → (ask : AskValue) → result ≡ took.Ask ask
-            → told self.new ≡ with_ask (told self.old) ask }
-        ensures empty { tells ≡ true → result ≡ took.Empty → told self.new ≡ told self.old }
-        ensures stopped { tells ≡ true → result ≡ took.Stopped → told self.new ≡ told self.old };
+        ensures taken { reports ≡ true → (ask : AskValue) → result ≡ took.Ask ask
+            → reported self.new ≡ with_ask (reported self.old) ask }
+        ensures empty { reports ≡ true → result ≡ took.Empty → reported self.new ≡ reported self.old }
+        ensures stopped { reports ≡ true → result ≡ took.Stopped → reported self.new ≡ reported self.old };
 
     /// Posts the reply to an ask that was taken.
     fn post(&mut self, reply: Reply) -> Posted
         ensures posts { posts self.old reply result self.new }
-        ensures posted { tells ≡ true → result ≡ post.Done
-            → told self.new ≡ with_replies (told self.old) (reply ∷ []) };
+        ensures posted { reports ≡ true → result ≡ post.Done
+            → reported self.new ≡ with_replies (reported self.old) (reply ∷ []) };
 }

@@ -2,19 +2,8 @@
 ghost use Rattle.std.specs.Prelude.{Some};
 ghost use Rattle.workers.specs.Faults.{fault_text};
 
-use crate::rooms::Rooms;
-use fuse_ops::Served;
+use crate::round_state::RoundState;
 use std::fmt;
-
-/// What `serve_round` was handed, or what `drain` would leave, given back if memory was refused. `serve_round` then
-/// took no request.
-#[derive(Drop)]
-pub struct Returned<B: Drop, C: Drop> {
-    pub rooms: Rooms,
-    pub served: Served,
-    pub backing: B,
-    pub channels: Vec<C>,
-}
 
 /// Why a round failed. Only `NoMemory` gives back what may be served on. The texts are written by hand, since a derived
 /// `Error` asks for `Debug` of all that is given back.
@@ -24,7 +13,7 @@ pub enum RoundFault<B: Drop, C: Drop> {
     Broken(Vec<C>),
     /// The receipts of the workers are not those of the journal.
     Unsettled,
-    NoMemory(Returned<B, C>),
+    NoMemory(RoundState<B, C>),
 }
 
 impl<B: Drop, C: Drop> fmt::Display for RoundFault<B, C> {

@@ -2,29 +2,37 @@
 #![tactic(auto)]
 
 mod channel;
+mod ended_worker;
 mod fault;
 mod hook;
 mod locked;
 mod memory_channel;
-mod rooms;
+mod new_worker;
 mod round;
+mod round_buffers;
+mod round_context;
+mod round_options;
+mod round_state;
 mod running;
+mod served_ask;
 mod settled;
-mod shift;
 mod stop;
-mod turn;
 mod worker;
 
-pub use channel::{Channel, Posted, Taken};
-pub use fault::{Returned, RoundFault};
+pub use channel::{Channel, NextAsk, Posted};
+pub use ended_worker::{EndedWorker, serve_channel};
+pub use fault::RoundFault;
 pub use hook::{Hook, NoHook};
 pub use journal::{Journal, Receipt, Receipts, Record};
 pub use locked::{LockedMap, Opened, Opening, Parts, Shared};
 pub use memory_channel::MemoryChannel;
-pub use rooms::Rooms;
-pub use round::{MAX_CHANNELS, MAX_TURNS, Round, serve_round};
+pub use new_worker::NewWorker;
+pub use round::{MAX_CHANNELS, Round, serve_round};
+pub use round_buffers::RoundBuffers;
+pub use round_context::RoundContext;
+pub use round_options::RoundOptions;
+pub use round_state::RoundState;
+pub use served_ask::{ServedAsk, serve_one};
 pub use settled::{Settled, drain};
-pub use shift::{Shift, serve_channel};
 pub use stop::Stop;
-pub use turn::{Turn, serve_one};
-pub use worker::Ending;
+pub use worker::WorkerEnd;

@@ -4,7 +4,7 @@ ghost use Rattle.fuse_ops.specs.Loading.{Backs};
 ghost use Rattle.journal.specs.Journal.{applied};
 ghost use Rattle.workers.specs.Replays.{Replays};
 
-use crate::turn::{Turn, serve_one};
+use crate::served_ask::{ServedAsk, serve_one};
 use checkout::Backing;
 use fuse_ops::Served;
 use fuse_wire::Ask;
@@ -122,7 +122,7 @@ impl<N: Opening, B: Backing + Drop> LockedMap<N, B> {
     }
 
     /// Serves `ask`, and counts it in `share`. One part of `share` goes to the lock.
-    pub(crate) fn turn(&mut self, ask: Ask, share: &mut Share<N>) -> Turn
+    pub(crate) fn turn(&mut self, ask: Ask, share: &mut Share<N>) -> ServedAsk
         requires parts { 1 < share.old.parts }
         ensures parts { share.new.parts + 1 ≡ share.old.parts }
         ensures position { result.position ≡ length self.old }

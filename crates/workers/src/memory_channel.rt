@@ -1,11 +1,11 @@
 //! A channel over asks that are known from the start.
 ghost use Rattle.std.specs.Prelude.{◌≡◌, ◌<◌, ◌≤◌, ℕ, [], length, true, IfOk};
 ghost use Rattle.fuse_wire.specs.declared.request.Ask.{Ask as AskValue};
-ghost use Rattle.workers.specs.Channel.{told_of, with_ask, with_replies, Takes, Posts};
-ghost use Rattle.workers.specs.declared.channel.Taken.TheVariants as took;
+ghost use Rattle.workers.specs.Channel.{reported_of, with_ask, with_replies, Takes, Posts};
+ghost use Rattle.workers.specs.declared.channel.NextAsk.TheVariants as took;
 ghost use Rattle.workers.specs.declared.channel.Posted.TheVariants as post;
 
-use crate::channel::{Channel, Posted, Taken};
+use crate::channel::{Channel, NextAsk, Posted};
 use eden_base::NoMemory;
 use fuse_wire::{Ask, Reply};
 use std::alloc::Global;
@@ -59,7 +59,7 @@ impl MemoryChannel {
         self.asks.as_slice()
     }
 
-    /// Returns how many asks were taken.
+    /// Returns how many asks were taken, as tests look at it after a round.
     pub fn taken(&self) -> usize
         ensures taken { result ≡ self.now.taken }
     {
@@ -74,20 +74,20 @@ impl MemoryChannel {
     }
 
     /// Takes a copy of the next ask. Returns Broken if memory is refused for the copy.
-    pub fn take(&mut self) -> Taken
+    pub fn take(&mut self) -> NextAsk
         ensures takes { Takes self.old result self.new }
     {
         if self.taken == self.asks.len() {
-            return Taken::Empty;
+            return NextAsk::Empty;
         }
         let ask = &self.asks[self.taken];
         match ask.what.copy(self.alloc) {
             Ok(what) => {
                 let unique = ask.unique;
                 self.taken += 1;
-                Taken::Ask(Ask { unique, what })
+                NextAsk::Ask(Ask { unique, what })
             }
-            Err(NoMemory) => Taken::Broken,
+            Err(NoMemory) => NextAsk::Broken,
         }
     }
 
@@ -108,12 +108,12 @@ impl Channel for MemoryChannel {
 
     ghost posts = { λ before reply posted after. Posts before reply posted after };
 
-    ghost tells = { true };
+    ghost reports = { true };
 
-    ghost told = { λ channel. told_of channel };
+    ghost reported = { λ channel. reported_of channel };
 
-    #[tactic(auto, using(crate::proofs::Taking::told_more))]
-    fn take(&mut self) -> Taken {
+    #[tactic(auto, using(crate::proofs::Taking::reported_more))]
+    fn take(&mut self) -> NextAsk {
         MemoryChannel::take(self)
     }
 

@@ -5,17 +5,19 @@ ghost use Rattle.std.specs.List.{All};
 ghost use Rattle.fuse_ops.specs.Loading.{Backs};
 ghost use Rattle.workers.specs.Replays.{Replays};
 ghost use Rattle.workers.specs.Round.{AreServed, OneBreaks, receipts_in};
-ghost use Rattle.workers.specs.Rooms.{Fit, HasPlaces, HaveRoom, rooms_of};
+ghost use Rattle.workers.specs.Buffers.{Fit, HasPlaces, HaveRoom, buffers_of};
 ghost use Rattle.workers.specs.Faults.{GivesBack, IsBroken, IsUnserved, WasNeeded};
 ghost use Rattle.workers.specs.declared.fault.RoundFault.TheVariants as fault;
 
 use crate::channel::Channel;
-use crate::fault::{Returned, RoundFault};
+use crate::fault::RoundFault;
 use crate::hook::Hook;
-use crate::locked::{LockedMap, Opened, Opening, Parts, Shared};
-use crate::rooms::Rooms;
-use crate::running::{Crew, Joined, serve_each};
-use crate::stop::Stop;
+use crate::locked::{LockedMap, Opened, Opening, Parts};
+use crate::new_worker::NewWorkers;
+use crate::round_context::RoundContext;
+use crate::round_options::RoundOptions;
+use crate::round_state::RoundState;
+use crate::running::{Joined, serve_each};
 use checkout::Backing;
 use fuse_ops::Served;
 use journal::{Journal, Receipts};
@@ -28,9 +30,6 @@ use std::thread::Threads;
 
 /// The greatest count of channels that a round serves.
 pub const MAX_CHANNELS: usize = 16;
-
-/// The greatest count of requests that a round serves of one channel.
-pub const MAX_TURNS: usize = 4096;
 
 /// What a round leaves: what is served, its backing and the journal; and the channels in their order, each with its
 /// worker's receipts.
@@ -50,31 +49,31 @@ fn serve_all<
     C: Channel + Drop + Send,
     G: Hook + Sync,
     R: Threads + Wait + Sync,
->(rt: &R, shared: &Shared<N, B>, crew: Crew<N, C>, hook: &G, stop: &Stop) -> Joined<N, C>
+>(rt: &R, round: &RoundContext<'_, N, B, G>, workers: NewWorkers<N, C>) -> Joined<N, C>
     ensures parts { result.share.parts + receipts_in result.receipts.items
-        ≡ vec_len crew.channels * (N.turns + 1) }
+        ≡ vec_len workers.channels * (N.turns + 1) }
     ensures counted { result.share.amount ≡ receipts_in result.receipts.items }
-    ensures served { result.is_broken ≡ false → AreServed C.takes C.posts C.tells C.told N.turns
-        crew.channels.items result.channels.items result.receipts.items }
+    ensures served { result.is_broken ≡ false → AreServed C.takes C.posts C.reports C.reported N.turns
+        workers.channels.items result.channels.items result.receipts.items }
     ensures broken { result.is_broken ≡ true → OneBreaks C.takes C.posts N.turns
-        crew.channels.items result.channels.items }
+        workers.channels.items result.channels.items }
     ensures places { All (HasPlaces N.turns) result.receipts.items }
-    ensures workers { vec_len result.receipts ≡ vec_len crew.channels }
+    ensures workers { vec_len result.receipts ≡ vec_len workers.channels }
 {
     thread::scope(
         thread::scope_env(),
         rt,
         move |scope| -> Joined<N, C>
             ensures parts { result.share.parts + receipts_in result.receipts.items
-                ≡ vec_len crew.channels * (N.turns + 1) }
+                ≡ vec_len workers.channels * (N.turns + 1) }
             ensures counted { result.share.amount ≡ receipts_in result.receipts.items }
-            ensures served { result.is_broken ≡ false → AreServed C.takes C.posts C.tells C.told N.turns
-                crew.channels.items result.channels.items result.receipts.items }
+            ensures served { result.is_broken ≡ false → AreServed C.takes C.posts C.reports C.reported N.turns
+                workers.channels.items result.channels.items result.receipts.items }
             ensures broken { result.is_broken ≡ true → OneBreaks C.takes C.posts N.turns
-                crew.channels.items result.channels.items }
+                workers.channels.items result.channels.items }
             ensures places { All (HasPlaces N.turns) result.receipts.items }
-            ensures workers { vec_len result.receipts ≡ vec_len crew.channels }
-        { serve_each(scope, rt, shared, crew, hook, stop) },
+            ensures workers { vec_len result.receipts ≡ vec_len workers.channels }
+        { serve_each(scope, rt, round, workers) },
     )
 }
 
@@ -164,47 +163,55 @@ fn round_of<
     rt: &R,
     alloc: Global,
     blank: Blank,
-    rooms: Rooms,
-    served: Served,
-    backing: B,
-    channels: Vec<C>,
-    turns: usize,
-    hook: &G,
-    stop: &Stop,
+    state: RoundState<B, C>,
+    options: &RoundOptions<'_, G>,
 ) -> Result<Round<B, C>, RoundFault<B, C>>
     requires name { blank.name ≡ N.name }
     requires parts { blank.parts ≡ N.parts }
-    requires opening { served ≡ N.opening }
-    requires a_part_each { blank.parts ≡ vec_len channels * (N.turns + 1) }
-    requires backs { Backs (B.content backing) served.tree }
-    requires rooms { Fit (vec_len channels) turns rooms }
-    requires channels { vec_len channels ≤ 16 }
-    requires turns { (turns ≡ N.turns) × (turns ≤ 4096) }
+    requires opening { state.served ≡ N.opening }
+    requires a_part_each { blank.parts ≡ vec_len state.channels * (N.turns + 1) }
+    requires backs { Backs (B.content state.backing) state.served.tree }
+    requires buffers { Fit (vec_len state.channels) options.now.turns state.buffers }
+    requires channels { vec_len state.channels ≤ 16 }
+    requires turns { (options.now.turns ≡ N.turns) × (options.now.turns ≤ 4096) }
     ensures replays { IfOk result (λ round. Replays N.opening round.journal.records round.served) }
     ensures same_manifest { IfOk result (λ round. round.served.tree.manifest ≡ N.opening.tree.manifest) }
     ensures backs { IfOk result (λ round. Backs (B.content round.backing) round.served.tree) }
     ensures counted { IfOk result (λ round. length round.journal.records ≡ receipts_in round.receipts.items) }
-    ensures each { IfOk result (λ round. AreServed C.takes C.posts C.tells C.told N.turns
-        channels.items round.channels.items round.receipts.items) }
-    ensures room { IfOk result (λ round. HaveRoom (vec_len channels) N.turns
-        (rooms_of round.journal round.receipts.items (vec_len round.receipts))) }
-    ensures broken { IfErr result (IsBroken C.takes C.posts N.turns channels.items) }
+    ensures each { IfOk result (λ round. AreServed C.takes C.posts C.reports C.reported N.turns
+        state.channels.items round.channels.items round.receipts.items) }
+    ensures room { IfOk result (λ round. HaveRoom (vec_len state.channels) N.turns
+        (buffers_of round.journal round.receipts.items (vec_len round.receipts))) }
+    ensures broken { IfErr result (IsBroken C.takes C.posts N.turns state.channels.items) }
 {
-    let (journal, receipts) = rooms.into_parts();
+    let RoundState {
+        buffers,
+        served,
+        backing,
+        channels,
+    } = state;
+    let (journal, receipts) = buffers.into_parts();
     let Opened { shared, share } = LockedMap::<N, B>::open(alloc, blank, served, backing, journal);
-    let crew = Crew {
+    let workers = NewWorkers {
         channels,
         receipts,
-        turns,
+        turns: options.turns,
         share,
     };
-    let joined = serve_all(rt, &shared, crew, hook, stop);
+    let round = RoundContext {
+        shared: &shared,
+        hook: options.hook,
+        stop: options.stop,
+    };
+    let joined = serve_all(rt, &round, workers);
+    drop(round);
     left_by(shared.into_inner().into_parts(), joined)
 }
 
-/// Serves the channels, each by its own worker. A worker ends after `turns` requests, when its channel has no ask, when
-/// a stop is asked for, or after memory was refused for a copy. The memory that `rooms` lack is taken first. If it is
-/// refused, no ask was taken, and all is given back. `drain` gives the rooms back for the next round.
+/// Serves the channels of `state`, each by its own worker. A worker ends after the turns that `options` allow, when its
+/// channel has no ask, when a stop is asked for, or after memory was refused for a copy. The memory that the buffers
+/// lack is taken first. If it is refused, no ask was taken, and all is given back. `drain` gives the buffers back for
+/// the next round.
 pub fn serve_round<
     B: Backing + Drop + Send,
     C: Channel + Drop + Send,
@@ -213,56 +220,51 @@ pub fn serve_round<
 >(
     rt: &R,
     alloc: Global,
-    rooms: Rooms,
-    served: Served,
-    backing: B,
-    channels: Vec<C>,
-    turns: usize,
-    hook: &G,
-    stop: &Stop,
+    state: RoundState<B, C>,
+    options: &RoundOptions<'_, G>,
 ) -> Result<Round<B, C>, RoundFault<B, C>>
-    requires backs { Backs (B.content backing) served.tree }
-    requires channels { (1 ≤ vec_len channels) × (vec_len channels ≤ 16) }
-    requires turns { (1 ≤ turns) × (turns ≤ 4096) }
+    requires backs { Backs (B.content state.backing) state.served.tree }
+    requires channels { (1 ≤ vec_len state.channels) × (vec_len state.channels ≤ 16) }
+    requires turns { (1 ≤ options.now.turns) × (options.now.turns ≤ 4096) }
     // The records lead from what was served to what is served, each by a legal step.
-    ensures replays { IfOk result (λ round. Replays served round.journal.records round.served) }
+    ensures replays { IfOk result (λ round. Replays state.served round.journal.records round.served) }
     // Another round may follow: the manifest is the same, and the backing still holds its files.
-    ensures same_manifest { IfOk result (λ round. round.served.tree.manifest ≡ served.tree.manifest) }
+    ensures same_manifest { IfOk result (λ round. round.served.tree.manifest ≡ state.served.tree.manifest) }
     ensures backs { IfOk result (λ round. Backs (B.content round.backing) round.served.tree) }
     ensures counted { IfOk result (λ round. length round.journal.records ≡ receipts_in round.receipts.items) }
-    // Each worker ended well, after at most `turns` turns. What its channel tells grew by its receipts.
-    ensures each { IfOk result (λ round. AreServed C.takes C.posts C.tells C.told turns
-        channels.items round.channels.items round.receipts.items) }
+    // Each worker ended well, after at most so many turns. What its channel reports grew by its receipts.
+    ensures each { IfOk result (λ round. AreServed C.takes C.posts C.reports C.reported options.now.turns
+        state.channels.items round.channels.items round.receipts.items) }
     // The room for such a round is still there.
-    ensures room { IfOk result (λ round. HaveRoom (vec_len channels) turns
-        (rooms_of round.journal round.receipts.items (vec_len round.receipts))) }
+    ensures room { IfOk result (λ round. HaveRoom (vec_len state.channels) options.now.turns
+        (buffers_of round.journal round.receipts.items (vec_len round.receipts))) }
     // The fault is Broken exactly if a worker found its channel broken, and it is never Unsettled. What it gives back
     // are the channels as their workers left them.
-    ensures broken { IfErr result (IsUnserved C.takes C.posts turns channels.items) }
-    // Rooms that fit need no memory.
-    ensures needed { IfErr result (WasNeeded (vec_len channels) turns rooms) }
-    ensures given_back { IfErr result (GivesBack served backing channels.items) }
+    ensures broken { IfErr result (IsUnserved C.takes C.posts options.now.turns state.channels.items) }
+    // Buffers that fit need no memory.
+    ensures needed { IfErr result (WasNeeded (vec_len state.channels) options.now.turns state.buffers) }
+    ensures given_back { IfErr result (GivesBack state.served state.backing state.channels.items) }
 {
-    let mut rooms = rooms;
-    let Ok(()) = rooms.refill(alloc, channels.len(), turns) else {
-        return Err(RoundFault::NoMemory(Returned {
-            rooms,
+    let RoundState {
+        mut buffers,
+        served,
+        backing,
+        channels,
+    } = state;
+    let Ok(()) = buffers.refill(alloc, channels.len(), options.turns) else {
+        return Err(RoundFault::NoMemory(RoundState {
+            buffers,
             served,
             backing,
             channels,
         }));
     };
-    let parts = channels.len() as u64 * (turns as u64 + 1);
-    round_of::<Brand, B, C, G, R>(
-        rt,
-        alloc,
-        Blank::new(parts),
-        rooms,
+    let blank = Blank::new(channels.len() as u64 * (options.turns as u64 + 1));
+    let state = RoundState {
+        buffers,
         served,
         backing,
         channels,
-        turns,
-        hook,
-        stop,
-    )
+    };
+    round_of::<Brand, B, C, G, R>(rt, alloc, blank, state, options)
 }

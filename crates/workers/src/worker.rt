@@ -1,30 +1,30 @@
 //! One worker of a round.
 ghost use Rattle.std.specs.Prelude.{◌≡◌, ◌+◌, ◌<◌, ◌≤◌, length, true};
-ghost use Rattle.workers.specs.Channel.{Told, grown, with_ask, with_replies};
+ghost use Rattle.workers.specs.Channel.{Reported, grown, with_ask, with_replies};
 ghost use Rattle.journal.specs.Receipts.{replies_to};
-ghost use Rattle.workers.specs.Shift.{Goes, GoesOrEnds, LeavesSpare, Replies, after_turn, is_well};
-ghost use Rattle.workers.specs.declared.channel.Taken.TheVariants as took;
+ghost use Rattle.workers.specs.Endings.{Goes, GoesOrEnds, LeavesSpare, Replies, after_turn, is_well};
+ghost use Rattle.workers.specs.declared.channel.NextAsk.TheVariants as took;
 ghost use Rattle.workers.specs.declared.channel.Posted.TheVariants as post;
 
-use crate::channel::{Channel, Posted, Taken};
+use crate::channel::{Channel, NextAsk, Posted};
+use crate::ended_worker::EndedWorker;
 use crate::hook::Hook;
 use crate::locked::{Opening, Shared};
-use crate::shift::Shift;
-use crate::turn::Turn;
+use crate::served_ask::ServedAsk;
 use checkout::Backing;
 use fuse_wire::{Answer, Ask, Reply};
 use journal::{Receipt, Receipts};
 use std::sync::Wait;
 use std::sync::ledger::Share;
 
-/// Why a worker took nothing more.
+/// The end of a worker: why it took nothing more.
 #[derive(Clone, Copy, PartialEq, Eq)]
-pub enum Ending {
+pub enum WorkerEnd {
     /// The worker had all its turns, found no ask, or was asked to stop.
     Done,
     /// Memory was refused for the copy of the worker's last request. That copy took the spare room, so there is none
     /// for another.
-    OutOfRoom,
+    OutOfMemory,
     /// The worker's channel was broken: the mount is over.
     Broken,
 }
@@ -40,8 +40,8 @@ pub(crate) struct Worker<N: Opening, C: Channel + Drop> {
 /// Posts the reply to an ask, if the ask has an answer.
 fn post<C: Channel>(channel: &mut C, unique: u64, answer: Option<Answer>) -> Posted
     ensures replies { Replies C.posts channel.old unique answer result channel.new }
-    ensures told { C.tells ≡ true → result ≡ post.Done
-        → C.told channel.new ≡ with_replies (C.told channel.old) (replies_to unique answer) }
+    ensures reported { C.reports ≡ true → result ≡ post.Done
+        → C.reported channel.new ≡ with_replies (C.reported channel.old) (replies_to unique answer) }
 {
     match answer {
         Some(answer) => channel.post(Reply { unique, answer }),
@@ -55,7 +55,7 @@ fn turn_alone<N: Opening, B: Backing + Drop, R: Wait>(
     shared: &Shared<N, B>,
     ask: Ask,
     share: &mut Share<N>,
-) -> Turn
+) -> ServedAsk
     requires parts { 1 < share.old.parts }
     ensures parts { share.new.parts + 1 ≡ share.old.parts }
     ensures counted { share.new.amount ≡ share.old.amount + 1 }
@@ -70,7 +70,7 @@ impl<N: Opening, C: Channel + Drop> Worker<N, C> {
         rt: &R,
         shared: &Shared<N, B>,
         hook: &G,
-    ) -> Option<Ending>
+    ) -> Option<WorkerEnd>
         requires parts { 1 < self.old.share.parts }
         requires places { 0 < self.old.receipts.places }
         requires spare { self.old.receipts.spare ≡ true }
@@ -85,16 +85,16 @@ impl<N: Opening, C: Channel + Drop> Worker<N, C> {
         // This holds for any channel from which the worker may have begun.
         ensures ends { (start : C) → Goes C.takes C.posts start self.old.receipts.list self.old.channel
             → GoesOrEnds C.takes C.posts start self.new.receipts.list result self.new.channel }
-        // This holds for whatever the channel told before.
-        ensures told { C.tells ≡ true → is_well result ≡ true → (start : Told)
-            → C.told self.old.channel ≡ grown start self.old.receipts.list
-            → C.told self.new.channel ≡ grown start self.new.receipts.list }
+        // This holds for whatever the channel reported before.
+        ensures reported { C.reports ≡ true → is_well result ≡ true → (start : Reported)
+            → C.reported self.old.channel ≡ grown start self.old.receipts.list
+            → C.reported self.new.channel ≡ grown start self.new.receipts.list }
     {
         match self.channel.take() {
-            Taken::Ask(ask) => self.serve(rt, shared, hook, ask),
-            Taken::Empty => Some(Ending::Done),
-            Taken::Stopped => Some(Ending::Done),
-            Taken::Broken => Some(Ending::Broken),
+            NextAsk::Ask(ask) => self.serve(rt, shared, hook, ask),
+            NextAsk::Empty => Some(WorkerEnd::Done),
+            NextAsk::Stopped => Some(WorkerEnd::Done),
+            NextAsk::Broken => Some(WorkerEnd::Broken),
         }
     }
 
@@ -106,7 +106,7 @@ impl<N: Opening, C: Channel + Drop> Worker<N, C> {
         shared: &Shared<N, B>,
         hook: &G,
         ask: Ask,
-    ) -> Option<Ending>
+    ) -> Option<WorkerEnd>
         requires parts { 1 < self.old.share.parts }
         requires places { 0 < self.old.receipts.places }
         requires spare { self.old.receipts.spare ≡ true }
@@ -118,9 +118,9 @@ impl<N: Opening, C: Channel + Drop> Worker<N, C> {
         ensures ends { (start before : C) → Goes C.takes C.posts start self.old.receipts.list before
             → C.takes before (took.Ask ask) self.old.channel
             → GoesOrEnds C.takes C.posts start self.new.receipts.list result self.new.channel }
-        ensures told { C.tells ≡ true → is_well result ≡ true → (start : Told)
-            → C.told self.old.channel ≡ with_ask (grown start self.old.receipts.list) ask
-            → C.told self.new.channel ≡ grown start self.new.receipts.list }
+        ensures reported { C.reports ≡ true → is_well result ≡ true → (start : Reported)
+            → C.reported self.old.channel ≡ with_ask (grown start self.old.receipts.list) ask
+            → C.reported self.new.channel ≡ grown start self.new.receipts.list }
     {
         let unique = ask.unique;
         hook.before(unique);
@@ -135,23 +135,23 @@ impl<N: Opening, C: Channel + Drop> Worker<N, C> {
         hook.after(unique);
         match posted {
             Posted::Done => self.after_turn(),
-            Posted::Broken => Some(Ending::Broken),
+            Posted::Broken => Some(WorkerEnd::Broken),
         }
     }
 
     /// Returns why the worker ends after a turn whose reply was posted: its spare room is used. Else returns none.
-    fn after_turn(&self) -> Option<Ending>
+    fn after_turn(&self) -> Option<WorkerEnd>
         ensures after_turn { result ≡ after_turn self.now.receipts.spare }
     {
         if self.receipts.has_spare() {
             None
         } else {
-            Some(Ending::OutOfRoom)
+            Some(WorkerEnd::OutOfMemory)
         }
     }
 
     /// Makes what the worker leaves.
-    pub(crate) fn end(self, ending: Ending) -> Shift<N, C>
+    pub(crate) fn end(self, ending: WorkerEnd) -> EndedWorker<N, C>
         ensures channel { result.channel ≡ self.channel }
         ensures receipts { result.receipts ≡ self.receipts }
         ensures share { result.share ≡ self.share }
@@ -162,7 +162,7 @@ impl<N: Opening, C: Channel + Drop> Worker<N, C> {
             receipts,
             share,
         } = self;
-        Shift {
+        EndedWorker {
             channel,
             receipts,
             share,

@@ -13,7 +13,7 @@ use Rattle.broker_core.specs.declared.seat.Seat.{Seat}
 use Rattle.takeover_core.specs.Phases as table
 use Rattle.takeover_core.specs.declared.phase.Phase.{Phase}
 use Rattle.takeover_core.specs.declared.phase.Phase.TheVariants.{Serving, Gone, Handed, Holding}
-use Rattle.daemon.specs.Daemon.{DaemonState, is_waiting, unposted}
+use Rattle.daemon.specs.Daemon.{DaemonState, is_waiting}
 use Rattle.daemon.specs.Server.{ServerState, new_server}
 use Rattle.daemon.specs.Talking.{after_claim, at_generation}
 use Rattle.daemon.specs.declared.happened.Happened.{Happened}

@@ -3,8 +3,6 @@
 use Rattle.std.proofs.Common.{◌≡◌, ℕ, ◌+◌, Bool, true, false, ◌&&◌, List, ◌++◌, Some, None, refl, sym, ap, ◌∙◌, subst, inl, inr}
 use Rattle.std.specs.Prelude.{◌==◌, nat_lt}
 use Rattle.eden_base.specs.declared.number.DaemonId.{DaemonId}
-use Rattle.broker_core.specs.Broker.{has_seat}
-use Rattle.broker_core.specs.declared.seat.Seat.{Seat}
 use Rattle.takeover_core.specs.Phases as table
 use Rattle.takeover_core.specs.Node.{NodeState}
 use Rattle.takeover_core.specs.declared.heard.Heard.{Heard as Answer}
@@ -23,7 +21,7 @@ use Rattle.world.specs.Handing.{part_at, IsHanding}
 use Rattle.world.specs.State.{State, daemon_of}
 use Rattle.world.specs.Step.{Reacts, Hears}
 use Rattle.world.proofs.Attending.{after_one, serves-along, attended-one, seated-back}
-use Rattle.world.proofs.HandingTalks.{HandsText, whole-text, parts-text, no-seat, waits-alone, behind-more, behind-last}
+use Rattle.world.proofs.HandingTalks.{HandsText, handed-text, no-seat, waits-alone, behind-more, behind-last}
 use Rattle.world.proofs.Turns.{IsTurn, node_of, turn-hear, turn-give_up, turn-drained, turn-made, turn-failed, turn-gone, MakesIt, makes-it, takes-it, PartIt, part-it}
 
 -- a state stays attended if a daemon turned to another phase, and serves what it served
@@ -98,9 +96,8 @@ reads-attended old messages daemon was s g v i n later a there alone same phase 
 -- a state stays attended after a message was heard
 heard-attended : (old : State) (messages : List Message) (daemon : DaemonId) (was : DaemonState) (said : Message) (told : Answer) (reaction : Reaction) (later : DaemonState) → IsHanding old → IsAttended old → daemon_of old daemon ≡ Some was → table.heard was.node (table.Hear said) ≡ told →
     ReactsBy old.manifest old.limit (bytes_of said) was (table.after was.node (table.Hear said)) told reaction later → IsAttended (after_one old old.broker messages daemon later)
-heard-attended old messages daemon was said (answer.MakeData s g v) reaction later h a there e (inl t) = hands-attended old messages daemon was s g v t.bytes reaction later a (whole-text old daemon was said s g v reaction later there e t)
-heard-attended old messages daemon was said (answer.MakeData s g v) reaction later h a there e (inr (inl t)) = hands-attended old messages daemon was s g v t.bytes reaction later a (parts-text old daemon was said s g v reaction later there e t)
-heard-attended old messages daemon was said (answer.MakeData s g v) reaction later h a there e (inr (inr t)) =
+heard-attended old messages daemon was said (answer.MakeData s g v) reaction later h a there e (inl t) = hands-attended old messages daemon was s g v t.bytes reaction later a (handed-text old daemon was said s g v reaction later there e t)
+heard-attended old messages daemon was said (answer.MakeData s g v) reaction later h a there e (inr t) =
     turns-attended old messages daemon was later (Serving g) there (ap (λ (d : DaemonState). d.server) t.becomes)
     (ap (λ (d : DaemonState). d.node.phase) t.becomes ∙ ap (λ (p : Phase). (table.after (node_of made.versions made.sessions p) table.DataFailed).phase) it.now)
     (λ x. subst (λ (p : Phase). IsTurn x false p (Serving g)) (sym it.was) (turn-failed s v g x)) a where

@@ -1,5 +1,5 @@
 -- Daemons and messages stand after an event if they stood before, whatever happens to one daemon.
-use Rattle.std.proofs.Common.{◌≡◌, ℕ, suc, zero, ◌<◌, ◌≤◌, true, false, List, [], ◌∷◌, ◌++◌, Some, None, refl, sym, ap, ◌∙◌, subst, inl, inr, ◌⊎◌, arith}
+use Rattle.std.proofs.Common.{◌≡◌, ℕ, suc, zero, ◌<◌, ◌≤◌, true, List, [], ◌∷◌, ◌++◌, Some, None, refl, sym, ap, ◌∙◌, subst, inl, inr, ◌⊎◌, arith}
 use Rattle.std.specs.Prelude.{slice_get}
 use Rattle.std.specs.List.{AllByRecursion}
 use Rattle.eden_base.specs.Limits.{last_generation}
@@ -15,8 +15,9 @@ use Rattle.takeover_core.specs.declared.message.Message.TheVariants.{Data, Part}
 use Rattle.takeover_core.specs.declared.phase.Phase.{Phase}
 use Rattle.takeover_core.specs.declared.phase.Phase.TheVariants.{Holding, Serving, Draining, Pinged, Making, Handed}
 use Rattle.daemon.specs.Daemon.{DaemonState}
-use Rattle.world.specs.Handing.{part_at, is_drained, is_out, reads_at, data_of, HasTheSeat, HasHanded, IsHandedIn, IsPast, ReadsHanded, DaemonStands, HandsOnce, IsHanding}
+use Rattle.world.specs.Handing.{part_at, is_drained, is_out, data_of, HasTheSeat, HasHanded, IsPast, DaemonStands, HandsOnce, IsHanding}
 use Rattle.daemon.specs.Server.{ServerState}
+use Rattle.daemon.specs.Talking.{IsSent}
 use Rattle.world.specs.State.{State, daemon_of, with_daemon}
 use Rattle.world.proofs.Daemons.{who}
 
@@ -83,7 +84,7 @@ handed-back old new seat was now before server out served same over = record {
   text = over.text;
   out = out;
   handed = subst (λ (x : ServedState). IsHandedOver x seat.generation over.version over.text) served over.handed;
-  said = subst (λ (ms : List Message). IsHandedIn over.session seat.generation over.text ms) same over.said;
+  said = subst (λ (ms : List Message). IsSent over.version over.session seat.generation over.text ms) same over.said;
 }
 
 pub daemon-along : (old new : State) (daemon : DaemonId) (was : DaemonState) → KeepsSeat old new → DaemonStands old daemon was → DaemonStands new daemon was
@@ -128,7 +129,7 @@ once-at old new seat now server k same once has =
           text = over.text;
           out = o.0;
           handed = subst (λ (x : ServedState). IsHandedOver x seat.generation over.version over.text) (sym o.1) over.handed;
-          said = subst (λ (ms : List Message). IsHandedIn over.session seat.generation over.text ms) (sym e) over.said;
+          said = subst (λ (ms : List Message). IsSent over.version over.session seat.generation over.text ms) (sym e) over.said;
         })
 
 pub once-along : (old new : State) → KeepsSeat old new → ((seat : Seat) → old.broker.seat ≡ Some seat → data_of seat.generation new.messages ≡ data_of seat.generation old.messages) → HandsOnce old → HandsOnce new

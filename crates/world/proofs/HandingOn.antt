@@ -34,8 +34,8 @@ use Rattle.daemon.specs.declared.happened.Happened.{Happened}
 use Rattle.daemon.specs.declared.happened.Refusal.{Refusal}
 use Rattle.world.proofs.Claims.{IsClaim, claim-is, refused-no-holder, claimed-phase, fatal-phase, waiting-phase, mounted-phase, crashed-phase}
 use Rattle.world.proofs.Daemons.{MayMount, may_mount, serving-there, none-at}
-use Rattle.world.proofs.Handing.{KeepsSeat, WasHolder, IsBase, IsLater, daemon-along, once-along, past-later, daemon-later, daemon-free, once-free, all-along, all-append, handing-where, handing-quiet, stays, holding-part}
-use Rattle.world.proofs.Once.{data-quiet, says-no-more, no-data-past, past-data}
+use Rattle.world.proofs.Handing.{KeepsSeat, WasHolder, IsBase, IsLater, daemon-along, once-along, daemon-later, daemon-free, once-free, all-append, handing-where, handing-quiet, stays, holding-part}
+use Rattle.world.proofs.Once.{data-quiet, says-no-more, past-data}
 use Rattle.world.proofs.HandingTalks.{hears-handing, gives-up-handing, drains-handing}
 use Rattle.world.proofs.Standing.{busy-stands, busy-out, seated-stands, gone-stands}
 

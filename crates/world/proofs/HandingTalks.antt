@@ -2,14 +2,13 @@
 use Rattle.std.proofs.Common.{◌≡◌, ℕ, ◌+◌, ◌-◌, ◌<◌, ◌≤◌, Bool, true, false, ◌&&◌, List, [], ◌∷◌, ◌++◌, length, Option, Some, None, refl, sym, ap, ◌∙◌, subst, inl, inr, ◌⊎◌, arith}
 use Rattle.std.specs.Prelude.{◌==◌, nat_lt, unwrap_or, take, slice_get, if◌then◌else◌}
 use Rattle.std.specs.Option.{option_and_then, option_map_or}
-use Rattle.std.specs.List.{AllByRecursion, concat}
+use Rattle.std.specs.List.{concat}
 use Rattle.std.proofs.lemmas.Bool.Decides.{nat_tests}
 use Rattle.eden_base.specs.declared.number.DaemonId.{DaemonId}
 use Rattle.eden_base.proofs.NumberTests.{true-eq, eq-true, eq-false}
 use Rattle.manifest.specs.Tree.{Tree, IsTree}
 use Rattle.broker_core.specs.declared.seat.Seat.{Seat}
 use Rattle.fuse_ops.specs.Served.{plain}
-use Rattle.map_image.specs.Parts.{AreParts}
 use Rattle.map_image.proofs.PartsLaws.{one_cutting}
 use Rattle.map_codec.specs.Handover.{IsHandedOver}
 use Rattle.map_codec.proofs.HandedOver.{taken_knows}
@@ -25,22 +24,22 @@ use Rattle.takeover_core.specs.declared.phase.Phase.TheVariants.{Chosen, Raising
 use Rattle.world.specs.World.{World}
 use Rattle.world.specs.Agreement.{Follows}
 use Rattle.daemon.specs.Daemon.{DaemonState, turned_to, in_hand, unposted}
-use Rattle.world.specs.Handing.{part_at, is_drained, is_out, reads_at, data_of, HasTheSeat, HasHanded, HasRead, IsHandedIn, IsPast, ReadsHanded, DaemonStands, HandsOnce, IsHanding}
+use Rattle.world.specs.Handing.{part_at, is_drained, is_out, reads_at, data_of, HasTheSeat, HasHanded, HasRead, IsPast, DaemonStands, HandsOnce, IsHanding}
 use Rattle.daemon.specs.Server.{ServerState, IsIdle, at_position}
 use Rattle.daemon.specs.Serving.{beginning}
 use Rattle.world.specs.State.{State, daemon_of, with_daemon, is_data_of, IsSeated}
 use Rattle.world.specs.Step.{Hears, Reacts}
 use Rattle.daemon.specs.Saying.{what_is_said}
-use Rattle.daemon.specs.Talking.{HasData, HandsOver, HandsOverInParts, ServesOn, TakesOver, CannotTakeOver, TakesData, ReadsOn, LosesPart, ReadsPart, TakesPart, ReadsBy, ReactsBy, TurnsBy, IsReady, GivesUpSo, drained, bytes_of, read_before}
+use Rattle.daemon.specs.Talking.{HasData, HandsOver, IsSent, ServesOn, TakesOver, CannotTakeOver, TakesData, ReadsOn, LosesPart, TakesPart, ReadsBy, ReactsBy, TurnsBy, IsReady, GivesUpSo, drained, bytes_of, read_before}
 use Rattle.daemon.specs.declared.turn.Reaction.{Reaction}
 use Rattle.daemon.specs.declared.turn.Reaction.TheVariants.{Ignores, Heeds, Says}
 use Rattle.daemon.specs.declared.happened.Happened.{Happened}
 use Rattle.world.proofs.Daemons.{daemon_of-with, holder-is, HolderIs, at-is}
-use Rattle.world.proofs.Handing.{KeepsSeat, IsBase, all-along, all-at, once-at, handing-stays, handing-quiet, stays}
+use Rattle.world.proofs.Handing.{KeepsSeat, IsBase, all-at, once-at, handing-stays, handing-quiet, stays}
 use Rattle.world.proofs.Once.{AreNoData, no-data-past, data-quiet, data-same, data-more, says-no-more}
 use Rattle.world.proofs.Pieces.{IsPartOf, IsPieceOf, filter-at, filter-some, take-whole, handed-pieces, handed-data, handed-other, handed-past, reads-behind}
 use Rattle.world.proofs.Standing.{Turned, turned-out, turned-stands, read-kept}
-use Rattle.world.proofs.Turns.{IsTurn, is_data, says_data, node_of, turn-hear, turn-give_up, turn-drained, turn-made, turn-failed, turn-gone, turn-lost, hear-no-data, give_up-no-data, drained-no-data, MakesIt, makes-it, TakesIt, takes-it, PartIt, part-it}
+use Rattle.world.proofs.Turns.{IsTurn, is_data, says_data, node_of, turn-hear, turn-give_up, turn-drained, turn-made, turn-failed, turn-gone, turn-lost, hear-no-data, give_up-no-data, drained-no-data, MakesIt, makes-it, takes-it, part-it}
 
 -- ---- a turn
 
@@ -109,7 +108,7 @@ pub record HandsText (old : State) (daemon : DaemonId) (was : DaemonState) (s g 
   pub there : daemon_of old daemon ≡ Some was
   pub drained : was.node.phase ≡ Pinged g s v
   pub has : HasData was.server g v text
-  pub said : IsHandedIn s g text (what_is_said reaction)
+  pub said : IsSent v s g text (what_is_said reaction)
   pub phase : later.node.phase ≡ Handed g s
   pub same : later.server ≡ was.server
 
@@ -117,7 +116,7 @@ pub record HandsText (old : State) (daemon : DaemonId) (was : DaemonState) (s g 
 hands-handing : (old : State) (daemon : DaemonId) (was : DaemonState) (s g v : ℕ) (text : List ℕ) (reaction : Reaction) (later : DaemonState) (new : State) → IsHanding old → HandsText old daemon was s g v text reaction later →
     new ≡ with_daemon (saying old reaction) daemon later → IsHanding new
 hands-handing old daemon was s g v text reaction later new h t makes =
-    handing-stays old (saying old reaction) new daemon was later more (said-base old reaction) makes t.there h keeps stands (handed-past old.broker.last s g text more (was_stands.at_most g part) t.said) once where
+    handing-stays old (saying old reaction) new daemon was later more (said-base old reaction) makes t.there h keeps stands (handed-past (table.goes_whole v) old.broker.last s g text more (was_stands.at_most g part) t.said) once where
       more : List Message
       more = what_is_said reaction
 
@@ -143,7 +142,7 @@ hands-handing old daemon was s g v text reaction later new h t makes =
             let one : was ≡ holder = cc in
             let both : false ≡ true = sym not_out ∙ ap (λ (d : DaemonState). is_out d.node.phase) one ∙ out in
             let none : ⊥ = cc in none)
-        in_ false e = data-same seat.generation old.messages more (handed-other s g seat.generation text more e t.said)
+        in_ false e = data-same seat.generation old.messages more (handed-other (table.goes_whole v) s g seat.generation text more e t.said)
 
       turned : Turned old daemon was later false
       turned = record {
@@ -188,64 +187,33 @@ hands-handing old daemon was s g v text reaction later new h t makes =
       first : (seat : Seat) (now : DaemonState) (server : ServerState) → later ≡ now → was.server ≡ Some server → g ≡ seat.generation → (data_of seat.generation old.messages ≡ []) ⊎ HasHanded old seat was server → HasHanded new seat now server
       first seat now server one serves same (inr over) = absurd (let both : false ≡ true = sym not_out ∙ over.out in let none : ⊥ = cc in none)
       first seat now server one serves same (inl none) =
-          let it : data_of g new.messages ≡ more = all_said g ∙ data-more g old.messages more ∙ ap (λ (ms : List Message). ms ++ data_of g more) (ap (λ (x : ℕ). data_of x old.messages) same ∙ none) ∙ handed-data s g text more t.said in
+          let it : data_of g new.messages ≡ more = all_said g ∙ data-more g old.messages more ∙ ap (λ (ms : List Message). ms ++ data_of g more) (ap (λ (x : ℕ). data_of x old.messages) same ∙ none) ∙ handed-data (table.goes_whole v) s g text more t.said in
           record {
             session = s;
             version = v;
             text = text;
             out = sym (ap (λ (d : DaemonState). is_out d.node.phase) one) ∙ ap is_out t.phase;
             handed = subst (λ (x : ℕ). IsHandedOver server.served x v text) same (data_in was.server server serves t.has);
-            said = subst (λ (x : ℕ). IsHandedIn s x text (data_of x new.messages)) same (subst (λ (ms : List Message). IsHandedIn s g text ms) (sym it) t.said);
+            said = subst (λ (x : ℕ). IsSent v s x text (data_of x new.messages)) same (subst (λ (ms : List Message). IsSent v s g text ms) (sym it) t.said);
           }
 
       once : HandsOnce new
       once seat now server has = in_ (g == seat.generation) refl where
         in_ : (b : Bool) → (g == seat.generation) ≡ b → (data_of seat.generation new.messages ≡ []) ⊎ HasHanded new seat now server
         in_ true e = let k = held seat now server has e in inr (first seat now server k.0 (k.1).serves (true-eq g seat.generation e) (h.once seat was server k.1))
-        in_ false e = once-at old new seat now server keeps (all_said seat.generation ∙ data-same seat.generation old.messages more (handed-other s g seat.generation text more e t.said)) h.once has
+        in_ false e = once-at old new seat now server keeps (all_said seat.generation ∙ data-same seat.generation old.messages more (handed-other (table.goes_whole v) s g seat.generation text more e t.said)) h.once has
 
--- the phase after the data was made
-made-whole : (made : NodeState) (g s v : ℕ) (bytes : List ℕ) → made.phase ≡ Making g s v → table.goes_whole v ≡ true → (table.after made (table.DataMade bytes)).phase ≡ Handed g s
-made-whole made g s v bytes now whole =
-    ap (λ (p : Phase). (table.after (node_of made.versions made.sessions p) (table.DataMade bytes)).phase) now
-    ∙ ap (λ (b : Bool). (table.after_row (node_of made.versions made.sessions (Making g s v)) (if b then table.Goes (Handed g s) (answer.Say (Data s g bytes)) else table.ignored)).phase) whole
-
-said-whole : (made : NodeState) (g s v : ℕ) (bytes : List ℕ) (said : Message) → made.phase ≡ Making g s v → table.goes_whole v ≡ true → table.said (table.heard made (table.DataMade bytes)) ≡ Some said → said ≡ Data s g bytes
-said-whole made g s v bytes said now whole says =
-    let its : table.said (table.heard (node_of made.versions made.sessions (Making g s v)) (table.DataMade bytes)) ≡ Some said = ap (λ (p : Phase). table.said (table.heard (node_of made.versions made.sessions p) (table.DataMade bytes))) (sym now) ∙ says in
-    let two : Some (Data s g bytes) ≡ Some said = sym (ap (λ (b : Bool). table.said (table.answer_of (if b then table.Goes (Handed g s) (answer.Say (Data s g bytes)) else table.ignored))) whole) ∙ its in
-    let same : said ≡ Data s g bytes = cc in same
-
-made-parts : (made : NodeState) (g s v : ℕ) → made.phase ≡ Making g s v → table.goes_in_parts v ≡ true → (table.after made table.PartsMade).phase ≡ Handed g s
-made-parts made g s v now cut =
-    ap (λ (p : Phase). (table.after (node_of made.versions made.sessions p) table.PartsMade).phase) now
-    ∙ ap (λ (b : Bool). (table.after_row (node_of made.versions made.sessions (Making g s v)) (if b then table.Goes (Handed g s) answer.Heard else table.ignored)).phase) cut
-
--- a daemon that hands over in one message hands a text over
-pub whole-text : (old : State) (daemon : DaemonId) (was : DaemonState) (said : Message) (s g v : ℕ) (reaction : Reaction) (later : DaemonState) → daemon_of old daemon ≡ Some was → table.heard was.node (table.Hear said) ≡ answer.MakeData s g v →
-    (t : HandsOver was (table.after was.node (table.Hear said)) g v reaction later) → HandsText old daemon was s g v t.bytes reaction later
-whole-text old daemon was said s g v reaction later there e t =
+-- a daemon that hands over hands a text over
+pub handed-text : (old : State) (daemon : DaemonId) (was : DaemonState) (said : Message) (s g v : ℕ) (reaction : Reaction) (later : DaemonState) → daemon_of old daemon ≡ Some was → table.heard was.node (table.Hear said) ≡ answer.MakeData s g v →
+    (t : HandsOver was (table.after was.node (table.Hear said)) s g v reaction later) → HandsText old daemon was s g v t.bytes reaction later
+handed-text old daemon was said s g v reaction later there e t =
     let it = makes-it was.node.versions was.node.sessions was.node.phase said s g v e in
     record {
       there = there;
       drained = it.was;
       has = t.has;
-      said = inl (ap what_is_said t.reacts ∙ ap (λ (m : Message). m ∷ []) (said-whole (table.after was.node (table.Hear said)) g s v t.bytes t.said it.now t.whole t.says));
-      phase = ap (λ (d : DaemonState). d.node.phase) t.becomes ∙ made-whole (table.after was.node (table.Hear said)) g s v t.bytes it.now t.whole;
-      same = ap (λ (d : DaemonState). d.server) t.becomes;
-    }
-
--- a daemon that hands over in parts hands a text over
-pub parts-text : (old : State) (daemon : DaemonId) (was : DaemonState) (said : Message) (s g v : ℕ) (reaction : Reaction) (later : DaemonState) → daemon_of old daemon ≡ Some was → table.heard was.node (table.Hear said) ≡ answer.MakeData s g v →
-    (t : HandsOverInParts was (table.after was.node (table.Hear said)) s g v reaction later) → HandsText old daemon was s g v t.bytes reaction later
-parts-text old daemon was said s g v reaction later there e t =
-    let it = makes-it was.node.versions was.node.sessions was.node.phase said s g v e in
-    record {
-      there = there;
-      drained = it.was;
-      has = t.has;
-      said = inr (t.parts, t.are, t.says);
-      phase = ap (λ (d : DaemonState). d.node.phase) t.becomes ∙ made-parts (table.after was.node (table.Hear said)) g s v it.now t.cut;
+      said = t.said;
+      phase = ap (λ (d : DaemonState). d.node.phase) t.becomes;
       same = ap (λ (d : DaemonState). d.server) t.becomes;
     }
 
@@ -384,7 +352,7 @@ said-at old position said at = record { index = position - 1; at = at-is old.mes
 -- a piece of the seat's data is a piece of what its holder handed over
 piece-handed : (old : State) (seat : Seat) (holder : DaemonState) (handed : ServerState) (said : Message) → IsSaid old said → is_data_of seat.generation said ≡ true → (over : HasHanded old seat holder handed) → IsPieceOf over.text said
 piece-handed old seat holder handed said at is over =
-    filter-at (IsPieceOf over.text) (is_data_of seat.generation) old.messages at.index said (handed-pieces over.session seat.generation over.text (data_of seat.generation old.messages) over.said) at.at is
+    filter-at (IsPieceOf over.text) (is_data_of seat.generation) old.messages at.index said (handed-pieces (table.goes_whole over.version) over.session seat.generation over.text (data_of seat.generation old.messages) over.said) at.at is
 
 -- if a piece of the seat's data was said, the data is out
 out-handed : (old : State) (seat : Seat) (holder : DaemonState) (handed : ServerState) (said : Message) → IsHanding old → IsSaid old said → is_data_of seat.generation said ≡ true → HasTheSeat old seat holder handed → HasHanded old seat holder handed
@@ -548,9 +516,8 @@ part-handing w old daemon was s g v i n bytes node reaction later new m h t taki
 
 heard-handing : (w : World) (old : State) (daemon : DaemonId) (was : DaemonState) (position : ℕ) (said : Message) (a : Answer) (reaction : Reaction) (later : DaemonState) (new : State) → Follows w old → IsHanding old → daemon_of old daemon ≡ Some was → at_position old.messages position ≡ Some said →
     table.heard was.node (table.Hear said) ≡ a → ReactsBy old.manifest old.limit (bytes_of said) was (table.after was.node (table.Hear said)) a reaction later → new ≡ with_daemon (saying old reaction) daemon later → IsHanding new
-heard-handing w old daemon was position said (answer.MakeData s g v) reaction later new m h there at e (inl t) makes = hands-handing old daemon was s g v t.bytes reaction later new h (whole-text old daemon was said s g v reaction later there e t) makes
-heard-handing w old daemon was position said (answer.MakeData s g v) reaction later new m h there at e (inr (inl t)) makes = hands-handing old daemon was s g v t.bytes reaction later new h (parts-text old daemon was said s g v reaction later there e t) makes
-heard-handing w old daemon was position said (answer.MakeData s g v) reaction later new m h there at e (inr (inr t)) makes = serves-handing old daemon was said s g v reaction later new h there e t makes
+heard-handing w old daemon was position said (answer.MakeData s g v) reaction later new m h there at e (inl t) makes = hands-handing old daemon was s g v t.bytes reaction later new h (handed-text old daemon was said s g v reaction later there e t) makes
+heard-handing w old daemon was position said (answer.MakeData s g v) reaction later new m h there at e (inr t) makes = serves-handing old daemon was said s g v reaction later new h there e t makes
 heard-handing w old daemon was position said (answer.GotData s g v) reaction later new m h there at e t makes =
     let it = takes-it was.node.versions was.node.sessions was.node.phase said s g v e in
     takes-data w old daemon was (bytes_of said) (table.after was.node (table.Hear said)) s g reaction later new m h there (ap part_at it.was) (λ x. subst (λ (p : Phase). IsTurn x false p Gone) (sym it.was) (turn-gone s v x)) it.now

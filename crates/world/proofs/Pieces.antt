@@ -1,5 +1,5 @@
 -- The numbered parts of a text: each is a piece of it, and what was read of them is its beginning.
-use Rattle.std.proofs.Common.{◌≡◌, ℕ, suc, zero, ◌+◌, ◌-◌, ◌<◌, ◌≤◌, Bool, true, false, ◌&&◌, List, [], ◌∷◌, ◌++◌, length, Option, Some, None, refl, sym, ap, ◌∙◌, subst, inl, inr, append_assoc, length-append, arith}
+use Rattle.std.proofs.Common.{◌≡◌, ℕ, suc, zero, ◌+◌, ◌-◌, ◌<◌, ◌≤◌, Bool, true, false, ◌&&◌, List, [], ◌∷◌, ◌++◌, length, Some, None, refl, sym, ap, ◌∙◌, subst, append_assoc, length-append, arith}
 use Rattle.std.specs.Prelude.{◌==◌, cond, count_by, filter, position, slice_get, take, drop, nat_lt, not}
 use Rattle.std.specs.List.{AllByRecursion, concat, position_or_len}
 use Rattle.std.proofs.lemmas.Bool.Decides.{nat_tests}
@@ -8,10 +8,10 @@ use Rattle.eden_base.proofs.NumberTests.{eq-true, eq-false}
 use Rattle.map_image.specs.Parts.{AreParts}
 use Rattle.takeover_core.specs.declared.message.Message.{Message}
 use Rattle.takeover_core.specs.declared.message.Message.TheVariants.{Data, Part}
-use Rattle.daemon.specs.Talking.{numbered, in_parts}
+use Rattle.daemon.specs.Talking.{numbered, IsSentBy}
 use Rattle.world.specs.Agreement.{begins_data_of}
 use Rattle.world.specs.State.{is_data_of}
-use Rattle.world.specs.Handing.{IsHandedIn, IsPast, data_of}
+use Rattle.world.specs.Handing.{IsPast, data_of}
 use Rattle.world.proofs.Bags.{mark, count-cons}
 
 -- ---- lists
@@ -96,9 +96,9 @@ numbered-pieces s g text all before (part ∷ parts) is are = (
   append-one before parts = append_assoc before (part ∷ []) parts
 
 -- each message that hands a text over has a piece of it
-pub handed-pieces : (s g : ℕ) (text : List ℕ) (said : List Message) → IsHandedIn s g text said → AllByRecursion (IsPieceOf text) said
-handed-pieces s g text said (inl is) = subst (λ (ms : List Message). AllByRecursion (IsPieceOf text) ms) (sym is) (refl, tt)
-handed-pieces s g text said (inr (parts, are, is)) = subst (λ (ms : List Message). AllByRecursion (IsPieceOf text) ms) (sym is) (numbered-pieces s g text parts [] parts refl are)
+pub handed-pieces : (whole : Bool) (s g : ℕ) (text : List ℕ) (said : List Message) → IsSentBy whole s g text said → AllByRecursion (IsPieceOf text) said
+handed-pieces true s g text said is = subst (λ (ms : List Message). AllByRecursion (IsPieceOf text) ms) (sym is) (refl, tt)
+handed-pieces false s g text said (parts, are, is) = subst (λ (ms : List Message). AllByRecursion (IsPieceOf text) ms) (sym is) (numbered-pieces s g text parts [] parts refl are)
 
 -- ---- what is said of a text
 
@@ -109,9 +109,9 @@ numbered-data s g n i (part ∷ parts) =
     ap (λ (b : Bool). cond b (Part s g i n part ∷ data_of g rest) (data_of g rest)) (eq-true g g refl) ∙ ap (λ (ms : List Message). Part s g i n part ∷ ms) (numbered-data s g n (i + 1) parts)
 
 -- each message that hands a text over at a generation is data of that generation
-pub handed-data : (s g : ℕ) (text : List ℕ) (said : List Message) → IsHandedIn s g text said → data_of g said ≡ said
-handed-data s g text said (inl is) = subst (λ (ms : List Message). data_of g ms ≡ ms) (sym is) (ap (λ (b : Bool). cond b (Data s g text ∷ []) []) (eq-true g g refl))
-handed-data s g text said (inr (parts, are, is)) = subst (λ (ms : List Message). data_of g ms ≡ ms) (sym is) (numbered-data s g (length parts) 1 parts)
+pub handed-data : (whole : Bool) (s g : ℕ) (text : List ℕ) (said : List Message) → IsSentBy whole s g text said → data_of g said ≡ said
+handed-data true s g text said is = subst (λ (ms : List Message). data_of g ms ≡ ms) (sym is) (ap (λ (b : Bool). cond b (Data s g text ∷ []) []) (eq-true g g refl))
+handed-data false s g text said (parts, are, is) = subst (λ (ms : List Message). data_of g ms ≡ ms) (sym is) (numbered-data s g (length parts) 1 parts)
 
 numbered-other : (s g h n i : ℕ) (parts : List (List ℕ)) → (g == h) ≡ false → data_of h (numbered s g n i parts) ≡ []
 numbered-other s g h n i [] e = refl
@@ -120,17 +120,17 @@ numbered-other s g h n i (part ∷ parts) e =
     ap (λ (b : Bool). cond b (Part s g i n part ∷ data_of h rest) (data_of h rest)) e ∙ numbered-other s g h n (i + 1) parts e
 
 -- no message that hands a text over at a generation is data of another generation
-pub handed-other : (s g h : ℕ) (text : List ℕ) (said : List Message) → (g == h) ≡ false → IsHandedIn s g text said → data_of h said ≡ []
-handed-other s g h text said e (inl is) = ap (data_of h) is ∙ ap (λ (b : Bool). cond b (Data s g text ∷ []) []) e
-handed-other s g h text said e (inr (parts, are, is)) = ap (data_of h) is ∙ numbered-other s g h (length parts) 1 parts e
+pub handed-other : (whole : Bool) (s g h : ℕ) (text : List ℕ) (said : List Message) → (g == h) ≡ false → IsSentBy whole s g text said → data_of h said ≡ []
+handed-other true s g h text said e is = ap (data_of h) is ∙ ap (λ (b : Bool). cond b (Data s g text ∷ []) []) e
+handed-other false s g h text said e (parts, are, is) = ap (data_of h) is ∙ numbered-other s g h (length parts) 1 parts e
 
 numbered-past : (last s g n i : ℕ) (parts : List (List ℕ)) → g ≤ last → AllByRecursion (IsPast last) (numbered s g n i parts)
 numbered-past last s g n i [] low = tt
 numbered-past last s g n i (part ∷ parts) low = (low, numbered-past last s g n (i + 1) parts low)
 
-pub handed-past : (last s g : ℕ) (text : List ℕ) (said : List Message) → g ≤ last → IsHandedIn s g text said → AllByRecursion (IsPast last) said
-handed-past last s g text said low (inl is) = subst (λ (ms : List Message). AllByRecursion (IsPast last) ms) (sym is) (low, tt)
-handed-past last s g text said low (inr (parts, are, is)) = subst (λ (ms : List Message). AllByRecursion (IsPast last) ms) (sym is) (numbered-past last s g (length parts) 1 parts low)
+pub handed-past : (whole : Bool) (last s g : ℕ) (text : List ℕ) (said : List Message) → g ≤ last → IsSentBy whole s g text said → AllByRecursion (IsPast last) said
+handed-past true last s g text said low is = subst (λ (ms : List Message). AllByRecursion (IsPast last) ms) (sym is) (low, tt)
+handed-past false last s g text said low (parts, are, is) = subst (λ (ms : List Message). AllByRecursion (IsPast last) ms) (sym is) (numbered-past last s g (length parts) 1 parts low)
 
 -- ---- what was read
 
@@ -163,14 +163,14 @@ mark-few true = omega arith
 mark-few false = omega arith
 
 -- of the messages that hand a text over, at most one begins data
-pub handed-begins : (h s g : ℕ) (text : List ℕ) (said : List Message) → IsHandedIn s g text said → count_by (begins_data_of h) said ≤ 1
-handed-begins h s g text said (inl is) = subst (λ (ms : List Message). count_by (begins_data_of h) ms ≤ 1) (sym is) few where
+pub handed-begins : (whole : Bool) (h s g : ℕ) (text : List ℕ) (said : List Message) → IsSentBy whole s g text said → count_by (begins_data_of h) said ≤ 1
+handed-begins true h s g text said is = subst (λ (ms : List Message). count_by (begins_data_of h) ms ≤ 1) (sym is) few where
   few : count_by (begins_data_of h) (Data s g text ∷ []) ≤ 1
   few =
       let c : count_by (begins_data_of h) (Data s g text ∷ []) ≡ mark (begins_data_of h (Data s g text)) + count_by (begins_data_of h) [] = count-cons (begins_data_of h) (Data s g text) [] in
       let empty : count_by (begins_data_of h) [] ≡ 0 = refl in
       let one : mark (g == h) ≤ 1 = mark-few (g == h) in omega arith
-handed-begins h s g text said (inr (parts, are, is)) = subst (λ (ms : List Message). count_by (begins_data_of h) ms ≤ 1) (sym is) (few parts (length parts)) where
+handed-begins false h s g text said (parts, are, is) = subst (λ (ms : List Message). count_by (begins_data_of h) ms ≤ 1) (sym is) (few parts (length parts)) where
   few : (parts : List (List ℕ)) (n : ℕ) → count_by (begins_data_of h) (numbered s g n 1 parts) ≤ 1
   few [] n = let empty : count_by (begins_data_of h) [] ≡ 0 = refl in omega arith
   few (part ∷ parts) n =

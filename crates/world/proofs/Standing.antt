@@ -11,7 +11,7 @@ use Rattle.takeover_core.specs.Phases.{claim_wanted}
 use Rattle.takeover_core.specs.declared.phase.Phase.{Phase}
 use Rattle.takeover_core.specs.declared.phase.Phase.TheVariants.{Serving, Gone, Reading}
 use Rattle.daemon.specs.Daemon.{DaemonState, with_server, read_in}
-use Rattle.world.specs.Handing.{part_at, is_drained, is_out, in_session, reads_at, HasTheSeat, HasHanded, HasRead, ReadsHanded, DaemonStands}
+use Rattle.world.specs.Handing.{part_at, is_drained, is_out, in_session, reads_at, HasTheSeat, HasRead, DaemonStands}
 use Rattle.daemon.specs.Server.{ServerState, IsIdle}
 use Rattle.world.specs.State.{State, daemon_of}
 use Rattle.world.proofs.Handing.{KeepsOut, holding-out, out-drained}

@@ -128,8 +128,7 @@ heard-on old daemon was said answer.Ignored reaction later h there e t = turned-
 heard-on old daemon was said answer.Heard reaction later h there e t = turned-on old daemon was _ answer.Heard reaction later t
 heard-on old daemon was said (answer.Say x) reaction later h there e t = turned-on old daemon was _ (answer.Say x) reaction later t
 heard-on old daemon was said (answer.MakeData s g v) reaction later h there e (inl t) = inl (ap (λ (d : DaemonState). d.server) t.becomes)
-heard-on old daemon was said (answer.MakeData s g v) reaction later h there e (inr (inl t)) = inl (ap (λ (d : DaemonState). d.server) t.becomes)
-heard-on old daemon was said (answer.MakeData s g v) reaction later h there e (inr (inr t)) = inl (ap (λ (d : DaemonState). d.server) t.becomes)
+heard-on old daemon was said (answer.MakeData s g v) reaction later h there e (inr t) = inl (ap (λ (d : DaemonState). d.server) t.becomes)
 heard-on old daemon was said (answer.GotData s g v) reaction later h there e t =
     let it = takes-it was.node.versions was.node.sessions was.node.phase said s g v e in
     takes-on old daemon was (bytes_of said) (table.after was.node (table.Hear said)) g reaction later h there (ap part_at it.was) t

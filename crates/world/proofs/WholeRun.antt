@@ -10,6 +10,7 @@ use Rattle.manifest.specs.Tree.{IsTree, tree_of}
 use Rattle.broker_core.proofs.HeldLaws.{held_count-none}
 use Rattle.broker_core.specs.declared.seat.Seat.{Seat}
 use Rattle.daemon.specs.Server.{ServerState}
+use Rattle.takeover_core.specs.Phases.{goes_whole}
 use Rattle.takeover_core.specs.declared.message.Message.{Message}
 use Rattle.takeover_core.specs.declared.message.Message.TheVariants.{Data, Part}
 use Rattle.takeover_core.specs.declared.phase.Phase.{Phase}
@@ -86,7 +87,7 @@ match-current w state m = record {
       let empty : count_by (begins_data_of seat.generation) (data_of seat.generation state.messages) ≡ 0 = ap (count_by (begins_data_of seat.generation)) none in omega arith
   alone_in seat (inr over) =
       let same : count_by (begins_data_of seat.generation) state.messages ≡ count_by (begins_data_of seat.generation) (data_of seat.generation state.messages) = begins-of-data seat.generation state.messages in
-      let few : count_by (begins_data_of seat.generation) (data_of seat.generation state.messages) ≤ 1 = handed-begins seat.generation over.session seat.generation over.text (data_of seat.generation state.messages) over.said in omega arith
+      let few : count_by (begins_data_of seat.generation) (data_of seat.generation state.messages) ≤ 1 = handed-begins (goes_whole over.version) seat.generation over.session seat.generation over.text (data_of seat.generation state.messages) over.said in omega arith
 
   -- a position that is told is the index of a message, and one more
   found : (seat : Seat) (first : ℕ) → state.broker.seat ≡ Some seat → handed_of state ≡ Some first → (k : ℕ) × (position (is_data_of seat.generation) state.messages ≡ Some k)

@@ -21,10 +21,11 @@ use Rattle.map_codec.specs.Handover.{IsHandedOver}
 use Rattle.takeover_core.specs.Phases.{claim_wanted}
 use Rattle.takeover_core.specs.declared.message.Message.{Message}
 use Rattle.takeover_core.specs.declared.message.Message.TheVariants.{Data, Part}
-use Rattle.world.specs.Handing.{IsHandedIn, IsHanding, data_of, reads_at}
+use Rattle.world.specs.Handing.{IsHanding, data_of, reads_at}
 use Rattle.world.specs.Attending.{MayBeTold, IsAttended}
 use Rattle.daemon.specs.Daemon.{DaemonState}
 use Rattle.daemon.specs.Server.{ServerState, IsIdle, at_position, is_single}
+use Rattle.daemon.specs.Talking.{IsSent}
 use Rattle.world.specs.State.{State, IsSeated, daemon_of, server_of, is_data_of, handed_of}
 use Rattle.world.specs.Step.{Steps, parts_of}
 use Rattle.world.specs.World.{World, Move, issue, issue_item, work, work_item, accept, deliver, mount, claim, end as mount_end, first_world, file_named, times, owed, is_asked, is_replied, IsRun, after_all}
@@ -180,7 +181,7 @@ NumbersNameTheirFirstFile world state =
 abbrev pub KnowsWorld : World → ServedState → Type 0
 KnowsWorld world served = Knows world.tree world.names (owed world) served
 
--- Data of the seat's generation is in one message, or in the numbered parts of one session. This data is the image of a
+-- Data of the seat's generation is in one message, or in the numbered parts of one session, as its version goes. This data is the image of a
 -- state that knows the world as it is at the end, though the kernel issued and received since. A daemon that reads
 -- parts of that generation has read a beginning of the image.
 pub record IsHandedNow (world : World) (state : State) (seat : Seat) : Type 0 where
@@ -188,7 +189,7 @@ pub record IsHandedNow (world : World) (state : State) (seat : Seat) : Type 0 wh
   pub version : ℕ
   pub text : List ℕ
   pub served : ServedState
-  pub said : IsHandedIn session seat.generation text (data_of seat.generation state.messages)
+  pub said : IsSent version session seat.generation text (data_of seat.generation state.messages)
   pub handed : IsHandedOver served seat.generation version text
   pub knows : KnowsWorld world served
   pub read : (daemon : DaemonId) (was : DaemonState) → daemon_of state daemon ≡ Some was →

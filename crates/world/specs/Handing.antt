@@ -1,6 +1,6 @@
 -- What makes a takeover keep what is known: which daemons may have data of the seat, and what is in that data. All of
 -- this is said of the state alone. (This project's own.)
-use Rattle.std.specs.Prelude.{◌≡◌, ◌≢◌, ℕ, ◌-◌, ◌≤◌, ◌⊎◌, Bool, true, false, List, [], ◌∷◌, length, filter, take, Option, Some, None}
+use Rattle.std.specs.Prelude.{◌≡◌, ◌≢◌, ℕ, ◌-◌, ◌≤◌, ◌⊎◌, Bool, true, false, List, [], length, filter, take, Option, Some, None}
 use Rattle.std.specs.List.{AllByRecursion, concat}
 use Rattle.eden_base.specs.Limits.{last_generation}
 use Rattle.eden_base.specs.declared.number.DaemonId.{DaemonId}
@@ -17,7 +17,7 @@ use Rattle.takeover_core.specs.declared.phase.Phase.{Phase}
 use Rattle.takeover_core.specs.declared.phase.Phase.TheVariants.{Draining, Pinged, Making, Handed, Holding, Serving, Reading}
 use Rattle.daemon.specs.Daemon.{DaemonState}
 use Rattle.daemon.specs.Server.{ServerState, IsIdle}
-use Rattle.daemon.specs.Talking.{in_parts}
+use Rattle.daemon.specs.Talking.{IsSent}
 use Rattle.world.specs.State.{State, daemon_of, is_data_of}
 
 -- ---- phases
@@ -74,12 +74,6 @@ pub record HasTheSeat (state : State) (seat : Seat) (was : DaemonState) (server 
 abbrev pub data_of : ℕ → List Message → List Message
 data_of generation messages = filter (is_data_of generation) messages
 
--- a text was handed over in a session at a generation: in one message, or in its numbered parts
-abbrev pub IsHandedIn : (session generation : ℕ) → List ℕ → List Message → Type 0
-IsHandedIn session generation text said =
-    (said ≡ Data session generation text ∷ [])
-    ⊎ ((parts : List (List ℕ)) × AreParts text parts × (said ≡ in_parts session generation parts))
-
 -- The holder of the seat handed over what it serves: the data of the seat's generation is the text of its image.
 pub record HasHanded (state : State) (seat : Seat) (was : DaemonState) (server : ServerState) : Type 0 where
   pub session : ℕ
@@ -87,7 +81,7 @@ pub record HasHanded (state : State) (seat : Seat) (was : DaemonState) (server :
   pub text : List ℕ
   pub out : is_out was.node.phase ≡ true
   pub handed : IsHandedOver server.served seat.generation version text
-  pub said : IsHandedIn session seat.generation text (data_of seat.generation state.messages)
+  pub said : IsSent version session seat.generation text (data_of seat.generation state.messages)
 
 -- a daemon in a phase in which it reads parts of a text has read the parts before the one that it waits for
 abbrev pub HasRead : Phase → Option (List ℕ) → List ℕ → Type 0

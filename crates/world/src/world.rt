@@ -12,7 +12,7 @@ use crate::outcome::Outcome;
 use crate::said::{index_of_data, let_turn, say};
 use block_queue::BlockQueue;
 use broker_core::{Broker, DeliverFault};
-use daemon::{Daemon, Happened, Refusal, Server, Task, index_of, opening};
+use daemon::{Daemon, Effect, Happened, Refusal, Server, Task, index_of, opening};
 use eden_base::{DaemonId, NoMemory};
 use fuse_ops::Served;
 use fuse_wire::{Reply, Request};
@@ -92,7 +92,8 @@ impl World {
         &self.broker
     }
 
-    /// Returns what a daemon serves, if there is such a daemon and it serves.
+    /// Returns what a daemon serves, for who prints or checks it: its numbers and its tree. Returns none if there is no such
+    /// daemon, or it serves nothing.
     pub fn served(&self, daemon: DaemonId) -> Option<&Served>
         ensures served { option_copied result ≡ served_of self.now daemon }
     {
@@ -300,24 +301,28 @@ impl World {
         };
         let said = &self.messages[at];
         let hearer = &self.daemons[index];
-        if hearer.is_fed_by(said) {
-            if self.messages.reserve(1).is_err() {
-                return Happened::Refused(Refusal::NoMemory);
-            }
-            let reader = &mut self.daemons[index];
-            let Ok(reaction) = reader.hear_part(self.alloc, &self.messages[at]) else {
-                return Happened::Refused(Refusal::NoMemory);
-            };
-            return say(&mut self.messages, reaction);
-        }
-        let Ok(turn) = hearer.hear(self.alloc, &self.manifest, self.limit, said) else {
+        let Ok(effect) = hearer.hear(self.alloc, &self.manifest, self.limit, said) else {
             return Happened::Refused(Refusal::NoMemory);
         };
-        if self.messages.reserve(turn.count()).is_err() {
-            return Happened::Refused(Refusal::NoMemory);
+        match effect {
+            Effect::Turn(turn) => {
+                if self.messages.reserve(turn.count()).is_err() {
+                    return Happened::Refused(Refusal::NoMemory);
+                }
+                let reaction = let_turn(&mut self.daemons, index, turn);
+                say(&mut self.messages, reaction)
+            }
+            Effect::Part(node) => {
+                if self.messages.reserve(1).is_err() {
+                    return Happened::Refused(Refusal::NoMemory);
+                }
+                let reader = &mut self.daemons[index];
+                let Ok(reaction) = reader.read_part(self.alloc, node, &self.messages[at]) else {
+                    return Happened::Refused(Refusal::NoMemory);
+                };
+                say(&mut self.messages, reaction)
+            }
         }
-        let reaction = let_turn(&mut self.daemons, index, turn);
-        say(&mut self.messages, reaction)
     }
 
     /// Lets a daemon say that it is ready to hand over. Every other refusal comes before out of memory.

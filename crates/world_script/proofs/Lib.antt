@@ -1,4 +1,4 @@
-pub mod ErrandLemmas
+pub mod ServerCommands
 pub mod PlayLemmas
 pub mod ProcessLemmas
 pub mod ProgramEndLemmas

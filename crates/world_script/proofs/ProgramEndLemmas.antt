@@ -1,5 +1,5 @@
 -- Lemmas on how the program ends.
-use Rattle.std.proofs.Common.{◌≡◌, ◌⊎◌, ℕ, true, false, List, [], ◌∷◌, ◌++◌, Option, Some, None, Result, Ok, Err, option_map, refl, ap, subst, sym, ◌∙◌, inl, inr, string_bytes}
+use Rattle.std.proofs.Common.{◌≡◌, ◌⊎◌, ℕ, true, List, [], ◌∷◌, ◌++◌, Option, Some, None, Result, Ok, Err, option_map, refl, ap, subst, sym, ◌∙◌, inl, inr, string_bytes}
 use Rattle.std.specs.Prelude.{OnOk}
 use Rattle.std.specs.Io.KnownBytes.{Appends, Keeps}
 use Rattle.std.proofs.KnownBytes.{Appends-kept, Keeps-refl, Keeps-trans}
@@ -9,9 +9,9 @@ use Rattle.std.specs.declared.io.Error.{Error as IoError}
 use Rattle.clap.specs.Words.{IsAmong, Kinds}
 use Rattle.clap.specs.declared.error.kind.ErrorKind.{ErrorKind}
 use Rattle.clap.specs.declared.error.kind.ErrorKind.TheVariants as kind
-use Rattle.world_script.specs.ProgramEnd.{Answers, Complains, Ends, Finishes, IsFault, IsMistake, IsWish, Tells, complaint, name_beside, name_by, name_of, name_with, plain, untold, untold_by, unwritten, wrong_had}
+use Rattle.world_script.specs.ProgramEnd.{Answers, Complains, Ends, Finishes, IsFault, IsMistake, IsWish, Tells, complaint, name_beside, name_by, name_of, plain, untold, untold_by, unwritten, wrong_had}
 use Rattle.world_script.specs.FaultText.{fault_line}
-use Rattle.world_script.specs.Refusal.{IsRunRefusal, comes_first, is_caused}
+use Rattle.world_script.specs.Refusal.{IsRunRefusal, comes_first}
 use Rattle.world_script.specs.Script.{Runs}
 use Rattle.world_script.specs.Source.{OfRead}
 use Rattle.world_script.proofs.ReadLemmas.{of_read-any, of_read-map}
@@ -20,15 +20,8 @@ use Rattle.world_script.specs.declared.program_end.ProgramEnd.{ProgramEnd}
 use Rattle.world_script.specs.declared.program_end.ProgramEnd.TheVariants.{Ran, Told, Untold, Shown, Refused}
 use Rattle.world_script.specs.declared.failure.Cause.{Cause}
 use Rattle.world_script.specs.declared.failure.Failure.{Failure}
-use Rattle.world_script.specs.declared.fault.Fault.{Fault}
-use Rattle.world_script.specs.declared.fault.Fault.TheVariants.{CannotWrite, NoMemory}
-
--- the name that a failure has is that of its fault, if an error caused the fault
-pub named-some : (path : List ℕ) (fault : Fault) → true ≡ is_caused fault → Some (name_with path fault) ≡ name_by path fault
-named-some path fault is = rw (sym is) refl
-
-pub named-none : (path : List ℕ) (fault : Fault) → false ≡ is_caused fault → None ≡ name_by path fault
-named-none path fault is = rw (sym is) refl
+use Rattle.world_script.specs.declared.program_fault.ProgramFault.{ProgramFault}
+use Rattle.world_script.specs.declared.program_fault.ProgramFault.TheVariants.{CannotWrite, NoMemory}
 
 -- memory may run out whatever the words say
 pub is_fault-memory : (wrong : Kinds) (script : Option (List ℕ)) → IsFault wrong script NoMemory
@@ -41,7 +34,7 @@ is_fault-answered [] script k none = absurd none
 is_fault-answered (kind ∷ more) script k among = inr refl
 
 -- the program ends so if the line of its failure could not be written
-ends-untold_by : (wrong : Kinds) (path : List ℕ) (script : Option (List ℕ)) (limit : ℕ) (before after : Option (List ℕ)) (fault : Fault) (cause : Option Cause) (failure : Failure) (error : IoError) →
+ends-untold_by : (wrong : Kinds) (path : List ℕ) (script : Option (List ℕ)) (limit : ℕ) (before after : Option (List ℕ)) (fault : ProgramFault) (cause : Option Cause) (failure : Failure) (error : IoError) →
     failure.fault ≡ fault → failure.cause ≡ cause → IsFault wrong script failure.fault → name_of failure ≡ name_by path failure.fault →
     Ends wrong path script limit before after (untold_by fault cause failure error)
 ends-untold_by wrong path script limit before after CannotWrite (Some first) failure error fault_is cause_is is named = (subst (IsFault wrong script) fault_is is, refl)
@@ -78,7 +71,7 @@ ends-no_memory wrong path script limit before after ending told =
     ends-told wrong path script limit before before after (plain NoMemory) ending (is_fault-memory wrong script) refl (λ first. Keeps-refl before) told
 
 -- the program ends so by a script's fault
-pub ends-failed : (path : List ℕ) (script : Option (List ℕ)) (limit : ℕ) (before between after : Option (List ℕ)) (fault : Fault) (failure : Failure) (ending : ProgramEnd) →
+pub ends-failed : (path : List ℕ) (script : Option (List ℕ)) (limit : ℕ) (before between after : Option (List ℕ)) (fault : ProgramFault) (failure : Failure) (ending : ProgramEnd) →
     failure.fault ≡ fault → OfRead script (λ bytes. IsRunRefusal bytes fault) → name_of failure ≡ name_by path failure.fault → (comes_first fault ≡ true → Keeps before between) →
     Tells failure between after ending → Ends [] path script limit before after ending
 ends-failed path script limit before between after fault failure ending same is named kept told =

@@ -4,8 +4,8 @@ use Rattle.std.specs.Prelude.{IfErr, IfSome, OnOk, codes}
 use Rattle.std.specs.Str.{bytes_eq}
 use Rattle.std.specs.Io.KnownBytes.{Keeps}
 use Rattle.std.proofs.lemmas.List.{length-replicate}
-use Rattle.world_script.specs.declared.fault.Fault.{Fault}
-use Rattle.world_script.specs.declared.fault.Fault.TheVariants.{CannotRead, TooLong, NoMemory}
+use Rattle.world_script.specs.declared.program_fault.ProgramFault.{ProgramFault}
+use Rattle.world_script.specs.declared.program_fault.ProgramFault.TheVariants.{CannotRead, TooLong, NoMemory}
 use Rattle.world_script.specs.Refusal.{IsReadRefusal, IsRunRefusal}
 use Rattle.world_script.specs.Source.{OfRead, script_at}
 use Rattle.world_script.specs.declared.run_error.RunError.{RunError}
@@ -46,7 +46,7 @@ longer : (n : ℕ) → (bytes : List ℕ) × (n < length bytes)
 longer n = (replicate {A = ℕ} (suc n) 0, omega (arith, length-replicate {A = ℕ} (suc n) 0))
 
 -- a script whose bytes were not read is refused for that
-pub refused_early : (known : Option (List ℕ)) (fault : Fault) → IsReadRefusal fault → (fault ≡ TooLong → IfSome known (λ all. 1048576 < length all)) → OfRead known (λ script. IsRunRefusal script fault)
+pub refused_early : (known : Option (List ℕ)) (fault : ProgramFault) → IsReadRefusal fault → (fault ≡ TooLong → IfSome known (λ all. 1048576 < length all)) → OfRead known (λ script. IsRunRefusal script fault)
 refused_early known CannotRead is long = of_read-any known (λ script. IsRunRefusal script CannotRead) (λ script. tt)
 refused_early known NoMemory is long = of_read-any known (λ script. IsRunRefusal script NoMemory) (λ script. tt)
 refused_early None TooLong is long = let bytes = longer 1048576 in record { script = bytes.0; is = tt; holds = bytes.1 }

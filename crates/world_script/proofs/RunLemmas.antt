@@ -11,8 +11,8 @@ use Rattle.world.specs.Agreement.{Matches, world_after}
 use Rattle.daemon.specs.declared.happened.Happened.{Happened}
 use Rattle.world.proofs.WholeRun.{match-agrees, match-counts, match-names, match-current, steps-matched, posters-answered}
 use Rattle.world.specs.declared.event.Event.{Event}
-use Rattle.world_script.specs.declared.fault.Fault.{Fault}
-use Rattle.world_script.specs.declared.fault.Fault.TheVariants.{CannotWrite}
+use Rattle.world_script.specs.declared.program_fault.ProgramFault.{ProgramFault}
+use Rattle.world_script.specs.declared.program_fault.ProgramFault.TheVariants.{CannotWrite}
 use Rattle.world_script.specs.Parts.{SaysEvents}
 use Rattle.world_script.specs.Refusal.{IsRunRefusal}
 use Rattle.world_script.specs.Script.{SaysManifest, IsGood, Prints, IsPromised, RunsEvents, Runs}
@@ -60,7 +60,7 @@ good_as_said script text manifest events len same said says = record {
 }
 
 -- a script that was read may be refused because its lines cannot be written
-pub refused_late : (known : Option (List ℕ)) (script text : List ℕ) (manifest : Manifest) (events : List Event) (fault : Fault) →
+pub refused_late : (known : Option (List ℕ)) (script text : List ℕ) (manifest : Manifest) (events : List Event) (fault : ProgramFault) →
     IfSome known (λ all. script ≡ all) → length script ≤ 1048576 → text ≡ script → SaysManifest text (Ok manifest) → SaysEvents text events → fault ≡ CannotWrite → OfRead known (λ all. IsRunRefusal all fault)
 refused_late known script text manifest events fault is len same said says late = record {
   script = script;

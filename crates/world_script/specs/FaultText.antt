@@ -2,11 +2,11 @@
 use Rattle.std.specs.Prelude.{ℕ, List, [], ◌∷◌, ◌++◌, codes}
 use Rattle.std.specs.Fmt.{decimal}
 use Rattle.manifest.specs.Words.{kind_text}
-use Rattle.world_script.specs.declared.fault.Fault.{Fault}
-use Rattle.world_script.specs.declared.fault.Fault.TheVariants.{CannotRead, TooLong, NoEvents, BadManifest, BadLine, NoMemory, CannotWrite, CannotListen, NoBroker, Seated, Full, NoDaemon, OfferRefused, TakeoverFailed, NoThread, Broken, NoLog, NoDevice, CannotMount}
+use Rattle.world_script.specs.declared.program_fault.ProgramFault.{ProgramFault}
+use Rattle.world_script.specs.declared.program_fault.ProgramFault.TheVariants.{CannotRead, TooLong, NoEvents, BadManifest, BadLine, NoMemory, CannotWrite, CannotListen, NoBroker, Seated, Full, NoDaemon, OfferRefused, TakeoverFailed, NoThread, Broken, NoLog, NoDevice, CannotMount}
 
 -- the text of a fault
-abbrev pub fault_text : Fault → List ℕ
+abbrev pub fault_text : ProgramFault → List ℕ
 fault_text CannotRead = codes "cannot read"
 fault_text TooLong = codes "too long"
 fault_text NoEvents = codes "no events"
@@ -28,5 +28,5 @@ fault_text NoDevice = codes "no device"
 fault_text CannotMount = codes "cannot mount"
 
 -- the line of a fault: `fault: TEXT`
-abbrev pub fault_line : Fault → List ℕ
+abbrev pub fault_line : ProgramFault → List ℕ
 fault_line fault = codes "fault: " ++ fault_text fault ++ 10 ∷ []

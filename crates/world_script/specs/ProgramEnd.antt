@@ -10,11 +10,11 @@ use Rattle.std.specs.declared.io.Error.{Error as IoError}
 use Rattle.clap.specs.Words.{IsAmong, Kinds, Row, Text}
 use Rattle.clap.specs.declared.error.kind.ErrorKind.{ErrorKind}
 use Rattle.clap.specs.declared.error.kind.ErrorKind.TheVariants as kind
-use Rattle.command_line.specs.Asked.{IsErrand}
+use Rattle.command_line.specs.Asked.{IsServer}
 use Rattle.command_line.specs.declared.asked.Asked.{Asked}
 use Rattle.command_line.specs.declared.asked.Asked.TheVariants.{World, Serve}
-use Rattle.command_line.specs.declared.errand.Errand.{Errand}
-use Rattle.command_line.specs.CommandLine.{command_of, is_errand, limit_named, script_named, standard_input, wrong_of}
+use Rattle.command_line.specs.declared.server_command.ServerCommand.{ServerCommand}
+use Rattle.command_line.specs.CommandLine.{command_of, is_server, limit_named, script_named, standard_input, wrong_of}
 use Rattle.world_script.specs.FaultText.{fault_line}
 use Rattle.world_script.specs.Refusal.{IsRunRefusal, comes_first, is_caused}
 use Rattle.world_script.specs.Script.{Runs}
@@ -23,8 +23,8 @@ use Rattle.world_script.specs.declared.program_end.ProgramEnd.{ProgramEnd}
 use Rattle.world_script.specs.declared.program_end.ProgramEnd.TheVariants.{Ran, Told, Untold, Shown, Refused}
 use Rattle.world_script.specs.declared.failure.Cause.{Cause}
 use Rattle.world_script.specs.declared.failure.Failure.{Failure}
-use Rattle.world_script.specs.declared.fault.Fault.{Fault}
-use Rattle.world_script.specs.declared.fault.Fault.TheVariants.{CannotWrite, NoMemory}
+use Rattle.world_script.specs.declared.program_fault.ProgramFault.{ProgramFault}
+use Rattle.world_script.specs.declared.program_fault.ProgramFault.TheVariants.{CannotWrite, NoMemory}
 
 -- the exit status of an ending
 abbrev pub status_of : ProgramEnd → ℕ
@@ -35,7 +35,7 @@ status_of (Shown text) = 0
 status_of (Refused text) = 2
 
 -- the failure of a fault that no error of the system caused
-abbrev pub plain : Fault → Failure
+abbrev pub plain : ProgramFault → Failure
 plain fault = record { fault = fault; cause = None }
 
 -- the name of the file or stream whose error caused the failure, if an error did
@@ -44,21 +44,21 @@ name_of failure = option_map (λ cause. cause.name.now) failure.cause
 
 -- the name of the file or stream whose error causes this fault: that to which lines are written if they can't be, else
 -- that from which the script at this path is read
-abbrev pub name_with : List ℕ → Fault → List ℕ
+abbrev pub name_with : List ℕ → ProgramFault → List ℕ
 name_with path CannotWrite = codes "standard output"
 name_with path _ = stream_at path
 
 -- the name of the file or stream whose error causes this fault, if an error does
-abbrev pub name_by : List ℕ → Fault → Option (List ℕ)
+abbrev pub name_by : List ℕ → ProgramFault → Option (List ℕ)
 name_by path fault = if is_caused fault then Some (name_with path fault) else None
 
 -- the name of the file or stream whose error caused a fault that could not be told; none if that is standard output,
 -- whose error is told by itself
-abbrev pub name_beside : List ℕ → Fault → Option (List ℕ)
+abbrev pub name_beside : List ℕ → ProgramFault → Option (List ℕ)
 name_beside path CannotWrite = None
 name_beside path fault = name_by path fault
 
-abbrev pub untold_by : Fault → Option Cause → Failure → IoError → ProgramEnd
+abbrev pub untold_by : ProgramFault → Option Cause → Failure → IoError → ProgramEnd
 untold_by CannotWrite (Some first) failure error = Untold (plain CannotWrite) first.error
 untold_by fault cause failure error = Untold failure error
 
@@ -105,7 +105,7 @@ Answers kind before after (Shown text) = IsWish kind × Appends before after (st
 Answers kind before after (Refused text) = IsMistake kind × Keeps before after
 
 -- if words name a script, the fault is one of that script; else memory was refused or output could not be written
-abbrev pub IsFault : Kinds → Option (List ℕ) → Fault → Type 0
+abbrev pub IsFault : Kinds → Option (List ℕ) → ProgramFault → Type 0
 IsFault [] known fault = OfRead known (λ script. IsRunRefusal script fault)
 IsFault (wrong ∷ more) known fault = (fault ≡ NoMemory) ⊎ (fault ≡ CannotWrite)
 
@@ -153,62 +153,62 @@ abbrev pub limit_had : Had → ℕ
 limit_had (Ok words) = limit_named words
 limit_had (Err _) = 1024
 
--- how an errand may end: by the errand, by its result, and by what the writer holds before and after it
-abbrev pub ErrandEnds : Type 1
-ErrandEnds = Errand → Result (Unit {0}) Failure → Option (List ℕ) → Option (List ℕ) → Type 0
+-- how a server command may end: by the command, by its result, and by what the writer holds before and after it
+abbrev pub CommandEnds : Type 1
+CommandEnds = ServerCommand → Result (Unit {0}) Failure → Option (List ℕ) → Option (List ℕ) → Type 0
 
--- What is known of errands: how one may end, and what holds if none is run.
-pub record ErrandsKnown : Type 1 where
-  pub ends : ErrandEnds
-  -- what holds if no errand is run
+-- What is known of server commands: how one may end, and what holds if none is run.
+pub record HandlerKnown : Type 1 where
+  pub ends : CommandEnds
+  -- what holds if no server command is run
   pub idle : Type 0
 
--- what is known of errands, by the runner before and after
-abbrev pub known_of : {D : Type 0} → (D → D → ErrandEnds) → D → D → ErrandsKnown
+-- what is known of server commands, by the runner before and after
+abbrev pub known_of : {D : Type 0} → (D → D → CommandEnds) → D → D → HandlerKnown
 known_of ends old new = record { ends = ends old new; idle = new ≡ old }
 
--- how the program ends after an errand: a fault is told, and without a fault the last write may fail
+-- how the program ends after a server command: a fault is told, and without a fault the last write may fail
 abbrev pub EndsAfter : Result (Unit {0}) Failure → Option (List ℕ) → Option (List ℕ) → ProgramEnd → Type 0
 EndsAfter (Ok done) before after Ran = Keeps before after
 EndsAfter (Ok done) before after (Untold failure error) = failure ≡ plain CannotWrite
 EndsAfter (Ok done) before after ending = ⊥
 EndsAfter (Err failure) before after ending = Tells failure before after ending
 
--- The errand was run, and its result determines how the program ended.
-pub record RunsErrand (errand : Errand) (errands : ErrandsKnown) (before after : Option (List ℕ))
+-- The server command was run, and its result determines how the program ended.
+pub record RunsCommand (server : ServerCommand) (handler : HandlerKnown) (before after : Option (List ℕ))
     (ending : ProgramEnd) : Type 0 where
   pub result : Result (Unit {0}) Failure
   pub begun : Option (List ℕ)
   pub ended : Option (List ℕ)
-  -- nothing was written before the errand
+  -- nothing was written before the server command
   pub first : Keeps before begun
-  pub ran : errands.ends errand result begun ended
+  pub ran : handler.ends server result begun ended
   pub ends : EndsAfter result ended after ending
 
--- how the program ends if this is asked for: the script is run, or the errand is run
+-- how the program ends if this is asked for: the script is run, or the server command is run
 abbrev pub EndsAsked :
-    Asked → Option (List ℕ) → (List ℕ → Option (List ℕ)) → ErrandsKnown →
+    Asked → Option (List ℕ) → (List ℕ → Option (List ℕ)) → HandlerKnown →
     Option (List ℕ) → Option (List ℕ) → ProgramEnd → Type 0
-EndsAsked (World world) input file errands before after ending =
-    Ends [] world.script.now (script_at input file world.script.now) world.limit before after ending × errands.idle
-EndsAsked (Serve errand) input file errands before after ending = RunsErrand errand errands before after ending
+EndsAsked (World world) input file handler before after ending =
+    Ends [] world.script.now (script_at input file world.script.now) world.limit before after ending × handler.idle
+EndsAsked (Serve server) input file handler before after ending = RunsCommand server handler before after ending
 
--- the errand that the command asks for was run
-pub record RunsNamed (command : Option (Text × List Row)) (errands : ErrandsKnown)
+-- the server command that the words name was run
+pub record RunsNamed (command : Option (Text × List Row)) (handler : HandlerKnown)
     (before after : Option (List ℕ)) (ending : ProgramEnd) : Type 0 where
-  pub errand : Errand
-  pub named : IsErrand command errand
-  pub runs : RunsErrand errand errands before after ending
+  pub server : ServerCommand
+  pub named : IsServer command server
+  pub runs : RunsCommand server handler before after ending
 
 -- whether nothing is wrong with the words
 abbrev pub is_right : Kinds → Bool
 is_right [] = true
 is_right (wrong ∷ more) = false
 
--- whether nothing is wrong with the words, and they ask for an errand
-abbrev pub asks_errand : Had → Bool
-asks_errand (Ok words) = is_right (wrong_of words) && is_errand (command_of words)
-asks_errand (Err _) = false
+-- whether nothing is wrong with the words, and they ask for a server command
+abbrev pub asks_server : Had → Bool
+asks_server (Ok words) = is_right (wrong_of words) && is_server (command_of words)
+asks_server (Err _) = false
 
 -- the command of the words, if the program got words
 abbrev pub command_had : Had → Option (Text × List Row)
@@ -216,17 +216,17 @@ command_had (Ok words) = command_of words
 command_had (Err _) = None
 
 -- how the program ends, by its words, by what is known of the bytes of standard input and of files, and by what is
--- known of errands
-pub record EndsBy (had : Had) (input : Option (List ℕ)) (file : List ℕ → Option (List ℕ)) (errands : ErrandsKnown)
+-- known of server commands
+pub record EndsBy (had : Had) (input : Option (List ℕ)) (file : List ℕ → Option (List ℕ)) (handler : HandlerKnown)
     (before after : Option (List ℕ)) (ending : ProgramEnd) : Type 0 where
-  pub script : asks_errand had ≡ false →
+  pub script : asks_server had ≡ false →
       Ends (wrong_had had) (path_had had) (script_at input file (path_had had)) (limit_had had) before after ending
-  -- if the words ask for no errand, none is run
-  pub idle : asks_errand had ≡ false → errands.idle
-  -- the errand that the words ask for is run, or memory to read the words is refused
-  pub errand : asks_errand had ≡ true →
-      RunsNamed (command_had had) errands before after ending
-      ⊎ (Tells (plain NoMemory) before after ending × errands.idle)
+  -- if the words ask for no server command, none is run
+  pub idle : asks_server had ≡ false → handler.idle
+  -- the server command that the words ask for is run, or memory to read the words is refused
+  pub server : asks_server had ≡ true →
+      RunsNamed (command_had had) handler before after ending
+      ⊎ (Tells (plain NoMemory) before after ending × handler.idle)
 
 -- what was gathered is written, or the ending says that it could not be
 abbrev pub Finishes : ProgramEnd → Option (List ℕ) → Option (List ℕ) → ProgramEnd → Type 0

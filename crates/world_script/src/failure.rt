@@ -5,7 +5,7 @@ ghost use Rattle.world_script.specs.ProgramEnd.{Complains, name_by, name_of, nam
 
 use crate::complaint::complain;
 use crate::sources::stream_at;
-use crate::{Fault, ProgramEnd, RunError};
+use crate::{ProgramEnd, ProgramFault, RunError};
 use std::io::{self, Write};
 
 /// The name that standard output has on standard error.
@@ -22,13 +22,13 @@ pub struct Cause<'a> {
 /// A fault, and the system's error that caused it, if there is one.
 #[derive(Clone, Copy)]
 pub struct Failure<'a> {
-    pub fault: Fault,
+    pub fault: ProgramFault,
     pub cause: Option<Cause<'a>>,
 }
 
 impl<'a> Failure<'a> {
     /// Returns the failure of `fault`, which no error of the system caused.
-    pub fn plain(fault: Fault) -> Failure<'a>
+    pub fn plain(fault: ProgramFault) -> Failure<'a>
         ensures { result ≡ plain fault }
     {
         Failure { fault, cause: None }
@@ -57,8 +57,8 @@ impl<'a> Failure<'a> {
         ensures { result ≡ untold self.entry error }
     {
         match (self.fault, self.cause) {
-            (Fault::CannotWrite, Some(first)) => {
-                ProgramEnd::Untold(Failure::plain(Fault::CannotWrite), first.error)
+            (ProgramFault::CannotWrite, Some(first)) => {
+                ProgramEnd::Untold(Failure::plain(ProgramFault::CannotWrite), first.error)
             }
             _ => ProgramEnd::Untold(self, error),
         }
@@ -77,11 +77,11 @@ impl<'a> Failure<'a> {
 }
 
 /// Returns the name of the file or stream whose error caused `fault`, in a run of the script at `path`.
-fn name_with(fault: Fault, path: &str) -> &str
+fn name_with(fault: ProgramFault, path: &str) -> &str
     ensures { result.now ≡ name_with path.now fault }
 {
     match fault {
-        Fault::CannotWrite => STANDARD_OUTPUT,
+        ProgramFault::CannotWrite => STANDARD_OUTPUT,
         _ => stream_at(path),
     }
 }

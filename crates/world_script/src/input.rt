@@ -5,7 +5,7 @@ ghost use Rattle.world_script.specs.Input.{Reads};
 ghost use Rattle.manifest.specs.ManifestText.{manifest_of};
 ghost use Rattle.world_script.specs.Refusal.{IsCaused, IsManifestFault, IsReadRefusal};
 
-use crate::{Fault, RunError};
+use crate::{ProgramFault, RunError};
 use manifest::Manifest;
 use std::alloc::Global;
 use std::io::{self, ErrorKind, Read};
@@ -25,7 +25,7 @@ pub fn read_whole<R: Read>(alloc: Global, reader: &mut R) -> Result<Vec<u8>, Run
         IfSome (R.remaining reader.old) (λ all. bytes.items ≡ all)) }
     ensures refused { IfErr result (λ error. IsReadRefusal error.fault) }
     ensures caused { IfErr result IsCaused }
-    ensures too_long { IfErr result (λ error. error.fault ≡ Fault.TooLong
+    ensures too_long { IfErr result (λ error. error.fault ≡ ProgramFault.TooLong
         → IfSome (R.remaining reader.old) (λ all. MAX_LEN < length all)) }
 {
     let mut bytes = Vec::new(alloc);
@@ -36,7 +36,7 @@ pub fn read_whole<R: Read>(alloc: Global, reader: &mut R) -> Result<Vec<u8>, Run
         }
     }
     let cause = io::Error::other("its end was not seen in 2097152 reads");
-    Err(RunError::with_cause(Fault::CannotRead, cause))
+    Err(RunError::with_cause(ProgramFault::CannotRead, cause))
 }
 
 /// Makes one read into `bytes`, and returns whether the end was reached.
@@ -53,25 +53,25 @@ fn read_once<R: Read>(
     ensures end { IfOk result (λ is_last. is_last ≡ true → IsAtEnd (R.remaining reader.new)) }
     ensures refused { IfErr result (λ error. IsReadRefusal error.fault) }
     ensures caused { IfErr result IsCaused }
-    ensures too_long { IfErr result (λ error. error.fault ≡ Fault.TooLong
+    ensures too_long { IfErr result (λ error. error.fault ≡ ProgramFault.TooLong
         → IfSome (R.remaining reader.old) (λ rest. MAX_LEN < length (bytes.old.items ++ rest))) }
 {
     match reader.read(chunk) {
         Ok(0) => Ok(true),
         Ok(n) => {
             if n > MAX_LEN - bytes.len() {
-                return Err(RunError::from(Fault::TooLong));
+                return Err(RunError::from(ProgramFault::TooLong));
             }
             bytes.extend_from_slice(&chunk[..n])?;
             Ok(false)
         }
         Err(error) if error.kind() == ErrorKind::Interrupted => Ok(false),
-        Err(error) => Err(RunError::with_cause(Fault::CannotRead, error)),
+        Err(error) => Err(RunError::with_cause(ProgramFault::CannotRead, error)),
     }
 }
 
 /// Reads the manifest that `bytes` write.
-pub fn read_manifest(alloc: Global, bytes: &[u8]) -> Result<Manifest, Fault>
+pub fn read_manifest(alloc: Global, bytes: &[u8]) -> Result<Manifest, ProgramFault>
     ensures manifest { IfOk result (λ manifest. manifest_of bytes.now ≡ Ok manifest) }
     ensures refused { IfErr result (IsManifestFault bytes.now) }
 {

@@ -2,27 +2,29 @@
 //! which does what the words of the command line ask for.
 #![tactic(auto)]
 
+mod command_handler;
 mod complaint;
-mod errands;
 mod failure;
-mod fault;
 mod input;
 mod process;
 mod program;
 mod program_end;
+mod program_fault;
 mod run;
 mod run_error;
 mod script;
 mod sources;
 
-pub use command_line::{BrokerWords, DEFAULT_LIMIT, DaemonWords, Errand, MountWords, Owner, Start};
-pub use errands::Errands;
+pub use command_handler::CommandHandler;
+pub use command_line::{
+    BrokerWords, DEFAULT_LIMIT, DaemonWords, MountWords, Owner, ServerCommand, StartMode,
+};
 pub use failure::{Cause, Failure, STANDARD_OUTPUT};
-pub use fault::{Fault, write_fault};
 pub use input::read_manifest;
-pub use process::{Process, RunIn, end_errand, end_ungathered, gather_lines, run_process};
+pub use process::{Process, RunIn, end_command, end_ungathered, gather_lines, run_process};
 pub use program::{run_program, run_words};
 pub use program_end::ProgramEnd;
+pub use program_fault::{ProgramFault, write_fault};
 pub use run::{run_script, run_world};
 pub use run_error::RunError;
 pub use sources::{Sources, System, read_path, run_path};

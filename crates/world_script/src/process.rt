@@ -2,12 +2,12 @@
 ghost use Rattle.std.specs.Prelude.{Err, None, IfErr, IfOk, IfSome, List, OnOk, Option, ℕ, map, string_bytes, ◌≡◌};
 ghost use Rattle.std.specs.Io.Buffered.{writer_contents};
 ghost use Rattle.std.specs.Io.KnownBytes.{Keeps};
-ghost use Rattle.world_script.specs.declared.fault.Fault.TheVariants.{NoMemory};
+ghost use Rattle.world_script.specs.declared.program_fault.ProgramFault.TheVariants.{NoMemory};
 ghost use Rattle.world_script.specs.ProgramEnd.{Says, Tells, known_of, plain, status_of};
-ghost use Rattle.world_script.specs.Process.{EndsErrand, RunsIn};
+ghost use Rattle.world_script.specs.Process.{EndsCommand, RunsIn};
 
 use crate::program::{end_after, finish, tell};
-use crate::{Errands, Failure, Fault, ProgramEnd, Sources, System, run_program};
+use crate::{CommandHandler, Failure, ProgramEnd, ProgramFault, Sources, System, run_program};
 use std::alloc::Global;
 use std::env;
 use std::io::{self, BufWriter, Write};
@@ -82,16 +82,16 @@ pub struct RunIn<W, E> {
     pub said: io::Result<()>,
 }
 
-/// Runs the program in a process. If the words ask for a broker or a daemon, `errands` runs it. The status is the same
+/// Runs the program in a process. If the words ask for a broker or a daemon, `handler` runs it. The status is the same
 /// if standard error cannot be written.
-pub fn run_process<P: Process, D: Errands>(
+pub fn run_process<P: Process, D: CommandHandler>(
     alloc: Global,
     process: &P,
-    errands: &mut D,
+    handler: &mut D,
 ) -> RunIn<P::Output, P::Errors>
     ensures runs { RunsIn (P.known_words process.now)
         (P.input_bytes process.now) (P.file_bytes process.now)
-        (known_of D.ends errands.old errands.new)
+        (known_of D.ends handler.old handler.new)
         (P.output_bytes process.now) (P.Output.contents result.output)
         (P.errors_bytes process.now) (P.Errors.contents result.errors)
         result.status result.said }
@@ -101,7 +101,7 @@ pub fn run_process<P: Process, D: Errands>(
         Ok(lines) => lines,
         Err(ended) => return ended,
     };
-    let (output, ending) = run_program(alloc, &words, process, errands, lines);
+    let (output, ending) = run_program(alloc, &words, process, handler, lines);
     leave(output, process.errors(), ending)
 }
 
@@ -113,7 +113,7 @@ pub fn gather_lines<P: Process>(
 ) -> Result<BufWriter<P::Output>, RunIn<P::Output, P::Errors>>
     ensures gathers { IfOk result (λ lines.
         Keeps (P.output_bytes process.now) (writer_contents P.Output.contents lines)) }
-    ensures no_memory { IfErr result (λ ended. EndsErrand (Err (plain NoMemory))
+    ensures no_memory { IfErr result (λ ended. EndsCommand (Err (plain NoMemory))
         (P.output_bytes process.now) (P.Output.contents ended.output)
         (P.errors_bytes process.now) (P.Errors.contents ended.errors)
         ended.status ended.said) }
@@ -127,14 +127,14 @@ pub fn gather_lines<P: Process>(
     }
 }
 
-/// Ends a process whose errand had the result `ran`. Writes what `lines` gathered, and tells on `errors` the system's
-/// error that caused a fault.
-pub fn end_errand<W: Write + Drop, E: Write>(
+/// Ends a process whose server command had the result `ran`. Writes what `lines` gathered, and tells on `errors` the
+/// system's error that caused a fault.
+pub fn end_command<W: Write + Drop, E: Write>(
     ran: Result<(), Failure<'_>>,
     mut lines: BufWriter<W>,
     errors: E,
 ) -> RunIn<W, E>
-    ensures ends { EndsErrand ran.entry
+    ensures ends { EndsCommand ran.entry
         (writer_contents W.contents lines) (W.contents result.output)
         (E.contents errors) (E.contents result.errors)
         result.status result.said }
@@ -144,14 +144,14 @@ pub fn end_errand<W: Write + Drop, E: Write>(
     leave(output, errors, ending)
 }
 
-/// Ends a process whose errand had the result `ran`, where no line was gathered. Tells on `errors` the system's error
-/// that caused a fault.
+/// Ends a process whose server command had the result `ran`, where no line was gathered. Tells on `errors` the system's
+/// error that caused a fault.
 pub fn end_ungathered<W: Write, E: Write>(
     ran: Result<(), Failure<'_>>,
     mut output: W,
     errors: E,
 ) -> RunIn<W, E>
-    ensures ends { EndsErrand ran.entry
+    ensures ends { EndsCommand ran.entry
         (W.contents output) (W.contents result.output)
         (E.contents errors) (E.contents result.errors)
         result.status result.said }
@@ -164,7 +164,7 @@ pub fn end_ungathered<W: Write, E: Write>(
 fn tell_no_memory<W: Write>(mut output: W) -> (W, ProgramEnd<'static>)
     ensures { Tells (plain NoMemory) (W.contents output) (W.contents result.0) result.1 }
 {
-    let ending = tell(Failure::plain(Fault::NoMemory), &mut output);
+    let ending = tell(Failure::plain(ProgramFault::NoMemory), &mut output);
     (output, ending)
 }
 

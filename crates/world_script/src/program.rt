@@ -1,91 +1,91 @@
-//! The program, over any words, sources of scripts, errands and standard output.
+//! The program, over any words, sources of scripts, server commands and standard output.
 ghost use Rattle.std.specs.Prelude.{Err, Ok, [], map, string_bytes};
 ghost use Rattle.std.specs.Io.Buffered.{writer_contents};
 ghost use Rattle.std.specs.IoError.{error_kind};
 ghost use Rattle.clap.specs.Words.{kind_of};
-ghost use Rattle.world_script.specs.ProgramEnd.{Answers, Ends, EndsAfter, EndsAsked, EndsBy, Finishes, RunsErrand, Shows, Tells, known_of, words_had, wrong_had};
+ghost use Rattle.world_script.specs.ProgramEnd.{Answers, Ends, EndsAfter, EndsAsked, EndsBy, Finishes, RunsCommand, Shows, Tells, known_of, words_had, wrong_had};
 ghost use Rattle.world_script.specs.Source.{script_at};
 
-use crate::{Errands, Failure, Fault, ProgramEnd, Sources, run_path, write_fault};
+use crate::{CommandHandler, Failure, ProgramEnd, ProgramFault, Sources, run_path, write_fault};
 use clap::Error;
 use clap::error::ErrorKind;
-use command_line::{Asked, Errand, asked_of, not_text};
+use command_line::{Asked, ServerCommand, asked_of, not_text};
 use std::alloc::Global;
 use std::io::{self, BufWriter, Write};
 
 /// Does what `words` ask for, and writes out all that `lines` gathered. Words that the system could not give as text
 /// are refused.
-pub fn run_program<'a, S: Sources, D: Errands, W: Write + Drop>(
+pub fn run_program<'a, S: Sources, D: CommandHandler, W: Write + Drop>(
     alloc: Global,
     words: &'a io::Result<Vec<String>>,
     sources: &S,
-    errands: &mut D,
+    handler: &mut D,
     mut lines: BufWriter<W>,
 ) -> (W, ProgramEnd<'a>)
     ensures ends { EndsBy (words_had words.now)
         (S.input_bytes sources.now) (S.file_bytes sources.now)
-        (known_of D.ends errands.old errands.new)
+        (known_of D.ends handler.old handler.new)
         (writer_contents W.contents lines) (W.contents result.0) result.1 }
 {
-    let ending = run_had(alloc, words, sources, errands, &mut lines);
+    let ending = run_had(alloc, words, sources, handler, &mut lines);
     finish(lines, ending)
 }
 
 /// Does what `words` ask for, and refuses words that are no text.
-fn run_had<'a, S: Sources, D: Errands, W: Write>(
+fn run_had<'a, S: Sources, D: CommandHandler, W: Write>(
     alloc: Global,
     words: &'a io::Result<Vec<String>>,
     sources: &S,
-    errands: &mut D,
+    handler: &mut D,
     out: &mut W,
 ) -> ProgramEnd<'a>
     ensures { EndsBy (words_had words.now)
         (S.input_bytes sources.now) (S.file_bytes sources.now)
-        (known_of D.ends errands.old errands.new)
+        (known_of D.ends handler.old handler.new)
         (W.contents out.old) (W.contents out.new) result }
 {
     match words {
-        Ok(words) => run_words(alloc, words.as_slice(), sources, errands, out),
+        Ok(words) => run_words(alloc, words.as_slice(), sources, handler, out),
         Err(error) => refuse_words(alloc, error, out),
     }
 }
 
 /// Does what `words` ask for; the first word is the program's name. What is printed goes to `out`. The result has what
 /// is to be said on standard error.
-pub fn run_words<'a, S: Sources, D: Errands, W: Write>(
+pub fn run_words<'a, S: Sources, D: CommandHandler, W: Write>(
     alloc: Global,
     words: &'a [String],
     sources: &S,
-    errands: &mut D,
+    handler: &mut D,
     out: &mut W,
 ) -> ProgramEnd<'a>
     ensures ends { EndsBy (Ok (map string_bytes words.now))
         (S.input_bytes sources.now) (S.file_bytes sources.now)
-        (known_of D.ends errands.old errands.new)
+        (known_of D.ends handler.old handler.new)
         (W.contents out.old) (W.contents out.new) result }
 {
     match asked_of(alloc, words) {
-        Ok(asked) => run_asked(alloc, sources, errands, &asked, out),
+        Ok(asked) => run_asked(alloc, sources, handler, &asked, out),
         Err(error) => answer(alloc, &error, out),
     }
 }
 
-/// Runs the script or the errand that is asked for.
-fn run_asked<'a, S: Sources, D: Errands, W: Write>(
+/// Runs the script or the server command that is asked for.
+fn run_asked<'a, S: Sources, D: CommandHandler, W: Write>(
     alloc: Global,
     sources: &S,
-    errands: &mut D,
+    handler: &mut D,
     asked: &Asked<'a>,
     out: &mut W,
 ) -> ProgramEnd<'a>
     ensures { EndsAsked asked.now
         (S.input_bytes sources.now) (S.file_bytes sources.now)
-        (known_of D.ends errands.old errands.new)
+        (known_of D.ends handler.old handler.new)
         (W.contents out.old) (W.contents out.new) result }
 {
     match asked {
         Asked::World(words) => run_named(alloc, sources, words.script, words.limit, out),
-        Asked::Serve(errand) => run_errand(alloc, sources, errands, errand, out),
+        Asked::Serve(command) => run_command(alloc, sources, handler, command, out),
     }
 }
 
@@ -107,22 +107,22 @@ fn run_named<'a, S: Sources, W: Write>(
     }
 }
 
-/// Runs `errand`, and returns how the program ends after it.
-fn run_errand<'a, S: Sources, D: Errands, W: Write>(
+/// Runs `command`, and returns how the program ends after it.
+fn run_command<'a, S: Sources, D: CommandHandler, W: Write>(
     alloc: Global,
     sources: &S,
-    errands: &mut D,
-    errand: &Errand<'a>,
+    handler: &mut D,
+    command: &ServerCommand<'a>,
     out: &mut W,
 ) -> ProgramEnd<'a>
-    ensures { RunsErrand errand.now (known_of D.ends errands.old errands.new)
+    ensures { RunsCommand command.now (known_of D.ends handler.old handler.new)
         (W.contents out.old) (W.contents out.new) result }
 {
-    let ran = errands.run(alloc, sources, errand, out);
+    let ran = handler.run(alloc, sources, command, out);
     end_after(ran, out)
 }
 
-/// Returns how the program ends after an errand with the result `ran`. A fault is told on `out`.
+/// Returns how the program ends after a server command with the result `ran`. A fault is told on `out`.
 pub fn end_after<'a, W: Write>(ran: Result<(), Failure<'a>>, out: &mut W) -> ProgramEnd<'a>
     ensures ends { EndsAfter ran.entry (W.contents out.old) (W.contents out.new) result }
 {
@@ -142,15 +142,15 @@ pub fn tell<'a, W: Write>(failure: Failure<'a>, out: &mut W) -> ProgramEnd<'a>
     }
 }
 
-/// Answers words that ask for no script and no errand: with the help, with the version, or with what is wrong.
+/// Answers words that ask for no script and no server command: with the help, with the version, or with what is wrong.
 fn answer<'a, W: Write>(alloc: Global, error: &Error, out: &mut W) -> ProgramEnd<'a>
     ensures { Answers (kind_of error.now) (W.contents out.old) (W.contents out.new) result }
 {
     if error.kind() == ErrorKind::OutOfMemory {
-        return tell(Failure::plain(Fault::NoMemory), out);
+        return tell(Failure::plain(ProgramFault::NoMemory), out);
     }
     let Ok(text) = format!(in alloc; "{error}") else {
-        return tell(Failure::plain(Fault::NoMemory), out);
+        return tell(Failure::plain(ProgramFault::NoMemory), out);
     };
     match error.kind() {
         ErrorKind::DisplayHelp | ErrorKind::DisplayVersion => show(text, out),
@@ -164,7 +164,7 @@ fn show<'a, W: Write>(text: String, out: &mut W) -> ProgramEnd<'a>
 {
     match out.write_all(text.as_bytes()) {
         Ok(()) => ProgramEnd::Shown(text),
-        Err(error) => ProgramEnd::Untold(Failure::plain(Fault::CannotWrite), error),
+        Err(error) => ProgramEnd::Untold(Failure::plain(ProgramFault::CannotWrite), error),
     }
 }
 
@@ -174,11 +174,11 @@ fn refuse_words<'a, W: Write>(alloc: Global, error: &io::Error, out: &mut W) -> 
         path known limit (W.contents out.old) (W.contents out.new) result }
 {
     if error.kind() == io::ErrorKind::OutOfMemory {
-        return tell(Failure::plain(Fault::NoMemory), out);
+        return tell(Failure::plain(ProgramFault::NoMemory), out);
     }
     match not_text(alloc) {
         Ok(refusal) => answer(alloc, &refusal, out),
-        Err(_) => tell(Failure::plain(Fault::NoMemory), out),
+        Err(_) => tell(Failure::plain(ProgramFault::NoMemory), out),
     }
 }
 

@@ -4,13 +4,13 @@ ghost use Rattle.world_script.specs.ProgramEnd.{Says, status_of, unwritten};
 
 use crate::complaint::complain;
 use crate::failure::STANDARD_OUTPUT;
-use crate::{Failure, Fault};
+use crate::{Failure, ProgramFault};
 use std::io::{self, Write};
 
 /// How a run of the program ends, with what standard error is to get.
 #[derive(Drop)]
 pub enum ProgramEnd<'a> {
-    /// A script was run, and each event's lines were written; or an errand was run.
+    /// A script was run, and each event's lines were written; or a server command was run.
     Ran,
     /// A fault ended the program, and its line was written.
     Told(Failure<'a>),
@@ -23,8 +23,8 @@ pub enum ProgramEnd<'a> {
 }
 
 impl<'a> ProgramEnd<'a> {
-    /// Returns the exit status: 0 after a script, an errand, the help or the version, 1 after a fault, 2 for refused
-    /// words.
+    /// Returns the exit status: 0 after a script, a server command, the help or the version, 1 after a fault, 2 for
+    /// refused words.
     pub fn status(&self) -> u8
         ensures { result ≡ status_of self.now }
     {
@@ -42,9 +42,9 @@ impl<'a> ProgramEnd<'a> {
         match self {
             ProgramEnd::Told(failure) => failure.untold(error),
             ProgramEnd::Untold(failure, first) => ProgramEnd::Untold(failure, first),
-            ProgramEnd::Ran => Failure::plain(Fault::CannotWrite).untold(error),
-            ProgramEnd::Shown(_text) => Failure::plain(Fault::CannotWrite).untold(error),
-            ProgramEnd::Refused(_text) => Failure::plain(Fault::CannotWrite).untold(error),
+            ProgramEnd::Ran => Failure::plain(ProgramFault::CannotWrite).untold(error),
+            ProgramEnd::Shown(_text) => Failure::plain(ProgramFault::CannotWrite).untold(error),
+            ProgramEnd::Refused(_text) => Failure::plain(ProgramFault::CannotWrite).untold(error),
         }
     }
 

@@ -7,7 +7,7 @@ ghost use Rattle.world_script.specs.Source.{OfRead};
 
 use crate::input::read_whole;
 use crate::script::Script;
-use crate::{Fault, RunError};
+use crate::{ProgramFault, RunError};
 use script_lines::print_event;
 use std::alloc::Global;
 use std::io::{self, Read, Write};
@@ -23,7 +23,7 @@ pub fn run_world<R: Read, W: Write>(
     reader: &mut R,
     limit: usize,
     writer: &mut W,
-) -> Result<(), Fault>
+) -> Result<(), ProgramFault>
     ensures runs { OnOk result (OfRead (R.remaining reader.old) (λ script.
         Runs script limit (W.contents writer.old) (W.contents writer.new))) }
     ensures refused { IfErr result (λ fault.
@@ -62,7 +62,7 @@ pub fn run_script<R: Read, W: Write>(
     drop(script);
     match played {
         Ok(()) => Ok(()),
-        Err(error) => Err(RunError::with_cause(Fault::CannotWrite, error)),
+        Err(error) => Err(RunError::with_cause(ProgramFault::CannotWrite, error)),
     }
 }
 

@@ -1,8 +1,8 @@
 //! A fault, and the system's error that caused it.
 ghost use Rattle.std.specs.Prelude.{◌≡◌, None, Some};
-ghost use Rattle.world_script.specs.declared.fault.Fault.TheVariants.{NoMemory as OutOfMemory};
+ghost use Rattle.world_script.specs.declared.program_fault.ProgramFault.TheVariants.{NoMemory as OutOfMemory};
 
-use crate::Fault;
+use crate::ProgramFault;
 use eden_base::NoMemory;
 use std::alloc::AllocError;
 use std::io;
@@ -11,13 +11,13 @@ use std::io;
 /// is one.
 #[derive(Drop)]
 pub struct RunError {
-    pub fault: Fault,
+    pub fault: ProgramFault,
     pub cause: Option<io::Error>,
 }
 
 impl RunError {
     /// Returns `fault`, caused by the system's error `cause`.
-    pub fn with_cause(fault: Fault, cause: io::Error) -> RunError
+    pub fn with_cause(fault: ProgramFault, cause: io::Error) -> RunError
         ensures fault { result.fault ≡ fault }
         ensures cause { result.cause ≡ Some cause }
     {
@@ -28,10 +28,10 @@ impl RunError {
     }
 }
 
-impl From<Fault> for RunError {
+impl From<ProgramFault> for RunError {
     ghost from_gives = { λ fault error. (error.fault ≡ fault) × (error.cause ≡ None) };
 
-    fn from(fault: Fault) -> RunError {
+    fn from(fault: ProgramFault) -> RunError {
         RunError { fault, cause: None }
     }
 }
@@ -40,7 +40,7 @@ impl From<NoMemory> for RunError {
     ghost from_gives = { λ _ error. (error.fault ≡ OutOfMemory) × (error.cause ≡ None) };
 
     fn from(_refused: NoMemory) -> RunError {
-        RunError::from(Fault::NoMemory)
+        RunError::from(ProgramFault::NoMemory)
     }
 }
 
@@ -48,6 +48,6 @@ impl From<AllocError> for RunError {
     ghost from_gives = { λ _ error. (error.fault ≡ OutOfMemory) × (error.cause ≡ None) };
 
     fn from(_refused: AllocError) -> RunError {
-        RunError::from(Fault::NoMemory)
+        RunError::from(ProgramFault::NoMemory)
     }
 }

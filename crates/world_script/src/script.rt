@@ -6,7 +6,7 @@ ghost use Rattle.world_script.specs.Parts.{lines_behind, IsSplit, SaysEvents};
 ghost use Rattle.world_script.specs.Refusal.{IsScriptRefusal, IsEventsRefusal};
 ghost use Rattle.world_script.specs.Script.{SaysManifest};
 
-use crate::Fault;
+use crate::ProgramFault;
 use eden_base::NoMemory;
 use manifest::Manifest;
 use script_lines::{first_line, read_event};
@@ -22,13 +22,13 @@ pub struct Script {
 
 impl Script {
     /// Reads the script that `bytes` write.
-    pub fn read(alloc: Global, bytes: &[u8]) -> Result<Script, Fault>
+    pub fn read(alloc: Global, bytes: &[u8]) -> Result<Script, ProgramFault>
         ensures manifest { IfOk result (λ script. SaysManifest bytes.now (Ok script.manifest)) }
         ensures events { IfOk result (λ script. SaysEvents bytes.now script.events.items) }
         ensures refused { IfErr result (IsScriptRefusal bytes.now) }
     {
         let Some(parts) = split(bytes) else {
-            return Err(Fault::NoEvents);
+            return Err(ProgramFault::NoEvents);
         };
         let manifest = Manifest::read(alloc, parts.manifest)?;
         let events = read_events(alloc, parts.events, parts.first)?;
@@ -70,7 +70,7 @@ fn split(script: &[u8]) -> Option<Parts<'_>>
 }
 
 /// Reads the events of all lines of `text`. Its first line is line `first` of the script.
-fn read_events(alloc: Global, text: &[u8], first: usize) -> Result<Vec<Event>, Fault>
+fn read_events(alloc: Global, text: &[u8], first: usize) -> Result<Vec<Event>, ProgramFault>
     requires room { first + length text.now < 2 ^ 64 }
     ensures events { IfOk result (λ events.
         map Some events.items ≡ map event_of (lines_of text.now)) }
@@ -82,7 +82,7 @@ fn read_events(alloc: Global, text: &[u8], first: usize) -> Result<Vec<Event>, F
         let (line, after) = first_line(rest);
         match read_event(alloc, line)? {
             Some(event) => events.push(event)?,
-            None => return Err(Fault::BadLine(first + events.len())),
+            None => return Err(ProgramFault::BadLine(first + events.len())),
         }
         rest = after;
     }

@@ -6,7 +6,7 @@ ghost use Rattle.world_script.specs.Script.{Runs};
 ghost use Rattle.world_script.specs.Source.{OfRead, script_at, stream_at};
 
 use crate::input::{MAX_LEN, read_whole};
-use crate::{Fault, RunError, run_script};
+use crate::{ProgramFault, RunError, run_script};
 use std::alloc::Global;
 use std::fs;
 use std::io::{self, Read, Write};
@@ -79,7 +79,7 @@ pub fn read_path<S: Sources>(alloc: Global, sources: &S, path: &str) -> Result<V
         (λ all. bytes.items ≡ all)) }
     ensures refused { IfErr result (λ error. IsReadRefusal error.fault) }
     ensures caused { IfErr result IsCaused }
-    ensures too_long { IfErr result (λ error. error.fault ≡ Fault.TooLong → IfSome
+    ensures too_long { IfErr result (λ error. error.fault ≡ ProgramFault.TooLong → IfSome
         (script_at (S.input_bytes sources.now) (S.file_bytes sources.now) path.now)
         (λ all. MAX_LEN < length all)) }
 {
@@ -88,7 +88,7 @@ pub fn read_path<S: Sources>(alloc: Global, sources: &S, path: &str) -> Result<V
     }
     let mut file = match sources.open(path) {
         Ok(file) => file,
-        Err(error) => return Err(RunError::with_cause(Fault::CannotRead, error)),
+        Err(error) => return Err(RunError::with_cause(ProgramFault::CannotRead, error)),
     };
     read_whole(alloc, &mut file)
 }
@@ -116,6 +116,6 @@ pub fn run_path<S: Sources, W: Write>(
     }
     match sources.open(path) {
         Ok(mut file) => run_script(alloc, &mut file, limit, out),
-        Err(error) => Err(RunError::with_cause(Fault::CannotRead, error)),
+        Err(error) => Err(RunError::with_cause(ProgramFault::CannotRead, error)),
     }
 }

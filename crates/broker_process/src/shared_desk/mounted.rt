@@ -3,10 +3,10 @@ ghost use Rattle.std.specs.Prelude.{◌≡◌, ◌&&◌, is_none, if◌then◌el
 ghost use Rattle.broker_desk.specs.Progress.{LeavesForDaemons};
 ghost use Rattle.mount_wire.specs.Message.{IsForDaemons};
 ghost use Rattle.broker_process.specs.Serving.{IsHeard};
-ghost use Rattle.broker_process.specs.declared.shared_desk.mounted.Next.TheVariants.{Gone, Nothing, Over};
+ghost use Rattle.broker_process.specs.declared.shared_desk.mounted.NextWrite.TheVariants.{Gone, Nothing, Over};
 ghost use Rattle.broker_process.specs.declared.service.MountEnd.TheVariants.{Dead, Unmounted};
 
-use super::{Agreed, Granted, PAUSE, SharedDesk, State, Waiting};
+use super::{Agreed, Granted, PAUSE, SharedDesk, SharedDeskState, Waiting};
 use crate::service::MountEnd;
 use broker_core::{DeliverFault, IssueFault};
 use broker_desk::{Delivered, Progress, Response};
@@ -18,9 +18,9 @@ use std::rt::Clock;
 use std::sync::Wait;
 use std::time::{Duration, Instant};
 
-/// What the kernel is told next.
+/// The next write to the kernel: a reply, or why there is none.
 #[derive(Clone, Copy)]
-pub(crate) enum Next {
+pub(crate) enum NextWrite {
     /// A reply, with the unique of the kernel's ask.
     Reply(Reply),
     /// Nothing, but the answer to an ask that the kernel didn't make has to be taken back.
@@ -35,26 +35,27 @@ pub(crate) enum Next {
     Gone,
 }
 
-impl Next {
-    /// Returns the look that found this; one that found nothing where the kernel is to be told nothing yet.
-    fn look(self) -> Look<Next> {
+impl NextWrite {
+    /// Returns the look that found this; one that found nothing where the kernel isn't written to yet.
+    fn look(self) -> Look<NextWrite> {
         match self {
-            Next::Nothing => Look::of(None),
-            Next::NoMemory => Look::Again(Duration::from_millis(PAUSE)),
-            Next::Reply(_) | Next::Unasked(_) | Next::Over | Next::Gone => Look::Found(self),
+            NextWrite::Nothing => Look::of(None),
+            NextWrite::NoMemory => Look::Again(Duration::from_millis(PAUSE)),
+            NextWrite::Reply(_) | NextWrite::Unasked(_) | NextWrite::Over | NextWrite::Gone =>
+                Look::Found(self),
         }
     }
 }
 
-/// Returns what the kernel is told next where something was delivered.
-fn next_of(delivered: Delivered) -> Next {
+/// Returns what is written to the kernel next where something was delivered.
+fn next_of(delivered: Delivered) -> NextWrite {
     match delivered {
-        Delivered::Reply(reply) => Next::Reply(reply),
-        Delivered::Unasked(answer) => Next::Unasked(answer),
+        Delivered::Reply(reply) => NextWrite::Reply(reply),
+        Delivered::Unasked(answer) => NextWrite::Unasked(answer),
     }
 }
 
-impl State {
+impl SharedDeskState {
     /// Notes that a kernel's mount begins, and returns the generation of the daemon that has the seat. Returns none if
     /// none has it.
     fn begin_mount(&mut self) -> Option<u64> {
@@ -65,26 +66,26 @@ impl State {
         Some(seat.generation)
     }
 
-    /// Returns what the kernel is told next.
-    fn next(&mut self) -> Next {
+    /// Returns what is written to the kernel next.
+    fn next(&mut self) -> NextWrite {
         match self.kernel.deliver(&mut self.desk) {
             Ok(delivered) => next_of(delivered),
             Err(DeliverFault::Empty) => self.next_of_none(),
-            Err(DeliverFault::NoMemory) => Next::NoMemory,
+            Err(DeliverFault::NoMemory) => NextWrite::NoMemory,
         }
     }
 
-    /// Returns what the kernel is told next where no reply was posted.
-    fn next_of_none(&self) -> Next
+    /// Returns what is written to the kernel next where no reply was posted.
+    fn next_of_none(&self) -> NextWrite
         ensures next { result ≡ (if is_none self.now.desk.broker.seat
             then (if self.now.is_mounted then Gone else Over) else Nothing) }
     {
         if self.has_dead_mount() {
-            Next::Gone
+            NextWrite::Gone
         } else if self.desk.broker().seat().is_none() {
-            Next::Over
+            NextWrite::Over
         } else {
-            Next::Nothing
+            NextWrite::Nothing
         }
     }
 
@@ -159,7 +160,7 @@ impl SharedDesk {
         let now = Instant::now(rt).ok();
         let is_ask = matches!(message, KernelMessage::Asked(_));
         let mut state = self.state.lock(rt);
-        let State { desk, kernel, .. } = &mut *state;
+        let SharedDeskState { desk, kernel, .. } = &mut *state;
         let progress = kernel.hear(desk, message);
         if is_ask {
             state.asked = now;
@@ -176,8 +177,8 @@ impl SharedDesk {
         forgotten
     }
 
-    /// Waits until the kernel is to be told something, and returns it.
-    pub(crate) fn next<R: Wait + Clock>(&self, rt: &R) -> Next {
+    /// Waits until something is to be written to the kernel, and returns it.
+    pub(crate) fn next<R: Wait + Clock>(&self, rt: &R) -> NextWrite {
         self.state
             .wait_until(rt, &self.events, |state| state.next().look())
     }

@@ -32,7 +32,7 @@ pub enum Says {
 
 /// What a desk says, or makes of a frame.
 #[derive(Clone, Copy, PartialEq, Eq)]
-pub enum Told {
+pub enum DeskReaction {
     Choice(u32, u16),
     NoCommon,
     Busy,
@@ -60,11 +60,11 @@ pub enum Step {
     /// The desk offers, and the offer becomes the last frame.
     Offers(usize),
     /// The desk hears the last frame.
-    Hears(usize, Told),
+    Hears(usize, DeskReaction),
     /// The next frame of the same answer becomes the last frame.
-    Next(Told),
+    Next(DeskReaction),
     /// The desk hears this frame.
-    Sent(usize, Says, Told),
+    Sent(usize, Says, DeskReaction),
     /// The generation at which workers of the desk may take, or none.
     Serves(usize, Option<u64>),
     /// The desk lends its state to workers, or has none to lend.
@@ -77,9 +77,9 @@ pub enum Step {
     /// back.
     LooksUpEach(usize, u64),
     /// The desk says whether it is ready to hand over.
-    Readies(usize, Told),
+    Readies(usize, DeskReaction),
     /// The desk gives up.
-    GivesUp(usize, Told),
+    GivesUp(usize, DeskReaction),
     /// The desk wants to claim the seat from this generation, or wants no claim.
     Wants(usize, Option<u64>),
     /// The broker answers the desk's Claim with this frame.
@@ -121,33 +121,33 @@ fn frame_of(says: Says) -> Frame {
 }
 
 /// Returns what `frame` says.
-fn told_of(frame: &Frame) -> Told {
+fn reaction_of(frame: &Frame) -> DeskReaction {
     let Frame::Takeover(message) = frame else {
-        return Told::Other;
+        return DeskReaction::Other;
     };
     match message {
-        Message::Offer(_) => Told::Other,
-        Message::Choice { session, version } => Told::Choice(*session, *version),
-        Message::NoCommon => Told::NoCommon,
-        Message::Busy => Told::Busy,
+        Message::Offer(_) => DeskReaction::Other,
+        Message::Choice { session, version } => DeskReaction::Choice(*session, *version),
+        Message::NoCommon => DeskReaction::NoCommon,
+        Message::Busy => DeskReaction::Busy,
         Message::Ready {
             session,
             generation,
-        } => Told::Ready(*session, *generation),
-        Message::Pong { session } => Told::Pong(*session),
+        } => DeskReaction::Ready(*session, *generation),
+        Message::Pong { session } => DeskReaction::Pong(*session),
         Message::Data {
             session,
             generation,
             ..
-        } => Told::Data(*session, *generation),
+        } => DeskReaction::Data(*session, *generation),
         Message::Part {
             session,
             generation,
             position,
             count,
             ..
-        } => Told::Part(*session, *generation, *position, *count),
-        Message::Failed { session } => Told::Failed(*session),
+        } => DeskReaction::Part(*session, *generation, *position, *count),
+        Message::Failed { session } => DeskReaction::Failed(*session),
     }
 }
 
@@ -171,19 +171,19 @@ fn place_of(step: Step) -> usize {
     }
 }
 
-/// Keeps `told` as the `last` frame, if it is a frame. Returns what that frame says, or `Nothing`.
-fn keep(last: &mut Option<Frame>, told: Option<Frame>) -> Told {
-    let Some(frame) = told else {
-        return Told::Nothing;
+/// Keeps `reaction` as the `last` frame, if it is a frame. Returns what that frame says, or `Nothing`.
+fn keep(last: &mut Option<Frame>, reaction: Option<Frame>) -> DeskReaction {
+    let Some(frame) = reaction else {
+        return DeskReaction::Nothing;
     };
-    let said = told_of(&frame);
+    let said = reaction_of(&frame);
     drop(last.replace(frame));
     said
 }
 
 impl Between {
     /// Keeps the first of `frames` as the last frame, and the others for `next`. Returns what the first one says.
-    fn keep_frames(&mut self, frames: FrameList) -> Told {
+    fn keep_frames(&mut self, frames: FrameList) -> DeskReaction {
         let mut frames = frames;
         let first = frames.next();
         drop(self.behind.replace(frames));
@@ -191,36 +191,36 @@ impl Between {
     }
 
     /// Returns what a desk says by `hearing`. Frames are kept by `keep_frames`.
-    fn keep_heard(&mut self, hearing: Hearing) -> Told {
+    fn keep_heard(&mut self, hearing: Hearing) -> DeskReaction {
         match hearing {
             Hearing::Tells(frames) => self.keep_frames(frames),
-            Hearing::Heeds => Told::Heeds,
-            Hearing::Ignores => Told::Ignores,
-            Hearing::Closes => Told::Closes,
-            Hearing::NoMemory => Told::Other,
+            Hearing::Heeds => DeskReaction::Heeds,
+            Hearing::Ignores => DeskReaction::Ignores,
+            Hearing::Closes => DeskReaction::Closes,
+            Hearing::NoMemory => DeskReaction::Other,
         }
     }
 
     /// Lets `desk` hear the last frame, and returns what the desk says.
-    fn hears(&mut self, desk: &mut DaemonDesk) -> Told {
+    fn hears(&mut self, desk: &mut DaemonDesk) -> DeskReaction {
         let Some(frame) = &self.last else {
-            return Told::Other;
+            return DeskReaction::Other;
         };
         let hearing = heard(desk, frame);
         self.keep_heard(hearing)
     }
 
     /// Makes the next frame of the same answer the last frame, and returns what that frame says.
-    fn next(&mut self) -> Told {
+    fn next(&mut self) -> DeskReaction {
         let Some(frames) = &mut self.behind else {
-            return Told::Other;
+            return DeskReaction::Other;
         };
         let frame = frames.next();
         keep(&mut self.last, frame)
     }
 
     /// Lets `desk` hear the frame of `says`, and returns what the desk says.
-    fn is_sent(&mut self, desk: &mut DaemonDesk, says: Says) -> Told {
+    fn is_sent(&mut self, desk: &mut DaemonDesk, says: Says) -> DeskReaction {
         let frame = frame_of(says);
         let hearing = heard(desk, &frame);
         drop(frame);
@@ -231,13 +231,13 @@ impl Between {
     fn goes_so(&mut self, desk: &mut DaemonDesk, step: Step) -> bool {
         match step {
             Step::Offers(_) => offers(desk, &mut self.last),
-            Step::Hears(_, told) => self.hears(desk) == told,
-            Step::Next(told) => self.next() == told,
-            Step::Sent(_, says, told) => self.is_sent(desk, says) == told,
+            Step::Hears(_, reaction) => self.hears(desk) == reaction,
+            Step::Next(reaction) => self.next() == reaction,
+            Step::Sent(_, says, reaction) => self.is_sent(desk, says) == reaction,
             Step::Lends(_, has_state) => lends(desk, &mut self.lease) == has_state,
             Step::Returns(_) => returns(desk, &mut self.lease),
-            Step::Readies(_, told) => keep(&mut self.last, desk.drained()) == told,
-            Step::GivesUp(_, told) => keep(&mut self.last, desk.give_up()) == told,
+            Step::Readies(_, reaction) => keep(&mut self.last, desk.drained()) == reaction,
+            Step::GivesUp(_, reaction) => keep(&mut self.last, desk.give_up()) == reaction,
             _ => desk_goes_so(self.alloc, desk, step),
         }
     }

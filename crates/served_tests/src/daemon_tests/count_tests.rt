@@ -174,70 +174,61 @@ fn is_image(alloc: Global, data: &Message, version: u16, count: u64) -> bool {
     }
 }
 
-/// Returns whether `data` is the image of `version` with `count`, `old` handed it over, and `new` holds it once it heard
-/// it.
-fn is_held(
-    alloc: Global,
-    manifest: &Manifest,
-    old: &Daemon,
-    new: &mut Daemon,
-    version: u16,
-    data: &Message,
-    count: u64,
-) -> bool {
-    let makes = reacts(alloc, new, manifest, data);
-    is_image(alloc, data, version, count)
-        && makes == Makes::Holds
-        && new.claim_wanted() == Some(2)
-        && matches!(old.phase(), Phase::Handed { .. })
-}
-
-/// Returns whether `data` is Failed, `old` serves on, and `new` is gone once it heard it.
-fn is_served_on(
-    alloc: Global,
-    manifest: &Manifest,
-    old: &Daemon,
-    new: &mut Daemon,
-    data: &Message,
-) -> bool {
-    reacts(alloc, new, manifest, data);
-    *data == Message::Failed { session: 1 }
-        && old.phase() == Phase::Serving { generation: 2 }
-        && new.phase() == Phase::Gone
-}
-
-/// Returns whether `old`, which serves `count`, hands over to `new` in `version`, or serves on if a count of that version
-/// can't be so great.
-fn goes_so(
-    alloc: Global,
-    manifest: &Manifest,
-    old: &mut Daemon,
-    new: &mut Daemon,
+/// A takeover of what `old` serves by `new`: the count of the one file, and the version in which it is handed over.
+#[derive(Drop)]
+struct Takeover {
+    old: Daemon,
+    new: Daemon,
     version: u16,
     count: u64,
-) -> bool {
-    let (chosen, data) = handed(alloc, manifest, old, new);
-    let so = match &data {
-        Some(data) if version < 3 && count > 4_294_967_295 => {
-            is_served_on(alloc, manifest, old, new, data)
-        }
-        Some(data) => is_held(alloc, manifest, old, new, version, data, count),
-        None => false,
-    };
-    drop(data);
-    so && chosen == Some(version)
 }
 
-/// Calls `goes_so` with a daemon of the list `old` that serves `count`, and a new one of the list `new`. A list is named
-/// by its greatest version. The greatest version that both have is chosen.
+impl Takeover {
+    /// Returns whether `data` is the image of the takeover, the old daemon handed it over, and the new one holds it
+    /// once it heard it.
+    fn is_held(&mut self, alloc: Global, manifest: &Manifest, data: &Message) -> bool {
+        let makes = reacts(alloc, &mut self.new, manifest, data);
+        is_image(alloc, data, self.version, self.count)
+            && makes == Makes::Holds
+            && self.new.claim_wanted() == Some(2)
+            && matches!(self.old.phase(), Phase::Handed { .. })
+    }
+
+    /// Returns whether `data` is Failed, the old daemon serves on, and the new one is gone once it heard it.
+    fn is_served_on(&mut self, alloc: Global, manifest: &Manifest, data: &Message) -> bool {
+        reacts(alloc, &mut self.new, manifest, data);
+        *data == Message::Failed { session: 1 }
+            && self.old.phase() == Phase::Serving { generation: 2 }
+            && self.new.phase() == Phase::Gone
+    }
+
+    /// Returns whether the old daemon, which serves the count, hands over to the new one in the version, or serves on
+    /// if a count of that version can't be so great.
+    fn goes_so(&mut self, alloc: Global, manifest: &Manifest) -> bool {
+        let (chosen, data) = handed(alloc, manifest, &mut self.old, &mut self.new);
+        let so = match &data {
+            Some(data) if self.version < 3 && self.count > 4_294_967_295 => {
+                self.is_served_on(alloc, manifest, data)
+            }
+            Some(data) => self.is_held(alloc, manifest, data),
+            None => false,
+        };
+        drop(data);
+        so && chosen == Some(self.version)
+    }
+}
+
+/// Lets a daemon of the list `old`, which serves `count`, be taken over by one of the list `new`, and returns whether
+/// that goes as it has to. A list is named by its greatest version. The greatest version that both have is chosen.
 fn is_taken_over(alloc: Global, manifest: &Manifest, old: u16, new: u16, count: u64) -> bool {
-    let mut first = Daemon::new(list_of(old));
-    let mut second = Daemon::new(list_of(new));
-    let version = old.min(new);
-    let so = serves(alloc, &mut first, manifest, count)
-        && goes_so(alloc, manifest, &mut first, &mut second, version, count);
-    drop(second);
-    drop(first);
+    let mut takeover = Takeover {
+        old: Daemon::new(list_of(old)),
+        new: Daemon::new(list_of(new)),
+        version: old.min(new),
+        count,
+    };
+    let so = serves(alloc, &mut takeover.old, manifest, count) && takeover.goes_so(alloc, manifest);
+    drop(takeover);
     so
 }
 

@@ -5,7 +5,7 @@ use eden_base::Errno;
 use fuse_wire::{Answer, Reply};
 use links::SocketChannel;
 use std::alloc::Global;
-use workers::{Posted, Taken};
+use workers::{NextAsk, Posted};
 
 /// What a `take` or a `post` gives.
 #[derive(Clone, Copy, PartialEq, Eq)]
@@ -273,14 +273,14 @@ static POSTS: [Row; 5] = [
 /// Makes a `take`, and returns what it gives.
 fn taken(channel: &mut SocketChannel<&[u8], &mut Vec<u8>>) -> Comes {
     match channel.take() {
-        Taken::Ask(ask) => {
+        NextAsk::Ask(ask) => {
             let unique = ask.unique;
             drop(ask);
             Comes::Ask(unique)
         }
-        Taken::Empty => Comes::Empty,
-        Taken::Stopped => Comes::Stopped,
-        Taken::Broken => Comes::Broken,
+        NextAsk::Empty => Comes::Empty,
+        NextAsk::Stopped => Comes::Stopped,
+        NextAsk::Broken => Comes::Broken,
     }
 }
 

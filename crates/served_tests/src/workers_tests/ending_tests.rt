@@ -1,4 +1,6 @@
 //! How rounds end whose channels run out of asks, stop, or break, and how a round ends that is asked to stop.
+ghost use Rattle.std.specs.Prelude.{◌≤◌};
+
 use super::rounds::serve;
 use super::scripted::{Rest, Scripted, Then};
 use crate::again::manifest_of;
@@ -9,7 +11,7 @@ use std::alloc::Global;
 use std::sync::Wait;
 use std::sync::atomic::{AtomicU64, Ordering};
 use std::thread::Threads;
-use workers::{Hook, NoHook, RoundFault, Stop};
+use workers::{Hook, NoHook, RoundFault, RoundOptions, Stop};
 
 /// How a round ended.
 #[derive(Clone, Copy, PartialEq, Eq)]
@@ -81,10 +83,11 @@ fn ending_of<R: Threads + Wait + Sync, G: Hook + Sync>(
     alloc: Global,
     manifest: &Manifest,
     channels: Vec<Scripted<'_>>,
-    hook: &G,
-    stop: &Stop,
-) -> Ended {
-    let left = serve(rt, alloc, manifest, channels, 64, hook, stop);
+    options: &RoundOptions<'_, G>,
+) -> Ended
+    requires turns { (1 ≤ options.now.turns) × (options.now.turns ≤ 4096) }
+{
+    let left = serve(rt, alloc, manifest, channels, options);
     let ended = match &left {
         Ok(round) => Ended::Well(round.journal.records().len()),
         Err(RoundFault::Broken(channels)) => broken_with(channels.as_slice()),
@@ -105,7 +108,13 @@ fn ends_so<R: Threads + Wait + Sync>(
     let Ok(channels) = two(alloc, row.0, row.1, &posted) else {
         return false;
     };
-    ending_of(rt, alloc, manifest, channels, &NoHook, &Stop::new()) == row.2
+    let stop = Stop::new();
+    let options = RoundOptions {
+        turns: 64,
+        hook: &NoHook,
+        stop: &stop,
+    };
+    ending_of(rt, alloc, manifest, channels, &options) == row.2
 }
 
 /// Calls `ends_so` with each of `rows`, and returns whether all calls return true.
@@ -163,8 +172,13 @@ fn stops_at_one<R: Threads + Wait + Sync>(rt: &R, alloc: Global) -> bool {
         posted: &posted,
         early: AtomicU64::new(0),
     };
+    let options = RoundOptions {
+        turns: 64,
+        hook: &hook,
+        stop: &stop,
+    };
     let ended = match two(alloc, (3, 9, Then::Empty), (0, 9, Then::Empty), &posted) {
-        Ok(channels) => ending_of(rt, alloc, &manifest, channels, &hook, &stop),
+        Ok(channels) => ending_of(rt, alloc, &manifest, channels, &options),
         Err(NoMemory) => Ended::Otherwise,
     };
     drop(manifest);

@@ -8,7 +8,7 @@ use manifest::Manifest;
 use std::alloc::Global;
 use std::sync::Wait;
 use std::thread::Threads;
-use workers::{MemoryChannel, NoHook, Receipts, Round, Stop};
+use workers::{MemoryChannel, NoHook, Receipts, Round, RoundOptions, Stop};
 
 /// The uniques of a channel's asks, which are one more than a worker takes.
 static UNIQUES: [u64; 65] = [7; 65];
@@ -58,7 +58,12 @@ fn fills<R: Threads + Wait + Sync>(
         return false;
     };
     let stop = Stop::new();
-    match serve(rt, alloc, manifest, channels, 64, &NoHook, &stop) {
+    let options = RoundOptions {
+        turns: 64,
+        hook: &NoHook,
+        stop: &stop,
+    };
+    match serve(rt, alloc, manifest, channels, &options) {
         Ok(round) => {
             let full = is_full(&round, row);
             is_settled(alloc, round) == Some(true) && full

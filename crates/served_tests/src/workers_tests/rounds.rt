@@ -13,8 +13,8 @@ use std::mem::replace;
 use std::sync::Wait;
 use std::thread::Threads;
 use workers::{
-    Channel, Hook, MAX_CHANNELS, MemoryChannel, NoHook, Receipt, Receipts, Returned, Rooms, Round,
-    RoundFault, Settled, Stop, drain, serve_round,
+    Channel, Hook, MAX_CHANNELS, MemoryChannel, Receipt, Receipts, Round, RoundBuffers, RoundFault,
+    RoundOptions, RoundState, Settled, drain, serve_round,
 };
 
 /// Makes a channel with a GETATTR of the root for each of `uniques`.
@@ -49,7 +49,7 @@ pub enum Change {
 /// What a round left: the count of its records, the index in its journal of each worker's first receipt, how many asks
 /// the first channel gave and how many replies it got, and whether the round is settled.
 #[derive(Clone, Copy, PartialEq, Eq)]
-pub struct Left {
+pub struct RoundSummary {
     pub records: usize,
     pub first: Option<usize>,
     pub second: Option<usize>,
@@ -92,9 +92,9 @@ fn is_first_changed(alloc: Global, workers: &mut Vec<Receipts>, change: Change) 
 }
 
 /// Returns what `round` left, but with `is_settled` false.
-fn numbers_of(round: &Round<ManifestBacking<'_>, MemoryChannel>) -> Option<Left> {
+fn numbers_of(round: &Round<ManifestBacking<'_>, MemoryChannel>) -> Option<RoundSummary> {
     let channel = round.channels.as_slice().first()?;
-    Some(Left {
+    Some(RoundSummary {
         records: round.journal.records().len(),
         first: first_place(round.receipts.as_slice(), 0),
         second: first_place(round.receipts.as_slice(), 1),
@@ -104,20 +104,20 @@ fn numbers_of(round: &Round<ManifestBacking<'_>, MemoryChannel>) -> Option<Left>
     })
 }
 
-/// Returns the parts of `settled` as what is given back.
-pub(crate) fn back_of<B: Backing + Drop, C: Channel + Drop>(
+/// Returns the parts of `settled` as the state of the next round.
+pub(crate) fn state_of<B: Backing + Drop, C: Channel + Drop>(
     settled: Settled<B, C>,
-) -> Returned<B, C>
+) -> RoundState<B, C>
     ensures served { result.served ≡ settled.served }
 {
     let Settled {
-        rooms,
+        buffers,
         served,
         backing,
         channels,
     } = settled;
-    Returned {
-        rooms,
+    RoundState {
+        buffers,
         served,
         backing,
         channels,
@@ -131,7 +131,7 @@ pub(crate) fn is_settled(
 ) -> Option<bool> {
     match drain(alloc, round) {
         Ok(settled) => {
-            drop(back_of(settled));
+            drop(state_of(settled));
             Some(true)
         }
         Err(RoundFault::Unsettled) => Some(false),
@@ -144,83 +144,92 @@ pub(crate) fn is_settled(
 
 /// Returns what `round` left. Whether the round is settled is looked at after `change` is made in the first worker's
 /// receipts.
-fn told_of(
+fn summary_of(
     alloc: Global,
     round: Round<ManifestBacking<'_>, MemoryChannel>,
     change: Change,
-) -> Option<Left> {
+) -> Option<RoundSummary> {
     let mut round = round;
-    let told = numbers_of(&round);
+    let summary = numbers_of(&round);
     let is_changed = is_first_changed(alloc, &mut round.receipts, change);
     let is_settled = is_settled(alloc, round);
-    match (told, is_settled) {
-        (Some(told), Some(is_settled)) if is_changed => Some(Left { is_settled, ..told }),
+    match (summary, is_settled) {
+        (Some(summary), Some(is_settled)) if is_changed => Some(RoundSummary {
+            is_settled,
+            ..summary
+        }),
         _ => None,
     }
 }
 
-/// Serves a round over what `back` has, with `manifest` as the backing. Drops all and returns Unsettled if there is no
-/// channel, or more than 16.
-pub(crate) fn serve_back<'a, C: Channel + Drop + Send, G: Hook + Sync, R: Threads + Wait + Sync>(
+/// Serves a round over `state`, with `manifest` as the backing. Drops all and returns Unsettled if there is no channel,
+/// or more than 16.
+pub(crate) fn serve_state<'a, C: Channel + Drop + Send, G: Hook + Sync, R: Threads + Wait + Sync>(
     rt: &R,
     alloc: Global,
     manifest: &'a Manifest,
-    back: Returned<ManifestBacking<'a>, C>,
-    turns: usize,
-    hook: &G,
-    stop: &Stop,
+    state: RoundState<ManifestBacking<'a>, C>,
+    options: &RoundOptions<'_, G>,
 ) -> Result<Round<ManifestBacking<'a>, C>, RoundFault<ManifestBacking<'a>, C>>
-    requires over { back.served.tree.manifest ≡ manifest.now }
-    requires turns { (1 ≤ turns) × (turns ≤ 4096) }
+    requires over { state.served.tree.manifest ≡ manifest.now }
+    requires turns { (1 ≤ options.now.turns) × (options.now.turns ≤ 4096) }
     ensures over { IfOk result (λ round. round.served.tree.manifest ≡ manifest.now) }
-    ensures given_back { IfErr result (GivesBack back.entry.served manifest.now back.entry.channels.items) }
+    ensures given_back { IfErr result (GivesBack state.entry.served manifest.now state.entry.channels.items) }
 {
-    if back.channels.is_empty() || back.channels.len() > MAX_CHANNELS {
-        drop(back);
+    if state.channels.is_empty() || state.channels.len() > MAX_CHANNELS {
+        drop(state);
         return Err(RoundFault::Unsettled);
     }
-    let Returned {
-        rooms,
+    let RoundState {
+        buffers,
         served,
         backing,
         channels,
-    } = back;
+    } = state;
     drop(backing);
-    let backing = ManifestBacking::of(manifest);
-    serve_round(
-        rt, alloc, rooms, served, backing, channels, turns, hook, stop,
-    )
+    let state = RoundState {
+        buffers,
+        served,
+        backing: ManifestBacking::of(manifest),
+        channels,
+    };
+    serve_round(rt, alloc, state, options)
 }
 
-/// Begins to serve `manifest`, and serves a round over `channels` in new rooms. If memory was refused, serves the round
-/// once more with all that was given back. Returns Unsettled if memory was refused before the round.
+/// Begins to serve `manifest`, and serves a round over `channels` in new buffers. If memory was refused, serves the
+/// round once more with all that was given back. Returns Unsettled if memory was refused before the round.
 pub(crate) fn serve<'a, C: Channel + Drop + Send, G: Hook + Sync, R: Threads + Wait + Sync>(
     rt: &R,
     alloc: Global,
     manifest: &'a Manifest,
     channels: Vec<C>,
-    turns: usize,
-    hook: &G,
-    stop: &Stop,
+    options: &RoundOptions<'_, G>,
 ) -> Result<Round<ManifestBacking<'a>, C>, RoundFault<ManifestBacking<'a>, C>>
-    requires turns { (1 ≤ turns) × (turns ≤ 4096) }
+    requires turns { (1 ≤ options.now.turns) × (options.now.turns ≤ 4096) }
 {
     let Ok(served) = begun(alloc, manifest) else {
         drop(channels);
         return Err(RoundFault::Unsettled);
     };
-    let new = Returned {
-        rooms: Rooms::new(alloc),
+    let new = RoundState {
+        buffers: RoundBuffers::new(alloc),
         served,
         backing: ManifestBacking::of(manifest),
         channels,
     };
-    match serve_back(rt, alloc, manifest, new, turns, hook, stop) {
-        Err(RoundFault::NoMemory(back)) => {
-            serve_back(rt, alloc, manifest, back, turns, hook, stop)
-        }
-        told => told,
+    match serve_state(rt, alloc, manifest, new, options) {
+        Err(RoundFault::NoMemory(state)) => serve_state(rt, alloc, manifest, state, options),
+        served => served,
     }
+}
+
+/// The uniques of the asks of two channels, and what is done to the first worker's receipts before their round is
+/// drained.
+#[derive(Clone, Copy)]
+pub struct TwoChannels<'a> {
+    pub first: &'a [u64],
+    pub second: &'a [u64],
+    pub change: Change,
 }
 
 /// Makes two channels, with asks of the uniques `first` and `second`.
@@ -235,17 +244,17 @@ fn two_channels(
     Ok(channels)
 }
 
-/// Returns what the round of `left` left, by `told_of`.
-fn told_by(
+/// Returns what the round of `left` left, by `summary_of`.
+fn summary_by(
     alloc: Global,
     left: Result<
         Round<ManifestBacking<'_>, MemoryChannel>,
         RoundFault<ManifestBacking<'_>, MemoryChannel>,
     >,
     change: Change,
-) -> Option<Left> {
+) -> Option<RoundSummary> {
     match left {
-        Ok(round) => told_of(alloc, round, change),
+        Ok(round) => summary_of(alloc, round, change),
         Err(fault) => {
             drop(fault);
             None
@@ -253,47 +262,40 @@ fn told_by(
     }
 }
 
-/// Serves a round over two channels, with asks of the uniques `first` and `second`. Returns what the round left.
+/// Serves a round over the two channels of `row`, and returns what the round left.
 pub(crate) fn round<G: Hook + Sync, R: Threads + Wait + Sync>(
     rt: &R,
     alloc: Global,
-    first: &[u64],
-    second: &[u64],
-    turns: usize,
-    hook: &G,
-    stop: &Stop,
-    change: Change,
-) -> Option<Left>
-    requires turns { (1 ≤ turns) × (turns ≤ 4096) }
+    row: &TwoChannels<'_>,
+    options: &RoundOptions<'_, G>,
+) -> Option<RoundSummary>
+    requires turns { (1 ≤ options.now.turns) × (options.now.turns ≤ 4096) }
 {
     let Ok(manifest) = Manifest::read(alloc, LISTED) else {
         return None;
     };
-    let told = match two_channels(alloc, first, second) {
+    let summary = match two_channels(alloc, row.first, row.second) {
         Ok(channels) => {
-            let left = serve(rt, alloc, &manifest, channels, turns, hook, stop);
-            told_by(alloc, left, change)
+            let left = serve(rt, alloc, &manifest, channels, options);
+            summary_by(alloc, left, row.change)
         }
         Err(NoMemory) => None,
     };
     drop(manifest);
-    told
+    summary
 }
 
-/// Calls `round` without a hook, and once more if the first call returned none.
-pub(crate) fn round_again<R: Threads + Wait + Sync>(
+/// Calls `round`, and once more if the first call returned none.
+pub(crate) fn round_again<G: Hook + Sync, R: Threads + Wait + Sync>(
     rt: &R,
     alloc: Global,
-    first: &[u64],
-    second: &[u64],
-    turns: usize,
-    stop: &Stop,
-    change: Change,
-) -> Option<Left>
-    requires turns { (1 ≤ turns) × (turns ≤ 4096) }
+    row: &TwoChannels<'_>,
+    options: &RoundOptions<'_, G>,
+) -> Option<RoundSummary>
+    requires turns { (1 ≤ options.now.turns) × (options.now.turns ≤ 4096) }
 {
-    match round(rt, alloc, first, second, turns, &NoHook, stop, change) {
-        Some(left) => Some(left),
-        None => round(rt, alloc, first, second, turns, &NoHook, stop, change),
+    match round(rt, alloc, row, options) {
+        Some(summary) => Some(summary),
+        None => round(rt, alloc, row, options),
     }
 }

@@ -2,7 +2,7 @@
 use eden_base::Number;
 use fuse_wire::{Ask, Reply, Request};
 use std::sync::atomic::{AtomicU64, Ordering};
-use workers::{Channel, Posted, Taken};
+use workers::{Channel, NextAsk, Posted};
 
 /// What `take` returns when no ask is left.
 #[derive(Clone, Copy)]
@@ -56,22 +56,22 @@ impl<'a> Channel for Scripted<'a> {
 
     ghost posts = { λ _ _ _ _. ⊤ };
 
-    ghost tells = { false };
+    ghost reports = { false };
 
-    ghost told = { λ channel. record { taken = []; posted = [] } };
+    ghost reported = { λ channel. record { taken = []; posted = [] } };
 
-    fn take(&mut self) -> Taken {
+    fn take(&mut self) -> NextAsk {
         if self.asks > 0 {
             self.asks -= 1;
-            return Taken::Ask(Ask {
+            return NextAsk::Ask(Ask {
                 unique: self.asks + 1,
                 what: Request::Getattr { node: Number::ROOT },
             });
         }
         match self.then {
-            Then::Empty => Taken::Empty,
-            Then::Stopped => Taken::Stopped,
-            Then::Broken => Taken::Broken,
+            Then::Empty => NextAsk::Empty,
+            Then::Stopped => NextAsk::Stopped,
+            Then::Broken => NextAsk::Broken,
         }
     }
 

@@ -31,6 +31,7 @@ fn is_part_count(count: u32) -> bool
 }
 
 impl Node {
+    /// Hears an offer: a daemon that serves answers it by `take_offer`, and one with a takeover under way is busy.
     pub(super) fn hear_offer(&mut self, offered: &Versions) -> Heard
         ensures heard { result ≡ heard self.old (Hear (Message.Offer offered.now)) }
         ensures after { self.new ≡ after self.old (Hear (Message.Offer offered.now)) }
@@ -67,6 +68,7 @@ impl Node {
         Message::Choice { session, version }
     }
 
+    /// Hears which session and version were chosen for its offer. A version that the daemon lacks is ignored.
     pub(super) fn hear_choice(&mut self, session: u32, version: u16) -> Heard
         ensures heard { result ≡ heard self.old (Hear (Message.Choice session version)) }
         ensures after { self.new ≡ after self.old (Hear (Message.Choice session version)) }
@@ -96,6 +98,7 @@ impl Node {
         }
     }
 
+    /// Hears that the serving daemon has drained, and answers that this one is still there.
     pub(super) fn hear_ready(&mut self, ready: u32, generation: u64) -> Heard
         ensures heard { result ≡ heard self.old (Hear (Message.Ready ready generation)) }
         ensures after { self.new ≡ after self.old (Hear (Message.Ready ready generation)) }
@@ -108,6 +111,7 @@ impl Node {
         }
     }
 
+    /// Hears that the new daemon is still there, so that the data is made now.
     pub(super) fn hear_pong(&mut self, ponged: u32) -> Heard
         ensures heard { result ≡ heard self.old (Hear (Message.Pong ponged)) }
         ensures after { self.new ≡ after self.old (Hear (Message.Pong ponged)) }
@@ -210,6 +214,8 @@ impl Node {
         }
     }
 
+    /// Hears that the other daemon gave this session up. A new daemon has no part in takeovers from then on, a
+    /// serving one serves on, and one that has handed the data over claims the seat again.
     pub(super) fn hear_failed(&mut self, failed: u32) -> Heard
         ensures heard { result ≡ heard self.old (Hear (Message.Failed failed)) }
         ensures after { self.new ≡ after self.old (Hear (Message.Failed failed)) }

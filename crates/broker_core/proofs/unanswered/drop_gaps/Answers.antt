@@ -2,7 +2,7 @@
 use Rattle.std.proofs.Common.{rules, List, length, sym, ap, subst, arith}
 use Rattle.std.proofs.lemmas.Fn.{filter_same}
 use Rattle.broker_core.specs.Places.{is_filled, StartsFilled, EndsFilled, DropsGaps}
-use Rattle.broker_core.specs.declared.unanswered.Place.{Place}
+use Rattle.broker_core.specs.declared.unanswered.QueuePlace.{QueuePlace}
 use Rattle.broker_core.proofs.GapLaws.{drops-all, drops-more, ends-filled, starts-filled}
 use Rattle.broker_core.proofs.PlaceLaws.{asks-fewer}
 use Rattle.broker_core.proofs.unanswered.drop_gaps.Goals as goal
@@ -20,7 +20,7 @@ pub returns-clause-dropped : goal.returns-clause-dropped
 returns-clause-dropped c =
     let left = c.drop_last_gaps.new.places.items in
     let kept = filter_same _ is_filled _ (λ x b f r. search rules) _ _ c.retain.ensures.filtered in
-    subst (λ (ps : List Place). DropsGaps c.args.places.now.items ps) (sym kept)
+    subst (λ (ps : List QueuePlace). DropsGaps c.args.places.now.items ps) (sym kept)
     (drops-more _ left _ (drops-more _ _ left c.drop_first_gaps.ensures.dropped c.drop_last_gaps.ensures.dropped) (drops-all left))
 
 pub returns-clause-first : goal.returns-clause-first

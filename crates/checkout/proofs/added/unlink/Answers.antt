@@ -16,4 +16,4 @@ returns-clause-links c links are =
     let was = sym c.remove.ensures.value ∙ c.in-Some.is in
     let indexed = subst (λ (n : List ℕ). (at : Standing) → IsIndexOf at c.args.index.now → at dir n ≡ Some file → IsIndexOf (removed at dir n) c.remove-2.new.self) c.bytes.ensures.bytes c.remove-2.ensures.removed in
     subst (λ (o : Option AddedPlace). AreLinks (without links o) new c.remove-2.new.self) (sym was)
-    (removed-AreLinks links c.args.places.now new c.args.index.now c.remove-2.new.self are c.remove.ensures.unique c.args.file c.in-Some.place was c.remove.ensures.updates.0 indexed)
+    (removed-AreLinks links c.args.places.now new c.args.index.now c.remove-2.new.self are c.remove.ensures.unique c.args.file c.in-Some.place was c.remove.ensures.updates.0 (λ s is known there. indexed s is there))

@@ -4,7 +4,7 @@ use Rattle.std.specs.Option.{option_copied}
 use Rattle.checkout.proofs.AboveLaws.{base_of_line}
 use Rattle.checkout.proofs.TakenLaws.{has_room, take-AreTaken}
 use Rattle.manifest.specs.Manifest.{Line, line_of}
-use Rattle.manifest.specs.declared.links.LinkChange.{LinkChange}
+use Rattle.manifest.specs.declared.link_change.LinkChange.{LinkChange}
 use Rattle.checkout.proofs.overlay.lose.Goals as goal
 
 pub add-requires-clause-room : goal.add-requires-clause-room

@@ -6,16 +6,16 @@ use Rattle.daemon_process.proofs.process.run_daemon.Goals as goal
 
 pub returns-in-Err : goal.returns-in-Err
 returns-in-Err g c =
-    let old = g.W.Write.contents c.args.out in
+    let old = g.W.Write.contents c.args.streams.out in
     record {
-      runs = c.end_run.ensures.runs c.args.orders.now.until_closed old tt
+      runs = c.end_run.ensures.runs c.args.options.now.until_closed old tt
           (subst (λ (known : Option (List ℕ)). PrintsServing old known) (sym c.write_behind.ensures.same) (serving-none old));
     }
 
 pub returns-in_default-new : goal.returns-in_default-new
 returns-in_default-new g c =
-    let old = g.W.Write.contents c.args.out in
+    let old = g.W.Write.contents c.args.streams.out in
     record {
-      runs = c.end_run-in_default-new.ensures.runs c.args.orders.now.until_closed old tt
+      runs = c.end_run-in_default-new.ensures.runs c.args.options.now.until_closed old tt
           (subst (λ (known : Option (List ℕ)). PrintsServing old known) (sym c.write_behind.ensures.same) (serving-none old));
     }

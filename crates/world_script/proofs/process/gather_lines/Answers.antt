@@ -1,7 +1,7 @@
 -- Nothing was written before the lines that are gathered, or before the line that there is no memory for them.
-use Rattle.world_script.specs.declared.fault.Fault.TheVariants.{NoMemory}
+use Rattle.world_script.specs.declared.program_fault.ProgramFault.TheVariants.{NoMemory}
 use Rattle.world_script.specs.ProgramEnd.{Tells, plain}
-use Rattle.world_script.proofs.ErrandLemmas.{tells-from}
+use Rattle.world_script.proofs.ServerCommands.{tells-from}
 use Rattle.world_script.proofs.ProcessLemmas.{ends_with, gathered-kept}
 use Rattle.world_script.proofs.process.gather_lines.Goals as goal
 

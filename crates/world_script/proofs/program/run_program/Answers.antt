@@ -1,6 +1,6 @@
 -- The end of the words stays what it is once all is written.
 use Rattle.world_script.specs.ProgramEnd.{words_had}
-use Rattle.world_script.proofs.ErrandLemmas.{ends_by-finished}
+use Rattle.world_script.proofs.ServerCommands.{ends_by-finished}
 use Rattle.world_script.proofs.program.run_program.Goals as goal
 
 pub returns : goal.returns

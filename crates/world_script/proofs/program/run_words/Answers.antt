@@ -1,6 +1,6 @@
 -- What the words ask for is done, and what is wrong with them is answered.
 use Rattle.std.proofs.Common.{map, refl, string_bytes}
-use Rattle.world_script.proofs.ErrandLemmas.{ends_by-answered, ends_by-asked}
+use Rattle.world_script.proofs.ServerCommands.{ends_by-answered, ends_by-asked}
 use Rattle.world_script.proofs.program.run_words.Goals as goal
 
 pub returns-in-Err : goal.returns-in-Err

@@ -3,8 +3,8 @@ use Rattle.std.proofs.Common.{subst, sym}
 use Rattle.world_script.specs.Refusal.{IsRunRefusal}
 use Rattle.world_script.specs.Script.{Runs}
 use Rattle.world_script.specs.Source.{OfRead, script_at}
-use Rattle.world_script.specs.declared.fault.Fault.{Fault}
-use Rattle.world_script.specs.declared.fault.Fault.TheVariants.{CannotRead}
+use Rattle.world_script.specs.declared.program_fault.ProgramFault.{ProgramFault}
+use Rattle.world_script.specs.declared.program_fault.ProgramFault.TheVariants.{CannotRead}
 use Rattle.world_script.proofs.ReadLemmas.{at_file, of_read-any, opened_refused, opened_runs}
 use Rattle.world_script.proofs.sources.run_path.Goals as goal
 
@@ -20,4 +20,4 @@ returns-in-Ok-clause-refused g c = opened_refused c.run_script-in-Ok.result _ (g
 pub returns-in-Err-clause-refused : goal.returns-in-Err-clause-refused
 returns-in-Err-clause-refused g c =
     let at = script_at (g.S.Sources.input_bytes c.args.sources.now) (g.S.Sources.file_bytes c.args.sources.now) c.args.path.now in
-    subst (λ (fault : Fault). OfRead at (λ script. IsRunRefusal script fault)) (sym c.with_cause.ensures.fault) (of_read-any at (λ script. IsRunRefusal script CannotRead) (λ script. tt))
+    subst (λ (fault : ProgramFault). OfRead at (λ script. IsRunRefusal script fault)) (sym c.with_cause.ensures.fault) (of_read-any at (λ script. IsRunRefusal script CannotRead) (λ script. tt))

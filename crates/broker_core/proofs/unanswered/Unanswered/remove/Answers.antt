@@ -5,7 +5,7 @@ use Rattle.eden_base.proofs.FirstLemmas.{without_where-none}
 use Rattle.broker_core.specs.Rising.{IsRising}
 use Rattle.broker_core.specs.Traffic.{is_of}
 use Rattle.broker_core.specs.Places.{is_filled}
-use Rattle.broker_core.specs.declared.unanswered.Place.{Place}
+use Rattle.broker_core.specs.declared.unanswered.QueuePlace.{QueuePlace}
 use Rattle.broker_core.proofs.AskedLaws.{Asked}
 use Rattle.broker_core.proofs.PlaceLaws.{asks-fewer, emptied-at, gap-asked, none-asked, rising-asks}
 use Rattle.broker_core.proofs.unanswered.Unanswered.remove.Goals as goal
@@ -22,7 +22,7 @@ returns-in_default-clause-rising c = subst IsRising c.self.view_is (rising-asks 
 pub returns-then-is_none-clause-removed : goal.returns-then-is_none-clause-removed
 returns-then-is_none-clause-removed c =
     let ps = c.self.inside.places.items in
-    let gap = ap (λ (p : Place). is_filled p) (sym c.index.ensures) ∙ c.if-is_none.ensures in
+    let gap = ap (λ (p : QueuePlace). is_filled p) (sym c.index.ensures) ∙ c.if-is_none.ensures in
     let none = subst (λ (es : List Asked). first_where (is_of c.args.unique) es ≡ None) c.self.view_is
     (gap-asked c.args.unique ps c.in-Some.index c.index.result.now c.self.invariant.rising c.in-Some.ensures gap) in
     sym (without_where-none (is_of c.args.unique) c.args.self.now none)

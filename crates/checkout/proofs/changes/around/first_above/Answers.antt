@@ -1,7 +1,7 @@
 -- A link before is above itself, or this one, or none.
 use Rattle.std.proofs.Common.{Some, arith, ap, sym, ◌∙◌}
 use Rattle.std.proofs.lemmas.Option.{slice_get-get_or, slice_get_within}
-use Rattle.manifest.specs.declared.links.LinkChange.{LinkChange}
+use Rattle.manifest.specs.declared.link_change.LinkChange.{LinkChange}
 use Rattle.checkout.specs.Around.{links_now}
 use Rattle.checkout.proofs.AboveItself.{first_at, none_so_far}
 use Rattle.checkout.proofs.ColourLaws.{none-AreRight}

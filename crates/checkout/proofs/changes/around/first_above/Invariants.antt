@@ -1,7 +1,7 @@
 -- The colours are right, and no link so far is above itself.
 use Rattle.std.proofs.Common.{◌≡◌, ◌<◌, ℕ, Some}
 use Rattle.std.specs.List.{slice_get}
-use Rattle.manifest.specs.declared.links.LinkChange.{LinkChange}
+use Rattle.manifest.specs.declared.link_change.LinkChange.{LinkChange}
 use Rattle.checkout.specs.Around.{links_now, AreRight, IsAbove}
 use Rattle.checkout.proofs.changes.around.first_above.Given as goal
 

@@ -1,6 +1,6 @@
 -- Of the marks only those of several count.
 use Rattle.std.proofs.Common.{◌&&◌, ◌||◌, not, ◌∙◌}
-use Rattle.manifest.specs.declared.links.LinkChange.{LinkChange}
+use Rattle.manifest.specs.declared.link_change.LinkChange.{LinkChange}
 use Rattle.checkout.specs.BadChanges.{file_does}
 use Rattle.checkout.specs.Overlay.{is_line}
 use Rattle.checkout.specs.UnlinkedFiles.{is_gone}

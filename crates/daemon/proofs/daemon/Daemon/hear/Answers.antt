@@ -1,6 +1,6 @@
 -- The phase in which data is taken; and what a wrong body of must-fail/ breaks, where an answer makes its refusal cheap.
-use Rattle.std.proofs.Common.{rules, ap, ◌∙◌}
-use Rattle.daemon.specs.Daemon.{DaemonState}
+use Rattle.std.proofs.Common.{rules, arith}
+use Rattle.std.proofs.lemmas.Bool.Decides.{nat_tests}
 use Rattle.daemon.proofs.PartLemmas.{is_raising_behind, is_raising_data, is_taking_part}
 use Rattle.daemon.proofs.daemon.Daemon.hear.Goals as goal
 
@@ -18,5 +18,5 @@ take_last-requires-clause-taking c =
 
 pub take_last-requires-clause-raising : goal.take_last-requires-clause-raising
 take_last-requires-clause-raising c =
-    is_raising_behind c.args.self.now.node c.copy-node.result c.hear.new.self c.args.message.now c.in-GotPart.session c.in-GotPart.generation c.in-GotPart.version c.in-GotPart.position c.in-GotPart.count
-    (c.copy-node.ensures.copy ∙ ap (λ (d : DaemonState). d.node) c.self.view_is) c.in-GotPart.ensures.heard c.hear.ensures.after c.requires.no_part
+    is_raising_behind c.copy-node.result c.hear.new.self c.args.message.now c.in-GotPart.session c.in-GotPart.generation c.in-GotPart.version c.in-GotPart.position c.in-GotPart.count
+    c.in-GotPart.ensures.heard c.hear.ensures.after (grind (arith, nat_tests))

@@ -7,4 +7,4 @@ abbrev pub invariant-loop-again : goal.invariant-loop-again
 invariant-loop-again g l =
     Waits g.C.Channel.takes l.fn.self.channel l.self.channel
     × (l.self.stop ≡ l.fn.self.stop)
-    × (g.C.Channel.tells ≡ true → g.C.Channel.told l.self.channel ≡ g.C.Channel.told l.fn.self.channel)
+    × (g.C.Channel.reports ≡ true → g.C.Channel.reported l.self.channel ≡ g.C.Channel.reported l.fn.self.channel)

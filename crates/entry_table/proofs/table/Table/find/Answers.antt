@@ -1,7 +1,7 @@
 -- The index has the number of a place.
 use Rattle.std.proofs.Common.{◌≡◌, ℕ, List, Option, sym, ap, ◌∙◌, subst}
 use Rattle.std.specs.Option.{option_map}
-use Rattle.directory_index.specs.Index.{IsIndexOf}
+use Rattle.directory_index.specs.CountedIndex.{IsCountedOf}
 use Rattle.directory_index.specs.Standing.{AreKnown, Standing}
 use Rattle.entry_table.proofs.Placed.{indexed-at, number_of}
 use Rattle.entry_table.proofs.SlotLemmas.{slots-numbers}
@@ -17,7 +17,7 @@ use Rattle.entry_table.proofs.table.Table.find.Goals as goal
 
 -- what the index gives is the number of the entry at the place
 found : (t : Inside) (now : TableState) → view_of t ≡ now → IsTable t → (slots : List (ℕ × Option Entry)) → slots ≡ t.slots.items → (dir : ℕ) (name text : List ℕ) → text ≡ name → (o got : Option ℕ) → got ≡ o →
-    ((at : Standing) → IsIndexOf at t.index → AreKnown at (place_of_number (kept_from slots)) → got ≡ at dir text) → option_map number_of o ≡ option_map number_of_kept (entry_at now.entries dir name)
+    ((at : Standing) → IsCountedOf at t.index → AreKnown at (place_of_number (kept_from slots)) → got ≡ at dir text) → option_map number_of o ≡ option_map number_of_kept (entry_at now.entries dir name)
 found t now view is slots same dir name text text_is o got e number =
     let known = subst (λ (es : List (ℕ × Option Entry)). AreKnown is.indexed.at (place_of_number (kept_from es))) (sym same) is.indexed.known in
     ap (option_map number_of) (sym e ∙ number is.indexed.at is.indexed.of known ∙ ap (is.indexed.at dir) text_is)

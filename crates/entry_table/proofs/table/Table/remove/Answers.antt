@@ -2,7 +2,7 @@
 use Rattle.std.proofs.Common.{◌≡◌, ℕ, List, Option, Some, None, sym, ap, ◌∙◌, subst}
 use Rattle.std.specs.Prelude.{slice_set}
 use Rattle.std.specs.Option.{option_map}
-use Rattle.directory_index.specs.declared.directory_index.DirectoryIndex.{DirectoryIndex}
+use Rattle.directory_index.specs.declared.counted_index.CountedIndex.{CountedIndex}
 use Rattle.eden_base.specs.declared.place.Place.TheVariants.{Linked}
 use Rattle.entry_table.specs.Entries.{entry_of, place_of_kept}
 use Rattle.entry_table.specs.Inside.{IsTable}
@@ -45,7 +45,7 @@ invariant_of-self c =
     let left = Rattle.std.specs.Vec.with_item t.slots c.in-Some.index (c.match-entry.slot.0, c.take.new.self) in
     elim c.match-entry.branch [
       | in-Linked w ↦
-          subst (λ (index : DirectoryIndex). IsTable (record t { slots = left; index = index })) (sym (ap (λ s. s.1.1.0) w.self-inside-is)) (record {
+          subst (λ (index : CountedIndex). IsTable (record t { slots = left; index = index })) (sym (ap (λ s. s.1.1.0) w.self-inside-is)) (record {
             slots = left-slots (out c.before);
             indexed = left-lost (out c.before) w.in-Linked.parent w.bytes.result.now (w.in-Linked.is ∙ ap (Linked w.in-Linked.parent) (sym w.bytes.ensures.bytes)) w.remove.new.self w.remove.ensures.removed;
             ready = λ is. w.remove.ensures.room (c.self.invariant.ready is);
@@ -53,7 +53,7 @@ invariant_of-self c =
             room = c.self.invariant.room;
           })
       | in_default-place w ↦
-          subst (λ (index : DirectoryIndex). IsTable (record t { slots = left; index = index })) (sym (ap (λ s. s.1.1.0) w.self-inside-is)) (record {
+          subst (λ (index : CountedIndex). IsTable (record t { slots = left; index = index })) (sym (ap (λ s. s.1.1.0) w.self-inside-is)) (record {
             slots = left-slots (out c.before);
             indexed = left-marked (out c.before) w.in_default-place.field-0 w.in_default-place.is;
             ready = c.self.invariant.ready;

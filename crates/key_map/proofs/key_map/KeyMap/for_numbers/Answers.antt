@@ -1,8 +1,7 @@
 -- No tier has a number, and the tree has none.
-use Rattle.std.proofs.Common.{◌≡◌, ℕ, None, refl, sym, ap, ◌∙◌}
+use Rattle.std.proofs.Common.{ap, ◌∙◌}
 use Rattle.std.specs.BTreeMap.{get}
 use Rattle.std.specs.Ordering.{nat_cmp}
-use Rattle.key_map.specs.Map.{in_tiers}
 use Rattle.key_map.proofs.MapLemmas.{empty-tiers, none-numbers}
 use Rattle.key_map.proofs.key_map.KeyMap.for_numbers.Goals as goal
 

@@ -9,6 +9,7 @@ pub insert-requires : goal.insert-requires
 unfolding in_tiers
 insert-requires c = record {
   free = sym (get-numbers_of c.self.inside c.args.key) ∙ ap (λ (m : Numbers). get m c.args.key) (c.self.view_is ∙ c.in_ok-make_room.ensures.same) ∙ c.requires.free;
+  single = c.self.invariant;
 }
 
 pub returns-in_err-insert-clause-err : goal.returns-in_err-insert-clause-err

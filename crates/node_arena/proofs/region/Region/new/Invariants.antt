@@ -1,6 +1,6 @@
 use Rattle.std.specs.Mem.{type_size}
 use denote.Param.{param}
-use Rattle.node_arena.specs.contracts.region.Node as node
+use Rattle.node_arena.specs.contracts.region.ArenaNode as node
 use Rattle.node_arena.proofs.Filling.{AreFresh}
 use Rattle.node_arena.proofs.region.Region.new.Given as goal
 

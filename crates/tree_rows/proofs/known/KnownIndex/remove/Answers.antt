@@ -15,5 +15,5 @@ invariant_of-self c =
     let there : was.0 c.args.dir c.args.name.now ≡ Some c.args.number = sym (c.in-Some.ensures.number was.0 was.1 was.2) ∙ ap Some same in (
       removed was.0 c.args.dir c.args.name.now,
       c.remove.ensures.removed was.0 was.1 there,
-      known-removed was.0 c.self.inside.known new was.2 c.args.dir c.args.name.now c.args.number was.1.apart there c.remove-2.ensures.updates.0,
+      known-removed was.0 c.self.inside.known new was.2 c.args.dir c.args.name.now c.args.number was.1.places.apart there c.remove-2.ensures.updates.0,
     )

@@ -2,8 +2,8 @@
 use Rattle.std.proofs.Common.{List, sym, subst}
 use Rattle.fuse_wire.specs.declared.request.Request.{Request}
 use Rattle.journal.specs.declared.receipt.Receipt.{Receipt}
-use Rattle.workers.specs.Shift.{Goes}
-use Rattle.workers.specs.declared.channel.Taken.TheVariants as took
+use Rattle.workers.specs.Endings.{Goes}
+use Rattle.workers.specs.declared.channel.NextAsk.TheVariants as took
 use Rattle.workers.proofs.Turning.{goes_after, turned_well}
 use Rattle.workers.proofs.worker.Worker.serve.Goals as goal
 

@@ -1,0 +1,12 @@
+-- The mount was kept, and its streams held what they held before.
+use Rattle.std.proofs.Common.{ℕ, List, Option, subst, sym}
+use Rattle.std.specs.Io.KnownBytes.{Keeps}
+use Rattle.edend.proofs.CommandLemmas.{runs_over}
+use Rattle.edend.proofs.commands.keep.Goals as goal
+
+pub returns : goal.returns
+returns g c =
+    let input = g.P.Sources.input_bytes c.args.process.now in
+    let file = g.P.Sources.file_bytes c.args.process.now in
+    let kept = subst (λ (known : Option (List ℕ)). Keeps (g.P.Process.errors_bytes c.args.process.now) known) (sym c.write_behind-refused.ensures.same) c.errors-errors.ensures.bytes in
+    runs_over _ input file c.mount-out.result.ended _ _ _ _ _ _ _ _ _ (c.mount-out.ensures input file) c.output.ensures.bytes kept c.end_ungathered.ensures.ends

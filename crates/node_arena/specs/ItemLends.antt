@@ -1,9 +1,0 @@
--- What a node's content ends as, once a `&mut` to its value has ended.
-use Rattle.std.specs.Borrow.{Fml, RattleType, MutBor, Lends}
-use Rattle.node_arena.specs.Item.{item_with}
-use Rattle.node_arena.specs.declared.item.Item.{Item}
-use Rattle.node_arena.specs.contracts.item.Item.{the_row}
-
--- the content ends with the last value written through r
-abbrev pub lends_value : (R : RattleType) → MutBor (Item R.Denot) → MutBor R.Denot → Fml
-lends_value R it r = Lends (the_row R) R it r (λ w. item_with it.now w)
