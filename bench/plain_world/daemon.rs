@@ -36,7 +36,7 @@ pub enum Message {
 /// What a daemon makes of a message.
 pub enum Reaction {
     Ignores,
-    Heeds,
+    Accepts,
     Says(Vec<Message>),
 }
 
@@ -134,7 +134,7 @@ impl<'a> Daemon<'a> {
         match self.phase {
             Phase::Waiting | Phase::Chosen { .. } | Phase::Reading { .. } => {
                 self.end();
-                Reaction::Heeds
+                Reaction::Accepts
             }
             Phase::Draining { generation, session, .. } | Phase::Pinged { generation, session, .. } => {
                 self.phase = Phase::Serving { generation };
@@ -202,7 +202,7 @@ impl<'a> Daemon<'a> {
             }
             _ => return Reaction::Ignores,
         }
-        Reaction::Heeds
+        Reaction::Accepts
     }
 
     /// Makes the image of what is served, and says it whole or in parts. Where it can't be written, serves on.
@@ -237,7 +237,7 @@ impl<'a> Daemon<'a> {
         self.heard.extend_from_slice(bytes);
         if position < count {
             self.phase = Phase::Reading { session, generation, position: position + 1, count };
-            return Reaction::Heeds;
+            return Reaction::Accepts;
         }
         let text = std::mem::take(&mut self.heard);
         self.restore(manifest, limit, session, generation, &text)
@@ -249,7 +249,7 @@ impl<'a> Daemon<'a> {
             Some(served) => {
                 self.phase = Phase::Holding { generation };
                 self.server = Some(Server::new(generation, served));
-                Reaction::Heeds
+                Reaction::Accepts
             }
             None => {
                 self.end();

@@ -137,7 +137,7 @@ impl<'a> World<'a> {
     fn say(&mut self, reaction: Reaction) -> Happened {
         match reaction {
             Reaction::Ignores => Happened::Ignored,
-            Reaction::Heeds => Happened::Heard,
+            Reaction::Accepts => Happened::Heard,
             Reaction::Says(messages) => {
                 let at = self.said.len() + 1;
                 self.said.extend(messages);

@@ -37,7 +37,7 @@ def ends_within_a_second(room, daemon, lines, others=0):
 
 @row
 def an_idle_daemon_is_closed(room):
-    """A daemon ends with its standard input, of which it heeds no byte. The mount is over, and the next daemon mounts."""
+    """A daemon ends with its standard input, whose bytes change nothing. The mount is over, and the next daemon mounts."""
     broker = room.broker("seat 1", "ask lookup 1 src", "seat 2", "ask getattr 2", "ask lookup 1 src")
     daemon = mounted(room)
     broker.printed(2)
@@ -142,7 +142,7 @@ def standard_input_may_have_ended_before(room):
 
 @row
 def a_closed_standard_input_changes_nothing_else(room):
-    """A daemon that isn't to run until its standard input ends heeds no end of it, and one that is ends by itself too."""
+    """A daemon that isn't to run until its standard input ends ignores its end, and one that is ends by itself too."""
     broker = room.broker("seat 1", "seat 2", "ask getattr 1")
     first = room.mount(**UNTIL_CLOSED)
     first.child.stdin.close()

@@ -61,7 +61,7 @@ def a_daemon_has_two_workers(room):
 
 @row
 def words_of_a_daemon_come_in_any_order(room):
-    """Options may stand between a daemon's words and behind them: each is heeded."""
+    """Options may stand between a daemon's words and behind them: each has its effect."""
     words = ["daemon", "b", "--workers", "16", "t", "--limit=65536", "m", "--patience", "600000"]
     words += ["--until-closed", "--mount"]
     daemon, first = attached(room, f"{room.path}/b", 16, lambda: room.run(*words, stdin=subprocess.PIPE))

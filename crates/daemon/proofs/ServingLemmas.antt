@@ -1,10 +1,9 @@
 -- What a daemon's calls did, by the first fault.
-use Rattle.std.proofs.Common.{◌≡◌, ℕ, ◌+◌, ◌<◌, Bool, List, [], ◌∷◌, ◌++◌, length, Option, Some, None, get_or, refl, sym, ap, ◌∙◌, subst}
-use Rattle.std.proofs.lemmas.List.{append-nil, map-append, take_more}
+use Rattle.std.proofs.Common.{◌≡◌, ℕ, ◌+◌, Bool, List, [], ◌∷◌, ◌++◌, length, Option, Some, None, get_or, refl, sym, ap, ◌∙◌, subst}
+use Rattle.std.proofs.lemmas.List.{append-nil}
 use Rattle.std.proofs.lemmas.Option.{slice_get_read}
 use Rattle.std.specs.Prelude.{remove, map, take, true, false, ◌||◌, is_some, if◌then◌else◌}
 use Rattle.std.specs.List.{AllByRecursion}
-use Rattle.eden_base.specs.declared.number.DaemonId.{DaemonId}
 use Rattle.fuse_wire.specs.Request.{is_ask, item_of, items_of}
 use Rattle.fuse_wire.specs.declared.request.Ask.{Ask}
 use Rattle.fuse_wire.specs.declared.item.Item.{Item}
@@ -13,13 +12,11 @@ use Rattle.fuse_wire.specs.declared.request.Request.{Request}
 use Rattle.fuse_ops.proofs.Asking.{asks-ask}
 use Rattle.fuse_ops.specs.Served.{ServedState, Replay}
 use Rattle.fuse_wire.specs.declared.reply.Reply.{Reply}
-use Rattle.broker_core.specs.Broker.{BrokerState, post_fault}
 use Rattle.daemon.specs.Server.{ServerState, at_position, without_position, single, is_single, handed, told_item}
-use Rattle.daemon.specs.Serving.{IsIndex, HasNone, FailsSo, WorksBy, WorksOff, PostsBy, PostsReply}
+use Rattle.daemon.specs.Serving.{IsIndex, FailsSo, WorksBy, WorksOff}
 use Rattle.daemon.specs.declared.happened.Happened.{Happened}
-use Rattle.daemon.specs.declared.happened.Happened.TheVariants.{Refused, Made}
-use Rattle.daemon.specs.declared.happened.Refusal.TheVariants.{NoSuch}
-use Rattle.daemon.proofs.Positions.{at-none, at-index}
+use Rattle.daemon.specs.declared.happened.Happened.TheVariants.{Made}
+use Rattle.daemon.proofs.Positions.{at-index}
 
 -- a member that was read at an index is at the index's position
 pub at-read : {X : Type 0} (xs : List X) (position index : ℕ) (x : X) → IsIndex (length xs) position index → x ≡ get_or xs index x → at_position xs position ≡ Some x
@@ -29,29 +26,11 @@ at-read xs position index x at read = at-index xs position index at ∙ slice_ge
 pub without-index : {X : Type 0} (xs : List X) (count position index : ℕ) → IsIndex count position index → remove xs index ≡ without_position xs position
 without-index xs count position index at = ap (λ (i : ℕ). remove xs i) at.is
 
--- no member of the hand is at the position, so the work is refused
-pub WorksBy-none : (s : ServerState) (position : ℕ) (fails : Bool) (told : Happened) → HasNone (length s.hand) position → told ≡ Refused NoSuch →
-    WorksBy (at_position s.hand position) s position fails told s
-WorksBy-none s position fails told none tells = subst (λ (o : Option Ask). WorksBy o s position fails told s) (sym (at-none s.hand position none)) (record { tells = tells; same = refl })
-
 -- the member of the hand at the position was worked
 pub WorksBy-some : (s n : ServerState) (position : ℕ) (fails : Bool) (index : ℕ) (task : Ask) (told : Happened) → IsIndex (length s.hand) position index → task ≡ get_or s.hand index task →
     WorksOff s position fails task told n → WorksBy (at_position s.hand position) s position fails told n
 WorksBy-some s n position fails index task told at read works =
     subst (λ (o : Option Ask). WorksBy o s position fails told n) (sym (at-read s.hand position index task at read)) works
-
--- no unposted reply is at the position, so the post is refused
-pub PostsBy-none : (s : ServerState) (broker : BrokerState) (d : DaemonId) (position : ℕ) (told : Happened) → HasNone (length s.unposted) position → told ≡ Refused NoSuch →
-    PostsBy (at_position s.unposted position) s broker d position told s broker
-PostsBy-none s broker d position told none tells =
-    subst (λ (o : Option Reply). PostsBy o s broker d position told s broker) (sym (at-none s.unposted position none)) (record { tells = tells; same = refl; same_broker = refl })
-
--- the unposted reply at the position was posted, or refused
-pub PostsBy-some : (s n : ServerState) (broker left : BrokerState) (d : DaemonId) (position index : ℕ) (reply : Reply) (told : Happened) →
-    IsIndex (length s.unposted) position index → reply ≡ get_or s.unposted index reply → PostsReply (post_fault broker d s.generation reply) s broker position reply told n left →
-    PostsBy (at_position s.unposted position) s broker d position told n left
-PostsBy-some s n broker left d position index reply told at read posts =
-    subst (λ (o : Option Reply). PostsBy o s broker d position told n left) (sym (at-read s.unposted position index reply at read)) posts
 
 -- ---- what was worked
 
@@ -94,10 +73,6 @@ WorksOff-answers old count position index fails task answer given later hand bef
   tells = refl;
   makes = worked-fields old later hand _ unposted _ (left ∙ without-index old.hand count position index at) (pushed ∙ ap (λ (rs : List Reply). rs ++ record { unique = task.unique; answer = answer } ∷ []) same);
 }
-
--- the first items, each by itself, with one item more
-pub singles-more : (items : List Item) (i : ℕ) (d : Item) → i < length items → map single (take (i + 1) items) ≡ map single (take i items) ++ single (get_or items i d) ∷ []
-singles-more items i d within = ap (map single) (take_more items i d within) ∙ map-append single (take i items) (get_or items i d ∷ [])
 
 -- ---- what is in hand
 

@@ -5,7 +5,7 @@ use Rattle.takeover_core.specs.declared.message.Message.{Message}
 use Rattle.daemon.specs.Daemon.{DaemonState, read_in}
 use Rattle.daemon.specs.Server.{ServerState}
 use Rattle.daemon.specs.declared.turn.Reaction.{Reaction}
-use Rattle.daemon.specs.declared.turn.Reaction.TheVariants.{Heeds, Says}
+use Rattle.daemon.specs.declared.turn.Reaction.TheVariants.{Accepts, Says}
 
 -- the messages that a reaction says, in order
 abbrev pub what_is_said : Reaction → List Message
@@ -15,7 +15,7 @@ what_is_said reaction = []
 -- the reaction that says the message, if there is one, and else the reaction that says nothing
 abbrev pub of_said : Option Message → Reaction
 of_said (Some said) = Says said []
-of_said None = Heeds
+of_said None = Accepts
 
 -- what a daemon becomes by a message: its part in takeovers; what it holds, if it took data over; and its reaction
 pub record TurnState : Type 0 where

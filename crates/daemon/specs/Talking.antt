@@ -25,7 +25,7 @@ use Rattle.daemon.specs.Serving.{beginning}
 use Rattle.daemon.specs.declared.turn.Effect.{Effect}
 use Rattle.daemon.specs.declared.turn.Effect.TheVariants as effect
 use Rattle.daemon.specs.declared.turn.Reaction.{Reaction}
-use Rattle.daemon.specs.declared.turn.Reaction.TheVariants.{Ignores, Heeds, Says}
+use Rattle.daemon.specs.declared.turn.Reaction.TheVariants.{Ignores, Accepts, Says}
 
 -- ---- the data is made
 
@@ -99,7 +99,7 @@ pub record TakesOver (old : DaemonState) (manifest : Manifest) (limit : ℕ) (by
     (generation : ℕ) (reaction : Reaction) (new : DaemonState) : Type 0 where
   pub served : ServedState
   pub taken : IsTakenOver manifest limit generation bytes served
-  pub reacts : reaction ≡ Heeds
+  pub reacts : reaction ≡ Accepts
   pub becomes : new ≡ record {
     node = table.after node (table.Raised true);
     server = Some (beginning generation served);
@@ -134,7 +134,7 @@ read_before position old = if position == 1 then [] else unwrap_or old.reading [
 -- a daemon keeps what it read, and waits for the next part
 pub record ReadsOn (old : DaemonState) (node : NodeState) (read : List ℕ) (reaction : Reaction)
     (new : DaemonState) : Type 0 where
-  pub reacts : reaction ≡ Heeds
+  pub reacts : reaction ≡ Accepts
   pub becomes : new ≡ record old { node = table.after node (table.Fed true); reading = Some read }
 
 -- no image begins with what was read, and the daemon is gone
@@ -174,7 +174,7 @@ pub record Turns (old : DaemonState) (node : NodeState) (is reaction : Reaction)
 -- what a daemon makes of a table's answer that brings no data
 abbrev pub TurnsBy : DaemonState → NodeState → Answer → Reaction → DaemonState → Type 0
 TurnsBy old node answer.Ignored reaction new = Turns old node Ignores reaction new
-TurnsBy old node answer.Heard reaction new = Turns old node Heeds reaction new
+TurnsBy old node answer.Heard reaction new = Turns old node Accepts reaction new
 TurnsBy old node (answer.Say said) reaction new = Turns old node (Says said []) reaction new
 TurnsBy old node other reaction new = ⊥
 

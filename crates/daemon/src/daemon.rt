@@ -215,6 +215,7 @@ impl Daemon {
         ensures at_most_one { makes_parts (heard self.now.node (Hear message.now)) ≡ false
             → IfOk result (λ effect. length (said_by effect) ≤ 1) }
         ensures memory { OnErr result (IsTrue (brings_data (heard self.now.node (Hear message.now)))) }
+        ensures no_part { OnErr result (brings_part (heard self.now.node (Hear message.now)) ≡ false) }
     {
         let restorer = Restorer {
             alloc,
@@ -225,7 +226,7 @@ impl Daemon {
         let mut node = self.node.copy();
         match node.hear(message) {
             Heard::Ignored => Ok(Effect::Turn(Turn::to(node, Reaction::Ignores))),
-            Heard::Heard => Ok(Effect::Turn(Turn::to(node, Reaction::Heeds))),
+            Heard::Heard => Ok(Effect::Turn(Turn::to(node, Reaction::Accepts))),
             Heard::Say(said) => Ok(Effect::Turn(Turn::to(node, Reaction::saying(Some(said))))),
             Heard::MakeData {
                 session,
@@ -396,7 +397,7 @@ impl Daemon {
         drop(self.reading.take());
         match self.node.give_up() {
             Heard::Ignored => Reaction::Ignores,
-            Heard::Heard => Reaction::Heeds,
+            Heard::Heard => Reaction::Accepts,
             Heard::Say(said) => Reaction::Says(said, Messages::none()),
             Heard::MakeData { .. } | Heard::GotData { .. } | Heard::GotPart { .. } =>
                 unreachable!(),

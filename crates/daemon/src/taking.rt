@@ -175,7 +175,7 @@ impl<'a> Restorer<'a> {
 /// Returns the turn of a daemon that holds `server`, which was restored, until it claims the seat.
 fn hold(node: Node, server: Server) -> Turn
     requires raising { IsTrue (is_raising node.phase) }
-    ensures holds { result ≡ record { node = after node (Raised true); held = Some server; reaction = Reaction.Heeds } }
+    ensures holds { result ≡ record { node = after node (Raised true); held = Some server; reaction = Reaction.Accepts } }
     ensures at_most_one { length (what_is_said result.reaction) ≤ 1 }
 {
     let mut node = node;

@@ -13,7 +13,7 @@ pub enum Reaction {
     /// The message or call is not for this phase or session, and changes nothing.
     Ignores,
     /// The message or call is taken in, and the daemon says nothing.
-    Heeds,
+    Accepts,
     /// The daemon says this message, and then the others.
     Says(Message, Messages),
 }
@@ -26,7 +26,7 @@ impl Reaction {
     {
         match said {
             Some(said) => Reaction::Says(said, Messages::none()),
-            None => Reaction::Heeds,
+            None => Reaction::Accepts,
         }
     }
 }
@@ -83,12 +83,12 @@ impl Turn {
     /// Returns a turn to `node` as the daemon's part in takeovers. From then on the daemon holds `held`, which it took
     /// over.
     pub(crate) fn holding(node: Node, held: Server) -> Turn
-        ensures holding { result ≡ record { node = node; held = Some held; reaction = Reaction.Heeds } }
+        ensures holding { result ≡ record { node = node; held = Some held; reaction = Reaction.Accepts } }
     {
         Turn {
             node,
             held: Some(held),
-            reaction: Reaction::Heeds,
+            reaction: Reaction::Accepts,
         }
     }
 
@@ -111,7 +111,7 @@ impl Turn {
     {
         match &self.reaction {
             Reaction::Says(_, others) => others.len() + 1,
-            Reaction::Ignores | Reaction::Heeds => 0,
+            Reaction::Ignores | Reaction::Accepts => 0,
         }
     }
 }

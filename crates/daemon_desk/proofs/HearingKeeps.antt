@@ -56,9 +56,6 @@ there_unknown : (is_lent : Bool) (old new : DaemonState) (node : NodeState) → 
 there_unknown is_lent old new node keeps none = λ later own.
     absurd (not_both _ (ap (λ (n : NodeState). knows n.phase) (sym keeps.node_is) ∙ later) none)
 
-there_held : (is_lent : Bool) (new : DaemonState) (server : ServerState) → new.server ≡ Some server → IsThere is_lent new
-there_held is_lent new server held = λ later own. subst IsSome (sym held) refl
-
 -- what is served stays at the seat's generation, if the seat stays
 pub seat_still : (old new : DaemonState) (node : NodeState) → Keeps old node new → ((g : ℕ) → seat_of node.phase ≡ Some g → seat_of old.node.phase ≡ Some g) → IsAtSeat old → IsAtSeat new
 seat_still old new node keeps stays at = λ g seat.

@@ -2,7 +2,7 @@
 use Rattle.std.proofs.Common.{◌≡◌, ℕ, true, false, List, Some, Ok, Err, arith, rules}
 use Rattle.eden_base.specs.declared.claim.ClaimFault.TheVariants.{Unanswered}
 use Rattle.takeover_core.specs.Histories.{seat_of, is_given}
-use Rattle.takeover_core.specs.Phases.{Event, Mounted, Hear, Fed, Drained, DataMade, PartsMade, Claimed, is_holding, phase_after}
+use Rattle.takeover_core.specs.Phases.{Event, Mounted, Hear, Fed, Drained, DataMade, PartsMade, Claimed, phase_after}
 use Rattle.takeover_core.specs.declared.message.Message.TheVariants.{Offer, Choice, Ready, Pong, Data, Part, Failed}
 use Rattle.takeover_core.specs.declared.phase.Phase.{Phase}
 use Rattle.takeover_core.specs.declared.phase.Phase.TheVariants.{Waiting, Chosen, Taking, Reading, Holding, Serving, Draining, Pinged, Making, Handed}
@@ -45,7 +45,3 @@ taking_is_seat phase g taking = grind rules
 -- a daemon that mounts serves at the generation of the mount
 pub mounted_phase : (versions : List ℕ) (sessions : ℕ) (phase : Phase) (g : ℕ) → is_waiting_in phase ≡ true → phase_after (node_of versions sessions phase) (Mounted g) ≡ Serving g
 mounted_phase versions sessions phase g waits = grind rules
-
--- a daemon whose claim succeeds serves at the generation that it claimed
-pub claimed_phase : (versions : List ℕ) (sessions : ℕ) (phase : Phase) (g : ℕ) → is_holding phase ≡ true → phase_after (node_of versions sessions phase) (Claimed (Ok g)) ≡ Serving g
-claimed_phase versions sessions phase g holds = grind rules

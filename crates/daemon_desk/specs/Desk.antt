@@ -58,7 +58,7 @@ with_daemon desk daemon = record desk { daemon = daemon }
 -- the hearing of a daemon's reaction: all that the daemon says, each message as a frame
 abbrev pub IsTold : Reaction → Hearing → Type 0
 IsTold reaction.Ignores what = what ≡ hearing.Ignores
-IsTold reaction.Heeds what = what ≡ hearing.Heeds
+IsTold reaction.Accepts what = what ≡ hearing.Accepts
 IsTold (reaction.Says said others) what = what ≡ hearing.Tells (map frame.Takeover (said ∷ others))
 
 -- the daemon hears a message of another daemon
@@ -212,7 +212,7 @@ ready_of desk = ready_in desk.is_lent desk.daemon.node.phase
 -- the frame of a reaction that says one message at most
 abbrev pub IsSaid : Reaction → Option Frame → Type 0
 IsSaid reaction.Ignores told = told ≡ None
-IsSaid reaction.Heeds told = told ≡ None
+IsSaid reaction.Accepts told = told ≡ None
 IsSaid (reaction.Says said []) told = told ≡ Some (frame.Takeover said)
 IsSaid (reaction.Says said (other ∷ others)) told = ⊥
 

@@ -7,7 +7,7 @@ pub enum Hearing {
     /// The daemon answers the other daemon with these frames, in order.
     Tells(FrameList),
     /// The frame is taken in, and has no answer.
-    Heeds,
+    Accepts,
     /// The frame is not for this phase or session, and changes nothing.
     Ignores,
     /// No daemon sends such a frame: the connection is closed.

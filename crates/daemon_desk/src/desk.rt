@@ -362,7 +362,7 @@ fn hearing_of(reaction: Reaction) -> Hearing
 {
     match reaction {
         Reaction::Ignores => Hearing::Ignores,
-        Reaction::Heeds => Hearing::Heeds,
+        Reaction::Accepts => Hearing::Accepts,
         Reaction::Says(said, others) => Hearing::Tells(FrameList::of(said, others)),
     }
 }
@@ -373,7 +373,7 @@ fn frame_of(reaction: Reaction) -> Option<Frame>
     ensures said { IsSaid reaction result }
 {
     match reaction {
-        Reaction::Ignores | Reaction::Heeds => None,
+        Reaction::Ignores | Reaction::Accepts => None,
         Reaction::Says(said, others) => {
             drop(others);
             Some(Frame::Takeover(said))

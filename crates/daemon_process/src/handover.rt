@@ -128,7 +128,7 @@ impl<R: Wait + Clock> HandoverLoop<'_, R> {
                     return Course::Fails(TakeoverFault::Unsent(awaited));
                 }
             }
-            Hearing::Heeds | Hearing::Ignores => {}
+            Hearing::Accepts | Hearing::Ignores => {}
             Hearing::Closes => return Course::Fails(TakeoverFault::Unreadable(awaited)),
             Hearing::NoMemory => return Course::Fails(TakeoverFault::NoMemory),
         }

@@ -156,7 +156,7 @@ impl<R: Wait + Clock> DaemonContext<'_, R> {
                     return Err(TakeoverFault::Unsent(AwaitedMessage::Data));
                 }
             }
-            Hearing::Heeds | Hearing::Ignores => {}
+            Hearing::Accepts | Hearing::Ignores => {}
             Hearing::Closes => {
                 let awaited = awaited_in(progress.is_ponged, shared.phase(rt));
                 return Err(TakeoverFault::Unreadable(awaited));

@@ -1,12 +1,12 @@
 -- An index of places, and what it is an index of.
 use Rattle.std.proofs.Common.{◌≡◌, ℕ, Bool, true, false, List, Option, Some, None, if◌then◌else◌, refl, sym, ap, subst, ◌∙◌, inl, inr, ◌⊎◌}
-use Rattle.eden_base.proofs.NumberTests.{eq-true, true-eq}
+use Rattle.eden_base.proofs.NumberTests.{eq-true}
 use Rattle.directory_index.proofs.Naming.{names-alike_of, names-inserted}
-use Rattle.directory_index.proofs.Standings.{inserted-apart, inserted-here, inserted-still, inserted-was, moved, place-or, removed-apart, removed-was}
+use Rattle.directory_index.proofs.Standings.{inserted-here, inserted-still, inserted-was, moved, place-or, removed-apart, removed-was}
 use Rattle.directory_index.specs.Keys.{key_of}
 use Rattle.directory_index.specs.Names.{AreNamesOf}
 use Rattle.directory_index.specs.PlaceIndex.{is_latest, AddsLatest, ArePlacesOf, IsAdded}
-use Rattle.directory_index.specs.Standing.{inserted, is_place, removed, AreApart, Standing, StandsNowhere}
+use Rattle.directory_index.specs.Standing.{inserted, is_place, removed, AreApart, Standing}
 use Rattle.directory_index.specs.declared.link.Link.{Link}
 use Rattle.directory_index.specs.declared.place_index.PlaceIndex.{PlaceIndex}
 
@@ -46,49 +46,6 @@ stood-below at below index dir name number is other stood = in_ (stands-either b
   in_ : (below dir name ≡ Some number) ⊎ ((link : Link) × (index.latest ≡ Some link) × (link.number ≡ number) × (link.dir ≡ dir) × (link.key ≡ key_of dir name)) → below dir name ≡ Some number
   in_ (inl e) = e
   in_ (inr w) = let t : is_latest index.latest number ≡ true = ap (λ o. is_latest o number) w.1 ∙ eq-true w.0.number number w.2 in absurd (let no : ⊥ = cc in no)
-
--- a number was inserted
-pub places-inserted : (at below : Standing) (old new : PlaceIndex) (dir : ℕ) (name : List ℕ) (number : ℕ) (link : Link) → ArePlacesOf at below old → old.latest ≡ None →
-    link.dir ≡ dir → link.key ≡ key_of dir name → link.number ≡ number →
-    new.names ≡ old.names → new.latest ≡ Some link → at dir name ≡ None → StandsNowhere at number → ArePlacesOf (inserted at dir name number) below new
-places-inserted at below old new dir name number link is none its_dir its_key its_number names latest free fresh =
-    let same : (d : ℕ) (q : List ℕ) → at d q ≡ below d q = subst (λ (o : Option Link). AddsLatest below o at) none is.latest in
-    let adds : AddsLatest below (Some link) (inserted at dir name number) = (
-      name,
-      ap (λ (d : ℕ). key_of d name) its_dir ∙ sym its_key,
-      ap (λ (d : ℕ). below d name) its_dir ∙ sym (same dir name) ∙ free,
-      λ d q e. fresh d q (same d q ∙ e ∙ ap Some its_number),
-      λ d q. ap (λ (x : Option ℕ). if is_place d q dir name then Some number else x) (same d q)
-          ∙ ap (λ (x : ℕ). inserted below x name number d q) (sym its_dir) ∙ ap (λ (m : ℕ). inserted below link.dir name m d q) (sym its_number),
-    ) in
-    record {
-      names = subst (AreNamesOf below) (sym names) is.names;
-      latest = subst (λ (o : Option Link). AddsLatest below o (inserted at dir name number)) (sym latest) adds;
-      apart = inserted-apart at dir name number fresh is.apart;
-    }
-
--- the number that was inserted last was removed
-pub places-unlatest : (at below : Standing) (old new : PlaceIndex) (dir : ℕ) (name : List ℕ) (number : ℕ) → ArePlacesOf at below old → is_latest old.latest number ≡ true →
-    new.names ≡ old.names → new.latest ≡ None → at dir name ≡ Some number → ArePlacesOf (removed at dir name) below new
-places-unlatest at below old new dir name number is mine names none stood = in_ old.latest refl is.latest mine where
-  in_ : (o : Option Link) → old.latest ≡ o → AddsLatest below o at → is_latest o number ≡ true → ArePlacesOf (removed at dir name) below new
-  in_ None e adds t = absurd (let no : ⊥ = cc in no)
-  in_ (Some link) e adds t =
-      let its : link.number ≡ number = true-eq link.number number t in
-      let p = is.apart link.dir dir adds.0 name number (latest-stands below at link adds ∙ ap Some its) stood in
-      let without : (d : ℕ) (q : List ℕ) → removed at dir name d q ≡ below d q = λ d q. gone d q adds p (place-or d q dir name) in
-      record {
-        names = subst (AreNamesOf below) (sym names) is.names;
-        latest = subst (λ (l : Option Link). AddsLatest below l (removed at dir name)) (sym none) without;
-        apart = removed-apart at dir name number is.apart;
-      } where
-        gone : (d : ℕ) (q : List ℕ) → (a : AddsLatest below (Some link) at) → (link.dir ≡ dir) × (a.0 ≡ name) →
-            ((is_place d q dir name ≡ true) × ((d ≡ dir) × (q ≡ name))) ⊎ ((is_place d q dir name ≡ false) × ((d ≡ dir) → (q ≡ name) → ⊥)) → removed at dir name d q ≡ below d q
-        gone d q a s (inl w) = rw w.0 (sym (moved below d link.dir q a.0 (w.1.0 ∙ sym s.0) (w.1.1 ∙ sym s.1) ∙ a.2))
-        gone d q a s (inr w) =
-            let other : is_place d q link.dir a.0 ≡ false = ap (λ (x : ℕ). is_place d q x a.0) s.0 ∙ ap (is_place d q dir) s.1 ∙ w.0 in
-            let at_is : inserted below link.dir a.0 link.number d q ≡ below d q = rw other refl in
-            rw w.0 (a.4 d q ∙ at_is)
 
 -- another number was removed
 pub places-removed : (at below : Standing) (old new : PlaceIndex) (dir : ℕ) (name : List ℕ) (number : ℕ) → (is : ArePlacesOf at below old) → is_latest old.latest number ≡ false →

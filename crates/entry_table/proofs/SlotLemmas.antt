@@ -27,10 +27,6 @@ at-other m n d = sym (unsigned_ties n m) ∙ eq-false n m (λ e. d (sym e))
 abbrev pub slot_held : Option (Option Entry) → Option Entry
 slot_held o = option_and_then (λ (s : Option Entry). s) o
 
-pub slots-bound : (es : List (ℕ × Option Entry)) (low next : ℕ) → AreSlots low next es → low ≤ next
-slots-bound [] low next are = are
-slots-bound ((m, o) ∷ es) low next are = let a : low ≤ m = are.0 in let b : m + 1 ≤ next = slots-bound es (m + 1) next are.1 in omega arith
-
 pub slots-lower : (es : List (ℕ × Option Entry)) (low high next : ℕ) → low ≤ high → AreSlots high next es → AreSlots low next es
 slots-lower [] low high next le are = let a : high ≤ next = are in omega arith
 slots-lower ((m, o) ∷ es) low high next le are = let a : high ≤ m = are.0 in (omega arith, are.1)

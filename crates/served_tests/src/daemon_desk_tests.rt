@@ -21,7 +21,7 @@ static TAKEN_OVER: [Step; 33] = [
     Offers(1),
     Lends(0, true),
     Hears(0, DeskReaction::Choice(1, 1)),
-    Hears(1, DeskReaction::Heeds),
+    Hears(1, DeskReaction::Accepts),
     Serves(0, Some(1)),
     Readies(0, DeskReaction::Nothing),
     Returns(0),
@@ -34,7 +34,7 @@ static TAKEN_OVER: [Step; 33] = [
     Hears(0, DeskReaction::Data(1, 1)),
     Wants(0, None),
     Wants(1, None),
-    Hears(1, DeskReaction::Heeds),
+    Hears(1, DeskReaction::Accepts),
     Wants(1, Some(1)),
     Serves(1, None),
     Claims(1, Says::Claimed(2), Claiming::Serves(2)),
@@ -82,11 +82,11 @@ static REFUSED: [Step; 12] = [
     MOUNTS,
     Sent(0, Says::Offer(2), DeskReaction::NoCommon),
     Serves(0, Some(1)),
-    Sent(1, Says::NoCommon, DeskReaction::Heeds),
+    Sent(1, Says::NoCommon, DeskReaction::Accepts),
     Sent(1, Says::Choice(1, 1), DeskReaction::Ignores),
     Sent(0, Says::Offer(1), DeskReaction::Choice(1, 1)),
     Sent(0, Says::Offer(1), DeskReaction::Busy),
-    Sent(2, Says::Busy, DeskReaction::Heeds),
+    Sent(2, Says::Busy, DeskReaction::Accepts),
     Sent(2, Says::Choice(1, 1), DeskReaction::Ignores),
     GivesUp(2, DeskReaction::Nothing),
     Readies(0, DeskReaction::Ready(1, 1)),
@@ -128,11 +128,11 @@ static LEFT_EARLY: [Step; 21] = [
     LooksUp(0, 2),
     Offers(1),
     Hears(0, DeskReaction::Choice(2, 1)),
-    Hears(1, DeskReaction::Heeds),
+    Hears(1, DeskReaction::Accepts),
     Readies(0, DeskReaction::Ready(2, 1)),
     Sent(0, Says::Pong(1), DeskReaction::Ignores),
     Hears(1, DeskReaction::Pong(2)),
-    Sent(0, Says::Failed(2), DeskReaction::Heeds),
+    Sent(0, Says::Failed(2), DeskReaction::Accepts),
     Sent(0, Says::Pong(2), DeskReaction::Ignores),
     Wants(0, None),
     LooksUp(0, 2),
@@ -149,7 +149,7 @@ static LEFT_LATE: [Step; 25] = [
     LooksUp(0, 2),
     Offers(1),
     Hears(0, DeskReaction::Choice(1, 1)),
-    Hears(1, DeskReaction::Heeds),
+    Hears(1, DeskReaction::Accepts),
     Readies(0, DeskReaction::Ready(1, 1)),
     Hears(1, DeskReaction::Pong(1)),
     Hears(0, DeskReaction::Data(1, 1)),
@@ -182,14 +182,14 @@ static HANDED: [Step; 8] = [
     MOUNTS,
     Offers(1),
     Hears(0, DeskReaction::Choice(1, 1)),
-    Hears(1, DeskReaction::Heeds),
+    Hears(1, DeskReaction::Accepts),
     Readies(0, DeskReaction::Ready(1, 1)),
     Hears(1, DeskReaction::Pong(1)),
     Hears(0, DeskReaction::Data(1, 1)),
 ];
 
 static ENDED: [Step; 5] = [
-    Hears(1, DeskReaction::Heeds),
+    Hears(1, DeskReaction::Accepts),
     Wants(1, Some(1)),
     Claims(1, Says::Ended, Claiming::Ended),
     Wants(1, None),
@@ -197,7 +197,7 @@ static ENDED: [Step; 5] = [
 ];
 
 static AT_THE_LAST: [Step; 4] = [
-    Hears(1, DeskReaction::Heeds),
+    Hears(1, DeskReaction::Accepts),
     Claims(1, Says::LastGeneration, Claiming::LastGeneration),
     Wants(1, None),
     Serves(1, None),
@@ -205,7 +205,7 @@ static AT_THE_LAST: [Step; 4] = [
 
 static LATE: [Step; 4] = [
     Hears(2, DeskReaction::Ignores),
-    Sent(1, Says::Failed(1), DeskReaction::Heeds),
+    Sent(1, Says::Failed(1), DeskReaction::Accepts),
     Hears(1, DeskReaction::Ignores),
     Wants(1, None),
 ];
@@ -242,19 +242,19 @@ static BEGUN_IN_PARTS: [Step; 13] = [
     LooksUpEach(0, 2),
     Offers(1),
     Hears(0, DeskReaction::Choice(1, 2)),
-    Hears(1, DeskReaction::Heeds),
+    Hears(1, DeskReaction::Accepts),
     Readies(0, DeskReaction::Ready(1, 1)),
     Hears(1, DeskReaction::Pong(1)),
     Hears(0, DeskReaction::Part(1, 1, 1, 2)),
     Serves(0, None),
-    Hears(1, DeskReaction::Heeds),
+    Hears(1, DeskReaction::Accepts),
     Hears(1, DeskReaction::Ignores),
     Wants(1, None),
 ];
 
 static READ_TO_THE_END: [Step; 12] = [
     Next(DeskReaction::Part(1, 1, 2, 2)),
-    Hears(1, DeskReaction::Heeds),
+    Hears(1, DeskReaction::Accepts),
     Hears(1, DeskReaction::Ignores),
     Next(DeskReaction::Nothing),
     Wants(1, Some(1)),
@@ -269,7 +269,7 @@ static READ_TO_THE_END: [Step; 12] = [
 
 static LEFT_BETWEEN_PARTS: [Step; 9] = [
     Sent(1, Says::Failed(2), DeskReaction::Ignores),
-    Sent(1, Says::Failed(1), DeskReaction::Heeds),
+    Sent(1, Says::Failed(1), DeskReaction::Accepts),
     Next(DeskReaction::Part(1, 1, 2, 2)),
     Hears(1, DeskReaction::Ignores),
     Wants(1, None),

@@ -65,7 +65,7 @@ fn made(reaction: &Result<Reaction, NoMemory>) -> Makes {
         return Makes::Other;
     };
     match reaction {
-        Reaction::Heeds => Makes::Holds,
+        Reaction::Accepts => Makes::Holds,
         Reaction::Ignores => Makes::Ignores,
         Reaction::Says(message, _others) => match message {
             Message::Failed { session: 1 } => Makes::Fails,

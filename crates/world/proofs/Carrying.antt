@@ -44,10 +44,6 @@ Step-alone old event told outcome new parts once one = (
   subst HasRoom (sym one) tt,
 )
 
--- before any event happened, all events are left
-pub goes-nothing : (old : State) (events : List Event) (told : List Happened) → told ≡ [] → Goes old events told old events
-goes-nothing old events told none = λ outcome new h. subst (λ (os : List Happened). Carries old events (os ++ outcome) new) (sym none) h
-
 -- one more event of a list was made
 pub goes-on : (old : State) (events : List Event) (before after : List Happened) (between : State) (event : Event) (told : Happened) (next : State) (rest : List Event) →
     Goes old events before between (event ∷ rest) → Once between event told next → after ≡ before ++ told ∷ [] → true ≡ is_made told → Goes old events after next rest

@@ -32,7 +32,7 @@ use Rattle.world.specs.Step.{Hears, Reacts}
 use Rattle.daemon.specs.Saying.{what_is_said}
 use Rattle.daemon.specs.Talking.{HasData, HandsOver, IsSent, ServesOn, TakesOver, CannotTakeOver, TakesData, ReadsOn, LosesPart, TakesPart, ReadsBy, ReactsBy, TurnsBy, IsReady, GivesUpSo, drained, bytes_of, read_before}
 use Rattle.daemon.specs.declared.turn.Reaction.{Reaction}
-use Rattle.daemon.specs.declared.turn.Reaction.TheVariants.{Ignores, Heeds, Says}
+use Rattle.daemon.specs.declared.turn.Reaction.TheVariants.{Ignores, Accepts, Says}
 use Rattle.daemon.specs.declared.happened.Happened.{Happened}
 use Rattle.world.proofs.Daemons.{daemon_of-with, holder-is, HolderIs, at-is}
 use Rattle.world.proofs.Handing.{KeepsSeat, IsBase, all-at, once-at, handing-stays, handing-quiet, stays}
@@ -91,7 +91,7 @@ by-turn old daemon was node a reaction later new h there turn silent t makes = i
 
   in_ : (b : Answer) → a ≡ b → TurnsBy was node b reaction later → IsHanding new
   in_ answer.Ignored e t = turned-handing old daemon was later false reaction new h (turned t.becomes) (says-none Ignores reaction t.reacts tt) makes
-  in_ answer.Heard e t = turned-handing old daemon was later false reaction new h (turned t.becomes) (says-none Heeds reaction t.reacts tt) makes
+  in_ answer.Heard e t = turned-handing old daemon was later false reaction new h (turned t.becomes) (says-none Accepts reaction t.reacts tt) makes
   in_ (answer.Say said) e t = turned-handing old daemon was later false reaction new h (turned t.becomes) (says-none (Says said []) reaction t.reacts (no_data_of a said silent e)) makes
   in_ (answer.MakeData s g v) e t = absurd t
   in_ (answer.GotData s g v) e t = absurd t
@@ -280,7 +280,7 @@ takes-handing : (w : World) (old : State) (daemon : DaemonId) (was : DaemonState
 takes-handing w old daemon was bytes node s g reaction later new m h there alone raising source t makes =
     handing-quiet old (saying old reaction) new daemon was later (what_is_said reaction) (said-base old reaction) makes there h keeps (λ seat at. data-quiet old (what_is_said reaction) quiet seat) stands (no-data-past old.broker.last (what_is_said reaction) quiet) where
       quiet : SaysNoData reaction
-      quiet = says-none Heeds reaction t.reacts tt
+      quiet = says-none Accepts reaction t.reacts tt
 
       phase : later.node.phase ≡ Holding g
       phase = ap (λ (d : DaemonState). d.node.phase) t.becomes ∙ ap (λ (p : Phase). (table.after (node_of node.versions node.sessions p) (table.Raised true)).phase) raising
@@ -444,7 +444,7 @@ reads-handing : (old : State) (daemon : DaemonId) (was : DaemonState) (s g v i n
 reads-handing old daemon was s g v i n bytes node reaction later new h t taking more r makes =
     handing-quiet old (saying old reaction) new daemon was later (what_is_said reaction) (said-base old reaction) makes t.there h keeps (λ seat at. data-quiet old (what_is_said reaction) quiet seat) stands (no-data-past old.broker.last (what_is_said reaction) quiet) where
       quiet : SaysNoData reaction
-      quiet = says-none Heeds reaction r.reacts tt
+      quiet = says-none Accepts reaction r.reacts tt
 
       phase : later.node.phase ≡ Reading s g v (i + 1) n
       phase = ap (λ (d : DaemonState). d.node.phase) r.becomes ∙ behind-more node s g v i n taking more

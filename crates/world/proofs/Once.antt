@@ -21,10 +21,6 @@ AreOther g ms = AllByRecursion (λ (m : Message). is_data_of g m ≡ false) ms
 abbrev pub AreNoData : List Message → Type 0
 AreNoData ms = AllByRecursion (λ (m : Message). is_data m ≡ false) ms
 
-pub other-data : (g : ℕ) (ms : List Message) → AreOther g ms → data_of g ms ≡ []
-other-data g [] all = refl
-other-data g (m ∷ ms) all = ap (λ (b : Bool). cond b (m ∷ data_of g ms) (data_of g ms)) all.0 ∙ other-data g ms all.1
-
 not-data : (g : ℕ) (m : Message) → is_data m ≡ false → is_data_of g m ≡ false
 not-data g (Data s h bytes) e = absurd (let none : ⊥ = cc in none)
 not-data g (Part s h i n bytes) e = absurd (let none : ⊥ = cc in none)

@@ -20,7 +20,7 @@ use Rattle.daemon.specs.Daemon.{DaemonState, is_waiting, in_hand, unposted}
 use Rattle.daemon.specs.Refusals.{refusal_of_mount, refusal_of_issue, refusal_of_drain}
 use Rattle.daemon.specs.Server.{ServerState, at_position, told_taken, told_worked, told_item}
 use Rattle.daemon.specs.declared.turn.Reaction.{Reaction}
-use Rattle.daemon.specs.declared.turn.Reaction.TheVariants.{Ignores, Heeds, Says}
+use Rattle.daemon.specs.declared.turn.Reaction.TheVariants.{Ignores, Accepts, Says}
 use Rattle.daemon.specs.declared.happened.Happened.{Happened}
 use Rattle.daemon.specs.declared.happened.Happened.TheVariants as happened
 use Rattle.daemon.specs.declared.happened.Refusal.{Refusal}
@@ -103,7 +103,7 @@ told-worked event served task None = in_ (item_of task.what) where
 
 told-reaction : (event : Event) (count : ℕ) (reaction : Reaction) → MayBeTold event (told_reaction count reaction)
 told-reaction event count Ignores = tt
-told-reaction event count Heeds = tt
+told-reaction event count Accepts = tt
 told-reaction event count (Says said others) = tt
 
 pub made-told : (old : State) (event : Event) (told : Happened) (new : State) → Makes old event told new → MayBeTold event told

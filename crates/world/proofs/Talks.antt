@@ -20,7 +20,7 @@ use Rattle.world.specs.State.{State, daemon_of, with_daemon, server_of}
 use Rattle.world.specs.Step.{Hears, Reacts, told_reaction}
 use Rattle.daemon.specs.Talking.{IsReady, GivesUpSo, ReactsBy, TakesData, ReadsBy, TurnsBy, bytes_of, read_before}
 use Rattle.daemon.specs.declared.turn.Reaction.{Reaction}
-use Rattle.daemon.specs.declared.turn.Reaction.TheVariants.{Ignores, Heeds, Says}
+use Rattle.daemon.specs.declared.turn.Reaction.TheVariants.{Ignores, Accepts, Says}
 use Rattle.world.specs.declared.event.Event.{Event}
 use Rattle.world.specs.declared.event.Event.TheVariants.{Hear, Drained, GiveUp}
 use Rattle.daemon.specs.declared.happened.Happened.{Happened}
@@ -85,7 +85,7 @@ talks-follow w old messages daemon was later m there on = record {
 -- what is told of a message is no posted reply and no forget
 told_in : (count : ℕ) (reaction : Reaction) → IsGoodForget (told_reaction count reaction) × (is_posted (told_reaction count reaction) ≡ false)
 told_in count Ignores = (tt, refl)
-told_in count Heeds = (tt, refl)
+told_in count Accepts = (tt, refl)
 told_in count (Says said others) = (tt, refl)
 
 reacts-moved : (w : World) (old : State) (daemon : DaemonId) (turns : DaemonState → Reaction → DaemonState → Type 0) (told : Happened) (new : State) → Follows w old → (r : Reacts old daemon turns told new) → ServesOn old daemon r.was r.later → MovesBy w [] old told new

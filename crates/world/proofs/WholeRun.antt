@@ -1,13 +1,9 @@
 -- A whole list of events is a run of moves, and the state matches the world after them.
-use Rattle.std.proofs.Common.{◌≡◌, ◌⊎◌, ℕ, ◌+◌, ◌-◌, ◌≤◌, Bool, true, false, List, [], ◌∷◌, ◌++◌, Option, Some, None, refl, sym, ap, ◌∙◌, subst, inl, inr, arith}
-use Rattle.std.specs.Prelude.{◌==◌, Contains, count_by, position, take, drop, IsSome, if◌then◌else◌}
+use Rattle.std.proofs.Common.{◌≡◌, ◌⊎◌, ℕ, ◌+◌, ◌-◌, ◌≤◌, true, List, [], ◌∷◌, ◌++◌, Option, Some, None, refl, sym, ap, ◌∙◌, subst, inl, inr, arith}
+use Rattle.std.specs.Prelude.{count_by, position, take, drop, IsSome}
 use Rattle.std.specs.Option.{option_and_then, option_map}
-use Rattle.eden_base.specs.declared.number.DaemonId.{DaemonId}
 use Rattle.std.specs.List.{AllByRecursion, concat, position_or_len}
 use Rattle.eden_base.proofs.NumberTests.{true-eq}
-use Rattle.manifest.specs.Manifest.{Manifest, IsManifest}
-use Rattle.manifest.specs.Tree.{IsTree, tree_of}
-use Rattle.broker_core.proofs.HeldLaws.{held_count-none}
 use Rattle.broker_core.specs.declared.seat.Seat.{Seat}
 use Rattle.daemon.specs.Server.{ServerState}
 use Rattle.takeover_core.specs.Phases.{goes_whole}
@@ -17,9 +13,9 @@ use Rattle.takeover_core.specs.declared.phase.Phase.{Phase}
 use Rattle.takeover_core.specs.declared.phase.Phase.TheVariants.{Reading}
 use Rattle.daemon.specs.Daemon.{DaemonState}
 use Rattle.world.specs.Handing.{HasHanded, HasRead, IsPast, data_of, reads_at}
-use Rattle.world.specs.State.{State, started, server_of, is_data_of, handed_of}
+use Rattle.world.specs.State.{State, is_data_of, handed_of}
 use Rattle.world.specs.Step.{Steps}
-use Rattle.world.specs.World.{World, first_world, IsRun, after_all}
+use Rattle.world.specs.World.{World, IsRun, after_all}
 use Rattle.world.specs.Agreement.{Agrees, CountsAreOwed, NumbersNameTheirFirstFile, DataIsCurrent, IsHandedNow, begins_data_of, Follows, Matches, IsGoodForget, IsAnswered, posted_from, posters, moves_of, all_moves}
 use Rattle.world.specs.Attending.{RefusalsMayCome}
 use Rattle.world.specs.declared.event.Event.{Event}
@@ -122,43 +118,6 @@ match-current w state m = record {
   }
 
 -- ---- a list of events
-
--- the state before anything happened follows the first world
-first-follows : (manifest : Manifest) (limit : ℕ) → IsTree (tree_of manifest) → Follows (first_world manifest) (started manifest limit)
-first-follows manifest limit is = record {
-  manifest = refl;
-  is_tree = is;
-  tree_is_tree = is;
-  of_manifest = refl;
-  books = record { seat = refl; last = refl; held = λ n. sym (held_count-none n); uniques = λ u c. absurd (nothing u c) };
-  seat_is_last = record { is_last = λ seat e. absurd (nobody seat e); empty = λ e. refl };
-  quiet = λ e. (record { asks = refl; items = refl; replies = refl }, refl);
-  orderly = record { asked = tt; once = λ u. omega arith; used = λ u above. refl; good = refl };
-  answered = record { one_daemon = λ one other c d e. absurd (nothing one c); at_most = λ seat c. absurd (nothing seat c); holder = λ seat other e c same. absurd (nothing other c) };
-  knows = λ seat e. absurd (nobody seat e);
-  others_idle = λ daemon server serves other. absurd (no_server daemon server serves);
-} where
-  nobody : (seat : Seat) → None ≡ Some seat → ⊥
-  nobody seat e = let none : ⊥ = cc in none
-
-  no_server : (daemon : DaemonId) (server : ServerState) → server_of (started manifest limit) daemon ≡ Some server → ⊥
-  no_server daemon server h = in_ (daemon.0 == 0) h where
-    in_ : (b : Bool) → option_and_then (λ (d : DaemonState). d.server) (if b then None else None) ≡ Some server → ⊥
-    in_ true e = let none : ⊥ = cc in none
-    in_ false e = let none : ⊥ = cc in none
-
-  nothing : {X : Type 0} (x : X) → Contains [] x → ⊥
-  nothing x (k, low, e) = let none : ⊥ = omega (arith, low) in none
-
-pub first-matches : (manifest : Manifest) (limit : ℕ) → IsManifest manifest → IsTree (tree_of manifest) → Matches (first_world manifest) (started manifest limit)
-first-matches manifest limit is_manifest is = record {
-  follows = first-follows manifest limit is;
-  handing = record { is_manifest = is_manifest; low = omega arith; daemons = λ daemon was there. absurd (no_daemon (daemon.0 == 0) was there); messages = tt; once = λ seat was server has. absurd (let two : None ≡ Some seat = has.seated in let none : ⊥ = cc in none) };
-  attended = record { daemons = λ daemon was there. absurd (no_daemon (daemon.0 == 0) was there); asked = λ seat server at. absurd (let two : None ≡ Some seat = at.has_seat in let none : ⊥ = cc in none) };
-} where
-  no_daemon : (b : Bool) (was : DaemonState) → (if b then None else None) ≡ Some was → ⊥
-  no_daemon true was e = let none : ⊥ = cc in none
-  no_daemon false was e = let none : ⊥ = cc in none
 
 -- what a list of events did: its moves are a run, and the state matches the world after them
 pub record Ran (w : World) (events : List Event) (outcomes : List (List Happened)) (new : State) : Type 0 where

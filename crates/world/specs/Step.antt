@@ -24,7 +24,7 @@ use Rattle.world.specs.State.{State, daemon_of, with_daemon, fault}
 use Rattle.daemon.specs.Saying.{what_is_said}
 use Rattle.daemon.specs.Talking.{HearsSo, IsReady, GivesUpSo, MountsSo, EndsSo, ClaimsSo, after_claim}
 use Rattle.daemon.specs.declared.turn.Reaction.{Reaction}
-use Rattle.daemon.specs.declared.turn.Reaction.TheVariants.{Ignores, Heeds, Says}
+use Rattle.daemon.specs.declared.turn.Reaction.TheVariants.{Ignores, Accepts, Says}
 use Rattle.world.specs.declared.event.Event.{Event}
 use Rattle.world.specs.declared.event.Event.TheVariants.{Start, Mount, Issue, Take, Work, Post, Deliver, Hear, Drained, GiveUp, Claim, Crash, Do, Show}
 use Rattle.daemon.specs.declared.happened.Happened.{Happened}
@@ -129,7 +129,7 @@ pub record Delivers (old : State) (told : Happened) (new : State) : Type 0 where
 -- what is told of a reaction: of messages that are said, the position of the first
 abbrev pub told_reaction : ℕ → Reaction → Happened
 told_reaction count Ignores = happened.Ignored
-told_reaction count Heeds = happened.Heard
+told_reaction count Accepts = happened.Heard
 told_reaction count (Says said others) = happened.Said (count + 1)
 
 -- a daemon changes as `turns` says, and what it says joins the messages

@@ -26,7 +26,7 @@ pub(crate) fn say(messages: &mut Vec<Message>, reaction: Reaction) -> Happened
 {
     match reaction {
         Reaction::Ignores => Happened::Ignored,
-        Reaction::Heeds => Happened::Heard,
+        Reaction::Accepts => Happened::Heard,
         Reaction::Says(said, others) => {
             messages.push_reserved(said);
             let position = messages.len();

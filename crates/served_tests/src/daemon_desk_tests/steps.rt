@@ -43,7 +43,7 @@ pub enum DeskReaction {
     Part(u32, u64, u32, u32),
     Failed(u32),
     Nothing,
-    Heeds,
+    Accepts,
     Ignores,
     Closes,
     /// An answer that no step expects.
@@ -194,7 +194,7 @@ impl Between {
     fn keep_heard(&mut self, hearing: Hearing) -> DeskReaction {
         match hearing {
             Hearing::Tells(frames) => self.keep_frames(frames),
-            Hearing::Heeds => DeskReaction::Heeds,
+            Hearing::Accepts => DeskReaction::Accepts,
             Hearing::Ignores => DeskReaction::Ignores,
             Hearing::Closes => DeskReaction::Closes,
             Hearing::NoMemory => DeskReaction::Other,
