@@ -4,9 +4,9 @@ import struct
 import threading
 import time
 
-from process_rows.checks import WAIT, row, same
+from process_rows.checks import WAIT, TooSlow, row, same
 from process_rows.frames import frame, u64
-from process_rows.mounts import Mount
+from process_rows.mounts import Mount, until
 from process_rows.rooms import allow_many_files
 
 # How many daemons run at once, and how many come one after another.
@@ -87,6 +87,17 @@ def a_daemon_without_a_place(room):
     mount.unmount()
 
 
+def take_over_in_time(mount):
+    """Lets a new daemon take over. Some 4,000 connections may wait to be accepted before each of its own, and it gives the
+    broker five seconds for an answer: a machine that is too busy for that shows little."""
+    try:
+        mount.take_over()
+    except AssertionError as error:
+        if mount.room.running[-1].lines == ["fault: broken"]:
+            raise TooSlow("an answer to Attach was awaited in vain") from error
+        raise
+
+
 @row
 def upgrades_behind_thousands_of_connections(room):
     """An upgrade succeeds behind thousands of connections to the broker that say nothing, that sent a part of a frame, or
@@ -101,14 +112,14 @@ def upgrades_behind_thousands_of_connections(room):
                 ends.pop().close()
             elif text:
                 said(ends[-1], text)
-        mount.take_over()
+        take_over_in_time(mount)
         for end in ends:
             end.close()
     mount.unmount()
 
 
 class Flood:
-    """Connections that come as fast as they can, of which the last hundred stay open."""
+    """Connections that come as fast as they can until they are left, of which the last hundred stay open."""
 
     def __init__(self, path, pause):
         self.path, self.pause, self.is_over, self.came = path, pause, False, 0
@@ -126,7 +137,10 @@ class Flood:
         for end in ends:
             end.close()
 
-    def ends(self):
+    def __enter__(self):
+        return self
+
+    def __exit__(self, *_error):
         self.is_over = True
         self.thread.join(WAIT)
 
@@ -135,11 +149,9 @@ class Flood:
 def upgrades_below_a_flood_of_connections(room):
     """Upgrades succeed one after another while connections come to the broker as fast as they can."""
     mount = Mount(room)
-    flood = Flood(room.broker_at, 0 if room.is_proved else PAUSE_OF_UNPROVED)
-    for _ in range(UPGRADES):
-        came = flood.came
-        mount.take_over()
-        while flood.came < came + 20:
-            time.sleep(0.01)
-    flood.ends()
+    with Flood(room.broker_at, 0 if room.is_proved else PAUSE_OF_UNPROVED) as flood:
+        for _ in range(UPGRADES):
+            came = flood.came
+            take_over_in_time(mount)
+            until(lambda: flood.came >= came + 20, "a flood of connections")
     mount.unmount()
