@@ -2,9 +2,9 @@
 use std::io::Result;
 
 /// How many figures a measurement has at most.
-const MOST: usize = 6;
+const MOST: usize = 8;
 
-/// Up to six measured figures, each with its name.
+/// Up to eight measured figures, each with its name.
 #[derive(Clone, Copy)]
 pub(crate) struct Figures {
     names: &'static [&'static str],

@@ -10,11 +10,11 @@ const USAGE: &str = "usage: measure [SUBJECT WORD..]
   requests LINES DEPTH | random
   messages LINES
   wire FORM ROUNDS
-  frames FORM ROUNDS [behind FRAMES | pieces BYTES]
+  frames FORM ROUNDS
   journal RECORDS WORKERS ROUNDS
   rounds WORKERS ASKS ROUNDS [times]
-The forms of wire are lookup, getattr, forget, batch, forget-items, batch-items, short, bad-length, bad-body, bad-count
-and bad-name; those of frames are claim, ask and data. Without words a small run of each is made.";
+The forms of wire are lookup, getattr, forget, batch, short, bad-length, bad-body, bad-count and bad-name; those of
+frames are claim, ask and data. Without words a small run of each is made.";
 
 /// Refuses the program's words: prints the usage on standard error, and returns an error.
 pub(crate) fn refuse(rt: &impl Eprint) -> Result<()> {

@@ -141,23 +141,14 @@ fn answer(alloc: Global, desk: &mut Desk, peer: &mut Peer, frame: &Frame, output
     tell_response(alloc, output, &response);
 }
 
-/// Has the desk answer a frame from `peer`: a Post of an answer, or else any frame.
-fn answer_next(
-    alloc: Global,
-    desk: &mut Desk,
-    peer: &mut Peer,
-    is_post: bool,
-    words: &mut Words<'_>,
-    output: &mut Output,
-) -> Called {
-    let frame = if is_post {
-        read_post(alloc, words)?
-    } else {
-        read_frame(words)?
+/// Reads the frame of a call: a Post of an answer, or else any frame. No word may follow it.
+fn frame_of(alloc: Global, call: PeerCall, words: &mut Words<'_>) -> Result<Frame, RowFault> {
+    let frame = match call {
+        PeerCall::Post => read_post(alloc, words)?,
+        _ => read_frame(words)?,
     };
     words.end()?;
-    answer(alloc, desk, peer, &frame, output);
-    Ok(())
+    Ok(frame)
 }
 
 /// Makes a call of the peer at a connection.
@@ -174,8 +165,11 @@ fn call_peer(
     let peer = mount.peers.get_mut(index).ok_or(RowFault::BadRow)?;
     let desk = &mut mount.desk;
     match call {
-        PeerCall::On => return answer_next(alloc, desk, peer, false, words, output),
-        PeerCall::Post => return answer_next(alloc, desk, peer, true, words, output),
+        PeerCall::On | PeerCall::Post => {
+            let frame = frame_of(alloc, call, words)?;
+            answer(alloc, desk, peer, &frame, output);
+            return Ok(());
+        }
         PeerCall::Connect => *peer = Peer::Unattached,
         PeerCall::Leave => desk.leave(*peer),
     }

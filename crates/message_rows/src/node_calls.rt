@@ -113,6 +113,13 @@ fn tell_phase(output: &mut Output, phase: Phase) {
         Phase::Chosen { session, version } => {
             tell_numbers(output, name, &[u64::from(session), u64::from(version)]);
         }
+        _ => tell_phase_of_session(output, name, phase),
+    }
+}
+
+/// Writes a phase of a session at a generation; of any other one only its `name`.
+fn tell_phase_of_session(output: &mut Output, name: &'static str, phase: Phase) {
+    match phase {
         Phase::Raising {
             session,
             generation,
@@ -156,6 +163,7 @@ fn tell_phase(output: &mut Output, phase: Phase) {
             tell_session(output, name, session, generation);
             tell_place(output, version, position, count);
         }
+        _ => output.word(name),
     }
 }
 
