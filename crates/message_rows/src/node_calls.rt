@@ -113,13 +113,6 @@ fn tell_phase(output: &mut Output, phase: Phase) {
         Phase::Chosen { session, version } => {
             tell_numbers(output, name, &[u64::from(session), u64::from(version)]);
         }
-        _ => tell_phase_of_session(output, name, phase),
-    }
-}
-
-/// Writes a phase of a session at a generation; of any other one only its `name`.
-fn tell_phase_of_session(output: &mut Output, name: &'static str, phase: Phase) {
-    match phase {
         Phase::Raising {
             session,
             generation,
@@ -128,6 +121,13 @@ fn tell_phase_of_session(output: &mut Output, name: &'static str, phase: Phase) 
             session,
             generation,
         } => tell_session(output, name, session, generation),
+        _ => tell_phase_of_version(output, name, phase),
+    }
+}
+
+/// Writes a phase in which the version of a session counts; of any other one only its `name`.
+fn tell_phase_of_version(output: &mut Output, name: &'static str, phase: Phase) {
+    match phase {
         Phase::Draining {
             session,
             generation,
