@@ -8,7 +8,7 @@ ghost use Rattle.daemon.specs.Daemon.{new_daemon, turned_to, is_waiting, in_hand
 ghost use Rattle.daemon.specs.Saying.{turned, what_is_said};
 ghost use Rattle.daemon.specs.Beginning.{DaemonBegins, NobodyBegins};
 ghost use Rattle.daemon.specs.Serving.{beginning, DaemonTakes, DaemonWorks, DaemonPosts};
-ghost use Rattle.daemon.specs.Talking.{MountsSo, EndsSo, BringsPart, ComesTo, HearsSo, GivesUpSo, DrainsSo, ClaimsSo, brings_data, makes_parts, said_by, read_before, at_generation};
+ghost use Rattle.daemon.specs.Talking.{MountsSo, EndsSo, BringsPart, ComesTo, HearsSo, GivesUpSo, DrainsSo, ClaimsSo, brings_data, brings_part, makes_parts, said_by, read_before, at_generation};
 
 use crate::handing::{Handover, make_data};
 use crate::happened::{Begun, Happened, Refusal};
