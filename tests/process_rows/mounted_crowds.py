@@ -15,6 +15,8 @@ MOST_AT_ONCE, COMERS, COMERS_OF_UNPROVED = 1024, 5000, 1500
 # without a proof takes long for each, so it gets fewer, and a pause between two, in seconds.
 SILENT, SILENT_OF_UNPROVED, UPGRADES = 2000, 80, 5
 PAUSE_OF_UNPROVED = 0.1
+# How many seconds a daemon gives the broker for an answer to its Attach.
+BROKER_PATIENCE = 5
 # How many kilobytes a broker may take more for daemons that left.
 MOST_KILOBYTES = 2048
 
@@ -89,11 +91,14 @@ def a_daemon_without_a_place(room):
 
 def take_over_in_time(mount):
     """Lets a new daemon take over. Some 4,000 connections may wait to be accepted before each of its own, and it gives the
-    broker five seconds for an answer: a machine that is too busy for that shows little."""
+    broker five seconds for an answer: a machine that is too busy for that shows little. A daemon that is turned away
+    earlier is a fault."""
+    began = time.monotonic()
     try:
         mount.take_over()
     except AssertionError as error:
-        if mount.room.running[-1].lines == ["fault: broken"]:
+        is_late = time.monotonic() - began >= BROKER_PATIENCE
+        if is_late and mount.room.running[-1].lines == ["fault: broken"]:
             raise TooSlow("an answer to Attach was awaited in vain") from error
         raise
 
