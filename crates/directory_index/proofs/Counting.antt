@@ -28,7 +28,7 @@ counts-of_nothing counts none = record {
 }
 
 -- counts that are the same are those of the same
-pub counts-alike : (at : Standing) (old new : NameCounts) → ((dir : ℕ) → counted new dir ≡ counted old dir) → new.bound ≡ old.bound → AreCountsOf at old → AreCountsOf at new
+pub counts-alike : (at : Standing) (old new : NameCounts) → ((dir : ℕ) → counted new dir ≡ counted old dir) → old.bound ≤ new.bound → AreCountsOf at old → AreCountsOf at new
 counts-alike at old new same bound are = record {
   each = λ dir. let w = are.each dir in (w.0, w.1, same dir ∙ w.2);
   bound = λ dir. let e = same dir in let b = are.bound dir in omega arith;

@@ -1,6 +1,6 @@
 -- The numbers of directories, and an index with them.
 use Rattle.std.proofs.Common.{◌≡◌, ℕ, Bool, true, false, List, Some, None, refl, sym, ap, subst, ◌∙◌, inl, inr, ◌⊎◌}
-use Rattle.std.proofs.lemmas.Bool.{and_parts}
+use Rattle.std.proofs.lemmas.Bool.{and_parts, not-true}
 use Rattle.std.specs.Prelude.{◌==◌, ◌&&◌, ◌||◌, not}
 use Rattle.eden_base.proofs.NumberTests.{eq-true, true-eq}
 use Rattle.directory_index.proofs.PlaceChanges.{adds, below-apart, stood-below}
@@ -93,30 +93,12 @@ module _ (at : Standing) (old new : DirectoryIndex) (is : IsIndexOf at old) (lin
             (children-inserted is.below old.children new.children link.dir last.0 link.number last.2 came is.children);
       }
 
-  -- it stays beside them
-  pub index-kept : ArePlacesOf at is.below new.places →
-      (more : Children) → ((d n : ℕ) → is_child more d n ≡ ((d == link.dir && n == link.number) || is_child old.children d n)) →
-      ((d n : ℕ) → is_child new.children d n ≡ (not (d == link.dir && n == link.number) && is_child more d n)) → IsIndexOf at new
-  index-kept places more came went = record {
-    below = is.below;
-    places = places;
-    children = children-alike is.below old.children new.children (λ d n. back d n (d == link.dir && n == link.number) refl (is_child old.children d n) refl) is.children;
-  } where
-    back : (d n : ℕ) (b : Bool) → (d == link.dir && n == link.number) ≡ b → (c : Bool) → is_child old.children d n ≡ c → is_child new.children d n ≡ is_child old.children d n
-    back d n true t true e =
-        let both = and_parts (d == link.dir) (n == link.number) t in
-        let w = is.children.no_others d n e in
-        let last = adds at is.below old.places old.places is.places link latest in
-        absurd (last.3 d w.0 (w.1 ∙ ap Some (true-eq n link.number both.1)))
-    back d n true t false e = went d n ∙ (rw t (sym e))
-    back d n false t c e = went d n ∙ (rw t (came d n ∙ (rw t refl)))
-
 -- another number than the one inserted last was removed
-pub index-removed : (at : Standing) (old new : DirectoryIndex) (dir : ℕ) (name : List ℕ) (number : ℕ) → (is : IsIndexOf at old) → is_latest old.places.latest number ≡ false → at dir name ≡ Some number →
+pub index-removed : (at : Standing) (old new : DirectoryIndex) (dir : ℕ) (name : List ℕ) (number : ℕ) → (is : IsIndexOf at old) → not (is_latest old.places.latest number) ≡ true → at dir name ≡ Some number →
     ArePlacesOf (removed at dir name) (removed is.below dir name) new.places → ((d n : ℕ) → is_child new.children d n ≡ (not (d == dir && n == number) && is_child old.children d n)) → IsIndexOf (removed at dir name) new
 index-removed at old new dir name number is other stood places went = record {
   below = removed is.below dir name;
   places = places;
-  children = children-removed is.below old.children new.children dir name number (stood-below at is.below old.places dir name number is.places other stood)
+  children = children-removed is.below old.children new.children dir name number (stood-below at is.below old.places dir name number is.places (not-true (is_latest old.places.latest number) other) stood)
       (below-apart at is.below old.places is.places) went is.children;
 }

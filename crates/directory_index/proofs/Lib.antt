@@ -1,3 +1,4 @@
+pub mod CountedChanges
 pub mod Counting
 pub mod Gaps
 pub mod Indexing

@@ -105,23 +105,33 @@ no-child children dir n f = in_ (hash.get nat_eq children.directories dir) refl 
   in_ None e s = ap (λ (o : Option NumberSet). option_map_or (is_among n) o false) e
   in_ (Some d) e s = ap (λ (o : Option NumberSet). option_map_or (is_among n) o false) e ∙ member d (numbers_of d) refl s
 
+-- what stands in a directory
+module _ (at below : Standing) (index : PlaceIndex) (is : ArePlacesOf at below index) (dir : ℕ) where
+  -- the maps have it
+  pub in-maps : (n : ℕ) → StandsIn below dir n → StandsIn at dir n
+  in-maps n w = (w.0, below-stands below at index.latest is.latest dir w.0 n w.1)
+
+  -- or it was inserted last
+  pub in-latest : (link : Link) → index.latest ≡ Some link → link.dir ≡ dir → StandsIn at dir link.number
+  in-latest link e d =
+      let adds : AddsLatest below (Some link) at = subst (λ (o : Option Link). AddsLatest below o at) e is.latest in
+      (adds.0, ap (λ (x : ℕ). at x adds.0) (sym d) ∙ latest-stands below at link adds)
+
+  -- a directory in which the link that was inserted last stands
+  pub names-latest : is_latest_in index.latest dir ≡ true → (n : ℕ) × StandsIn at dir n
+  names-latest t = in_ index.latest refl t where
+    in_ : (o : Option Link) → index.latest ≡ o → is_latest_in o dir ≡ true → (n : ℕ) × StandsIn at dir n
+    in_ None e s = let no : ⊥ = cc in absurd no
+    in_ (Some link) e s = (link.number, in-latest link e (true-eq link.dir dir s))
+
 module _ (at : Standing) (index : DirectoryIndex) (is : IsIndexOf at index) (dir : ℕ) where
   below-in : (n : ℕ) → StandsIn is.below dir n → StandsIn at dir n
-  below-in n w = (w.0, below-stands is.below at index.places.latest is.places.latest dir w.0 n w.1)
+  below-in n w = in-maps at is.below index.places is.places dir n w
 
   latest-in : (link : Link) → index.places.latest ≡ Some link → link.dir ≡ dir → StandsIn at dir link.number
-  latest-in link e d =
-      let adds : AddsLatest is.below (Some link) at = subst (λ (o : Option Link). AddsLatest is.below o at) e is.places.latest in
-      (adds.0, ap (λ (x : ℕ). at x adds.0) (sym d) ∙ latest-stands is.below at link adds)
+  latest-in link e d = in-latest at is.below index.places is.places dir link e d
 
-  -- the link that was inserted last stands there
-  pub names-latest : is_latest_in index.places.latest dir ≡ true → (n : ℕ) × StandsIn at dir n
-  names-latest t = in_ index.places.latest refl t where
-    in_ : (o : Option Link) → index.places.latest ≡ o → is_latest_in o dir ≡ true → (n : ℕ) × StandsIn at dir n
-    in_ None e s = let no : ⊥ = cc in absurd no
-    in_ (Some link) e s = (link.number, latest-in link e (true-eq link.dir dir s))
-
-  -- or the maps have a number there
+  -- the maps have a number there
   pub names-some : has_children index.children dir ≡ true → (n : ℕ) × StandsIn at dir n
   names-some t = let w = some-child index.children dir t in (w.0, below-in w.0 (is.children.no_others dir w.0 w.1))
 

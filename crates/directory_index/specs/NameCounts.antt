@@ -1,6 +1,6 @@
 -- How many names each directory has, as they are counted.
-use Rattle.std.specs.Prelude.{◌≡◌, ℕ, ◌≤◌, ◌&&◌, Bool, true, List, length, nat_eq, nat_lt, unwrap_or}
-use Rattle.std.specs.HashMap.{get, spare}
+use Rattle.std.specs.Prelude.{◌≡◌, ℕ, ◌≤◌, true, List, length, nat_eq, unwrap_or}
+use Rattle.std.specs.HashMap.{get}
 use Rattle.directory_index.specs.Rising.{is_in, IsRising}
 use Rattle.directory_index.specs.Standing.{Standing, StandsIn}
 use Rattle.directory_index.specs.declared.name_counts.NameCounts.{NameCounts}
@@ -8,14 +8,6 @@ use Rattle.directory_index.specs.declared.name_counts.NameCounts.{NameCounts}
 -- how many names the directory has
 abbrev pub counted : NameCounts → ℕ → ℕ
 counted counts dir = unwrap_or (get nat_eq counts.directories dir) 0
-
--- the greatest number of names that is counted
-abbrev pub greatest : ℕ
-greatest = 18446744073709551615
-
--- whether one more name can be counted in any directory without taking memory
-abbrev pub has_spare : NameCounts → Bool
-has_spare counts = nat_lt 0 (spare counts.directories) && nat_lt counts.bound greatest
 
 -- these are the numbers that stand in the directory, by rising order
 pub record AreNumbersIn (at : Standing) (dir : ℕ) (numbers : List ℕ) : Type 0 where

@@ -2,7 +2,6 @@
 ghost use Rattle.std.specs.Prelude.{◌≡◌, ℕ, true, false, is_ok, List, None, Some, OnOk};
 ghost use Rattle.std.specs.Option.{IfNone};
 ghost use Rattle.directory_index.specs.Index.{has_room, IsIndexOf};
-ghost use Rattle.directory_index.specs.Keys.{key_of};
 ghost use Rattle.directory_index.specs.Standing.{inserted, nothing, removed, AreKnown, IsFirstFrom, Standing, StandsIn, StandsNowhere};
 
 use crate::children::Children;
@@ -116,7 +115,9 @@ impl DirectoryIndex {
             → IsIndexOf (removed at dir name.now) self.new }
         ensures room { has_room self.old ≡ true → has_room self.new ≡ true }
     {
-        self.remove_at(key_of(dir, name), dir, name, number);
+        if self.places.remove(dir, name, number) {
+            self.children.remove(dir, number);
+        }
     }
 
     /// Removes the number under `name` in the directory `dir`, and returns it, or none if there is none. `places` knows each
@@ -133,7 +134,9 @@ impl DirectoryIndex {
         let Some(number) = self.places.find(places, key, dir, name) else {
             return None;
         };
-        self.remove_at(key, dir, name, number);
+        if self.places.remove_at(key, dir, name, number) {
+            self.children.remove(dir, number);
+        }
         Some(number)
     }
 
@@ -143,17 +146,5 @@ impl DirectoryIndex {
         ensures room { has_room self.new ≡ has_room self.old }
     {
         self.children.trim();
-    }
-
-    /// Removes `number`, which stands under `name` in the directory `dir`. `key` is the key of this place.
-    fn remove_at(&mut self, key: u64, dir: u64, name: &[u8], number: u64)
-        requires key { key ≡ key_of dir name.now }
-        ensures removed { (at : Standing) → IsIndexOf at self.old → at dir name.now ≡ Some number
-            → IsIndexOf (removed at dir name.now) self.new }
-        ensures room { has_room self.old ≡ true → has_room self.new ≡ true }
-    {
-        if self.places.remove(key, dir, name, number) {
-            self.children.remove(dir, number);
-        }
     }
 }

@@ -1,6 +1,6 @@
 //! How many names each directory has.
-ghost use Rattle.std.specs.Prelude.{◌≡◌, ℕ, ◌+◌, ◌-◌, ◌<◌, ◌^◌, ◌==◌, true, is_ok, nat_lt, OnOk, if◌then◌else◌};
-ghost use Rattle.directory_index.specs.NameCounts.{counted, greatest, has_spare};
+ghost use Rattle.std.specs.Prelude.{◌≡◌, ℕ, ◌+◌, ◌-◌, ◌≤◌, ◌==◌, nat_lt, OnOk, OnErr, if◌then◌else◌};
+ghost use Rattle.directory_index.specs.NameCounts.{counted};
 
 use std::alloc::{AllocError, Global};
 use std::collections::HashMap;
@@ -35,42 +35,28 @@ impl NameCounts {
         }
     }
 
-    /// Makes room to count one more name in any directory. Each count stays.
-    pub(crate) fn make_room(&mut self) -> Result<(), AllocError>
-        ensures same { (dir : ℕ) → counted self.new dir ≡ counted self.old dir }
-        ensures bound { self.new.bound ≡ self.old.bound }
-        ensures room { OnOk result (has_spare self.new ≡ true) }
-        ensures unneeded { has_spare self.old ≡ true → is_ok result ≡ true }
+    /// Counts one more name in the directory `dir`. If memory is refused, each count stays.
+    pub(crate) fn raise(&mut self, dir: u64) -> Result<(), AllocError>
+        ensures raised { counted self.old dir ≤ self.old.bound → OnOk result ((d : ℕ) → counted self.new d
+            ≡ (if d == dir then counted self.old dir + 1 else counted self.old d)) }
+        ensures bound { OnOk result (self.new.bound ≡ self.old.bound + 1) }
+        ensures same { OnErr result ((d : ℕ) → counted self.new d ≡ counted self.old d) }
+        ensures same_bound { OnErr result (self.new.bound ≡ self.old.bound) }
     {
         if self.bound == u64::MAX {
             return Err(AllocError);
         }
-        self.directories.try_reserve(1)
-    }
-
-    /// Counts one more name in the directory `dir`, in the room that `make_room` made.
-    pub(crate) fn raise(&mut self, dir: u64)
-        requires room { has_spare self.old ≡ true }
-        ensures raised { counted self.old dir < greatest → (d : ℕ) → counted self.new d
-            ≡ (if d == dir then counted self.old dir + 1 else counted self.old d) }
-        ensures bound { self.new.bound ≡ self.old.bound + 1 }
-    {
+        let count = self.directories.entry(dir)?.or_insert(0);
+        *count = count.saturating_add(1);
         self.bound += 1;
-        if let Some(count) = self.directories.get_mut(&dir) {
-            *count = count.saturating_add(1);
-            return;
-        }
-        let Ok(_) = self.directories.insert(dir, 1) else {
-            unreachable!()
-        };
+        Ok(())
     }
 
-    /// Counts one name less in the directory `dir`, and removes the directory with its last name. Leaves the room as it is.
+    /// Counts one name less in the directory `dir`, and removes the directory with its last name.
     pub(crate) fn lower(&mut self, dir: u64)
         ensures lowered { (d : ℕ) → counted self.new d
             ≡ (if d == dir then counted self.old dir - 1 else counted self.old d) }
         ensures bound { self.new.bound ≡ self.old.bound }
-        ensures room { has_spare self.old ≡ true → has_spare self.new ≡ true }
     {
         let Some(count) = self.directories.get_mut(&dir) else {
             return;

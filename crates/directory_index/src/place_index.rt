@@ -103,8 +103,24 @@ impl PlaceIndex {
     }
 
     /// Removes `number`, which stands under `name` in the directory `dir`, and returns whether the maps had it. Takes no
-    /// memory, and leaves the room as it is. `key` is the key of this place.
-    pub(crate) fn remove(&mut self, key: u64, dir: u64, name: &[u8], number: u64) -> bool
+    /// memory, and leaves the room as it is. The key of this place is reckoned only where the maps have the number.
+    pub(crate) fn remove(&mut self, dir: u64, name: &[u8], number: u64) -> bool
+        ensures had { result ≡ not (is_latest self.old.latest number) }
+        ensures removed { (at below : Standing) → ArePlacesOf at below self.old → at dir name.now ≡ Some number
+            → result ≡ true → ArePlacesOf (removed at dir name.now) (removed below dir name.now) self.new }
+        ensures latest { (at below : Standing) → ArePlacesOf at below self.old → at dir name.now ≡ Some number
+            → result ≡ false → ArePlacesOf (removed at dir name.now) below self.new }
+        ensures room { has_place self.old ≡ true → has_place self.new ≡ true }
+    {
+        if is_latest(&self.latest, number) {
+            self.latest = None;
+            return false;
+        }
+        self.remove_at(key_of(dir, name), dir, name, number)
+    }
+
+    /// Removes `number`, as `remove` does. `key` is the key of its place.
+    pub(crate) fn remove_at(&mut self, key: u64, dir: u64, name: &[u8], number: u64) -> bool
         requires key { key ≡ key_of dir name.now }
         ensures had { result ≡ not (is_latest self.old.latest number) }
         ensures removed { (at below : Standing) → ArePlacesOf at below self.old → at dir name.now ≡ Some number

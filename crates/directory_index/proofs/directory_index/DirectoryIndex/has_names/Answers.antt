@@ -4,7 +4,7 @@ use Rattle.directory_index.proofs.Looking.{names-latest, names-none, names-some}
 use Rattle.directory_index.proofs.directory_index.DirectoryIndex.has_names.Goals as goal
 
 pub returns-then-is_latest_in-clause-some : goal.returns-then-is_latest_in-clause-some
-returns-then-is_latest_in-clause-some c at is t = names-latest at c.args.self.now is c.args.dir (sym c.is_latest_in.ensures ∙ t)
+returns-then-is_latest_in-clause-some c at is t = names-latest at is.below c.args.self.now.places is.places c.args.dir (sym c.is_latest_in.ensures ∙ t)
 
 pub returns-else-is_latest_in-clause-some : goal.returns-else-is_latest_in-clause-some
 returns-else-is_latest_in-clause-some c at is t = names-some at c.args.self.now is c.args.dir (sym c.has_any.ensures.any ∙ t)

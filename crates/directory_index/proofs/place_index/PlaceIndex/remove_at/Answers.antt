@@ -6,7 +6,7 @@ use Rattle.directory_index.specs.Standing.{is_place}
 use Rattle.directory_index.specs.declared.place_index.PlaceIndex.{PlaceIndex}
 use Rattle.directory_index.proofs.Naming.{names-removed}
 use Rattle.directory_index.proofs.PlaceChanges.{below-apart, places-removed, stood-below}
-use Rattle.directory_index.proofs.place_index.PlaceIndex.remove.Goals as goal
+use Rattle.directory_index.proofs.place_index.PlaceIndex.remove_at.Goals as goal
 
 pub returns-clause-removed : goal.returns-clause-removed
 returns-clause-removed c at below is stood had =
