@@ -9,5 +9,5 @@ range_of from len text = take len (drop from text)
 
 -- the bytes that stand in this memory
 abbrev pub bytes_of : Storage → List ℕ
-bytes_of (Own bytes) = bytes.items
+bytes_of (Own range) = drop range.from range.bytes.items
 bytes_of (Shared range) = range_of range.from range.len range.text.value.items

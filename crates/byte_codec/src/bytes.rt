@@ -1,9 +1,9 @@
 //! Bytes that a message carries whole.
-ghost use Rattle.std.specs.Prelude.{◌≡◌, ◌+◌, ◌≤◌, length, nat_eq, IfOk, IfSome};
+ghost use Rattle.std.specs.Prelude.{◌≡◌, ◌+◌, ◌≤◌, ◌++◌, drop as without, length, nat_eq, IfOk, IfSome};
 ghost use Rattle.byte_codec.specs.Bytes.{range_of};
 
-use crate::storage::{SharedRange, Storage};
-use std::alloc::AllocError;
+use crate::storage::{OwnRange, SharedRange, Storage};
+use std::alloc::{AllocError, Global};
 use std::marker::Model;
 use std::sync::Arc;
 
@@ -34,7 +34,7 @@ impl Bytes {
         ensures bytes { result ≡ bytes.items }
     {
         Bytes {
-            storage: Storage::Own(bytes),
+            storage: Storage::Own(OwnRange { bytes, from: 0 }),
         }
     }
 
@@ -55,23 +55,69 @@ impl Bytes {
         ensures bytes { result.now ≡ self.now }
     {
         match &self.storage {
-            Storage::Own(bytes) => bytes.as_slice(),
+            Storage::Own(range) => range.as_slice(),
             Storage::Shared(range) => range.as_slice(),
         }
     }
 
-    /// Returns the bytes as a `Vec`, in the same memory, or none if they are part of a shared text.
+    /// Returns the bytes as a `Vec`, in the same memory, or none if they are part of a longer or a shared text.
     pub fn into_vec(self) -> Option<Vec<u8>>
         ensures bytes { IfSome result (λ bytes. bytes.items ≡ self) }
     {
         let Bytes { storage } = self;
         match storage {
-            Storage::Own(bytes) => Some(bytes),
+            Storage::Own(range) => range.into_vec(),
             Storage::Shared(range) => {
                 drop(range);
                 None
             }
         }
+    }
+
+    /// Returns the bytes behind the first `count`, which stay in memory but are no longer among them.
+    pub fn after(self, count: usize) -> Bytes
+        requires within { count ≤ length self }
+        ensures bytes { result ≡ without count self }
+    {
+        let Bytes { storage } = self;
+        let storage = match storage {
+            Storage::Own(range) => Storage::Own(range.after(count)),
+            Storage::Shared(range) => Storage::Shared(range.after(count)),
+        };
+        Bytes { storage }
+    }
+
+    /// Returns the bytes with `front` before them. They stay in their memory if that has room before them, as behind
+    /// `after`. Else they are copied, and `AllocError` is returned if memory for that is refused.
+    pub fn with_front(self, alloc: Global, front: &[u8]) -> Result<Bytes, AllocError>
+        ensures bytes { IfOk result (λ bytes. bytes ≡ front.now ++ self) }
+    {
+        let Bytes { storage } = self;
+        let range = match storage {
+            Storage::Own(range) => range.with_front(alloc, front)?,
+            Storage::Shared(range) => OwnRange::of_both(alloc, front, range.as_slice())?,
+        };
+        Ok(Bytes {
+            storage: Storage::Own(range),
+        })
+    }
+
+    /// Returns the bytes twice, without a copy of them. Bytes of their own become a shared text, which takes memory for its
+    /// owners' count. Returns `AllocError` if that is refused, or one more owner can't be counted.
+    pub fn twice(self, alloc: Global) -> Result<(Bytes, Bytes), AllocError>
+        ensures first { IfOk result (λ both. both.0 ≡ self) }
+        ensures second { IfOk result (λ both. both.1 ≡ self) }
+    {
+        let Bytes { storage } = self;
+        let range = match storage {
+            Storage::Own(range) => range.into_shared(alloc)?,
+            Storage::Shared(range) => range,
+        };
+        let second = Bytes::shared(&range.text, range.from, range.len)?;
+        let first = Bytes {
+            storage: Storage::Shared(range),
+        };
+        Ok((first, second))
     }
 }
 
