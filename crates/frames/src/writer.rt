@@ -2,6 +2,7 @@
 ghost use Rattle.std.specs.Prelude.{◌≡◌, ◌++◌, ◌≤◌, ℕ, List, [], length, vec_capacity, IfOk, IfErr, OnOk, OnErr, Some};
 ghost use Rattle.std.specs.List.{All, flat_map};
 ghost use Rattle.byte_codec.specs.Writing.{HasRoom, Puts};
+ghost use Rattle.frames.specs.declared.kind.FrameKind.TheVariants as kinds;
 ghost use Rattle.frames.specs.declared.frame.Frame.TheVariants.{Post as APost};
 ghost use Rattle.frames.specs.FrameText.{Fits, FitsMessage, FitsVersion, HasRoomFor, IsNotMemory, IsNotWritten, body_of, framed, frame_text, kind_of, message_body, message_kind, version_text};
 ghost use Rattle.frames.specs.Reading.{First, said};
@@ -249,35 +250,43 @@ impl Frame {
 
 /// Appends the text of a `Post` to `text`. `len` is the length of the body.
 #[tactic(auto, using(crate::proofs::Written::written), unfolding(byte_codec::specs::Field::byte_text))]
-fn put_post(text: &mut Vec<u8>, len: u32, generation: u64, reply: &[u8])
-    requires len { len ≡ length (body_of (APost generation reply.now)) }
-    requires room { HasRoom text.old (length (framed (kind_of (APost generation reply.now)) (body_of (APost generation reply.now)))) }
-    ensures text { Puts text.old text.new (framed (kind_of (APost generation reply.now)) (body_of (APost generation reply.now))) }
-    ensures fits { Fits (APost generation reply.now) }
+fn put_post(text: &mut Vec<u8>, len: u32, generation: u64, head: &[u8], rest: &[u8])
+    requires len { len ≡ length (body_of (APost generation (head.now ++ rest.now))) }
+    requires room { HasRoom text.old (length (framed kinds.Post (body_of (APost generation (head.now ++ rest.now))))) }
+    ensures text { Puts text.old text.new (framed kinds.Post (body_of (APost generation (head.now ++ rest.now)))) }
+    ensures fits { Fits (APost generation (head.now ++ rest.now)) }
 {
     put_u32(text, len);
     put_byte(text, FrameKind::Post.number());
     put_u64(text, generation);
-    put_slice(text, reply);
+    put_slice(text, head);
+    put_slice(text, rest);
 }
 
-/// Writes the text of the `Post` of `reply` at `generation`, as `Frame::write_to` does.
+/// Writes the text of the `Post` of a reply at `generation`, as `Frame::write_to` does. The reply is the bytes of `head` and
+/// then those of `rest`.
 #[tactic(auto, using(crate::proofs::Written::lengths))]
-pub fn write_post_to(text: &mut Vec<u8>, generation: u64, reply: &[u8]) -> Result<(), FrameFault>
-    ensures text { OnOk result (frame_text (APost generation reply.now) ≡ Some text.new.items) }
-    ensures refused { IfErr result (IsNotWritten (APost generation reply.now)) }
+pub fn write_post_to(
+    text: &mut Vec<u8>,
+    generation: u64,
+    head: &[u8],
+    rest: &[u8],
+) -> Result<(), FrameFault>
+    ensures text { OnOk result (frame_text (APost generation (head.now ++ rest.now)) ≡ Some text.new.items) }
+    ensures refused { IfErr result (IsNotWritten (APost generation (head.now ++ rest.now))) }
     ensures empty { OnErr result (text.new.items ≡ []) }
-    ensures in_room { HasRoomFor (APost generation reply.now) text.old → IfErr result IsNotMemory }
+    ensures in_room { HasRoomFor (APost generation (head.now ++ rest.now)) text.old → IfErr result IsNotMemory }
     ensures capacity { vec_capacity text.old ≤ vec_capacity text.new }
 {
     text.clear();
-    if reply.len() > LONGEST_BODY - GENERATION {
+    let most = LONGEST_BODY - GENERATION;
+    if head.len() > most || rest.len() > most - head.len() {
         return Err(FrameFault::TooLong);
     }
-    let len = GENERATION + reply.len();
+    let len = GENERATION + head.len() + rest.len();
     if text.reserve(BEFORE_BODY + len).is_err() {
         return Err(FrameFault::NoMemory);
     }
-    put_post(text, len as u32, generation, reply);
+    put_post(text, len as u32, generation, head, rest);
     Ok(())
 }

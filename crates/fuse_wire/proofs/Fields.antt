@@ -24,6 +24,11 @@ u64_again n rest lt = little_number-reads_back 8 n rest lt
 pub bits_below : (n : ℤ) → FitsSigned w32 n → cast_unsigned w32 n < 2 ^ 32
 bits_below n fits = omega (arith, ints)
 
+-- the unsigned number in the bytes of a signed one
+pub i32_word : (n : ℤ) (rest : List ℕ) → FitsSigned w32 n → u32_at (i32_bytes n ++ rest) ≡ cast_unsigned w32 n
+unfolding i32_bytes
+i32_word n rest fits = u32_again (cast_unsigned w32 n) rest (bits_below n fits)
+
 pub i32_again : (n : ℤ) (rest : List ℕ) → FitsSigned w32 n → i32_at (i32_bytes n ++ rest) ≡ n
 unfolding i32_at i32_bytes
 i32_again n rest fits = ap (cast_signed w32) (u32_again (cast_unsigned w32 n) rest (bits_below n fits)) ∙ to_z-of_z w32 n fits

@@ -1,5 +1,6 @@
 -- A reply that was written is read again as itself.
-use Rattle.std.proofs.Common.{◌≡◌, ℕ, ◌+◌, ◌%◌, ◌^◌, ◌<◌, ◌≤◌, ℤ, List, [], ◌++◌, length, drop, Some, refl, sym, ap, subst, ◌∙◌, append_assoc, length-append, arith}
+use Rattle.std.proofs.Common.{◌≡◌, ℕ, ◌+◌, ◌%◌, ◌^◌, ◌<◌, ◌≤◌, ℤ, false, List, [], ◌++◌, length, drop, Some, refl, sym, ap, subst, ◌∙◌, append_assoc, length-append, arith}
+use Rattle.std.specs.Int.{w32, cast_unsigned}
 use Rattle.std.proofs.lemmas.Bool.Decides.{nat_tests}
 use Rattle.std.proofs.lemmas.List.{append-nil, drop_at, drop-drop}
 use Rattle.eden_base.specs.declared.attr.Attr.{Attr}
@@ -8,15 +9,15 @@ use Rattle.eden_base.specs.declared.attr.Kind.TheVariants.{File, Dir}
 use Rattle.eden_base.specs.declared.attr.Perm.{Perm}
 use Rattle.eden_base.specs.declared.number.Number.{Number}
 use Rattle.fuse_wire.specs.declared.reply.Answer.{Answer}
-use Rattle.fuse_wire.specs.declared.reply.Answer.TheVariants.{Entry, Opened, Attrs, Done, Error}
+use Rattle.fuse_wire.specs.declared.reply.Answer.TheVariants.{Entry, Opened, Attrs, Done, Buffer, Error}
 use Rattle.fuse_wire.specs.declared.reply.Reply.{Reply}
 use Rattle.fuse_wire.specs.Field.{i32_bytes, u32_bytes, u64_bytes, i32_at, u32_at, u64_at, zeros}
 use Rattle.fuse_wire.specs.Mode.{perm_of, type_bits}
 use Rattle.fuse_wire.specs.ReplyReading.{kind_of, number_at, attr_at, answer_at}
-use Rattle.fuse_wire.specs.ReplyText.{error_field, mode, attributes, entry, payload, reply_header, reply_text, FitsAttr, FitsAnswer, FitsReply}
+use Rattle.fuse_wire.specs.ReplyText.{error_field, buffer_of, head_payload, is_buffer, mode, attributes, entry, payload, reply_head, reply_header, reply_text, FitsAttr, FitsAnswer, FitsReply}
 use Rattle.fuse_wire.proofs.Errors.{error_fits, failure_is}
 use Rattle.eden_base.proofs.PermLemmas.{same_perm}
-use Rattle.fuse_wire.proofs.Fields.{i32_again, u32_again, u64_again}
+use Rattle.fuse_wire.proofs.Fields.{i32_again, i32_word, u32_again, u64_again}
 use Rattle.fuse_wire.proofs.Lengths.{lengths, length-i32_bytes, length-u32_bytes, length-u64_bytes, length-zeros, length-reply_header}
 
 -- ---- modes
@@ -91,21 +92,48 @@ attributes_again number attr after fits =
 abbrev header_is : Reply → List ℕ
 header_is reply = reply_header (16 + length (payload reply.answer)) (error_field reply.answer) reply.unique
 
-pub payload_fits : (answer : Answer) → length (payload answer) ≤ 144
-payload_fits (Entry number attr) = grind (arith, lengths)
-payload_fits (Opened number attr) = grind (arith, lengths)
-payload_fits (Attrs number attr) = grind (arith, lengths)
-payload_fits Done = grind (arith, lengths)
-payload_fits (Error errno) = grind (arith, lengths)
+pub payload_fits : (answer : Answer) → length (buffer_of answer) ≤ 65512 → length (payload answer) ≤ 65512
+payload_fits (Entry number attr) fits = grind (arith, lengths)
+payload_fits (Opened number attr) fits = grind (arith, lengths)
+payload_fits (Attrs number attr) fits = grind (arith, lengths)
+payload_fits Done fits = grind (arith, lengths)
+payload_fits (Buffer bytes) fits = fits
+payload_fits (Error errno) fits = grind (arith, lengths)
 
 pub length-reply_text : (reply : Reply) → length (reply_text reply) ≡ 16 + length (payload reply.answer)
 length-reply_text reply =
     omega (arith, length-append (header_is reply) (payload reply.answer), length-reply_header (16 + length (payload reply.answer)) (error_field reply.answer) reply.unique)
 
+-- without a buffer the head of a reply is the whole of it
+pub head_is_whole : (reply : Reply) → is_buffer reply.answer ≡ false → reply_head reply ≡ reply_text reply
+head_is_whole reply fixed =
+    ap (λ (t : List ℕ). reply_header (16 + length (payload reply.answer)) (error_field reply.answer) reply.unique ++ t) (same reply.answer fixed) where
+      same : (answer : Answer) → is_buffer answer ≡ false → head_payload answer ≡ payload answer
+      same (Entry number attr) none = refl
+      same (Opened number attr) none = refl
+      same (Attrs number attr) none = refl
+      same Done none = refl
+      same (Buffer bytes) none = absurd cc
+      same (Error errno) none = refl
+
+-- what follows the head of a reply is its buffer
+pub head_and_buffer : (reply : Reply) → reply_text reply ≡ reply_head reply ++ buffer_of reply.answer
+head_and_buffer reply =
+    let header = reply_header (16 + length (payload reply.answer)) (error_field reply.answer) reply.unique in
+    ap (λ (t : List ℕ). header ++ t) (parts reply.answer) ∙ sym (append_assoc header (head_payload reply.answer) (buffer_of reply.answer)) where
+      parts : (answer : Answer) → payload answer ≡ head_payload answer ++ buffer_of answer
+      parts (Entry number attr) = sym (append-nil (entry number attr))
+      parts (Opened number attr) = sym (append-nil (entry number attr ++ zeros 16))
+      parts (Attrs number attr) = sym (append-nil (zeros 16 ++ attributes number attr))
+      parts Done = refl
+      parts (Buffer bytes) = refl
+      parts (Error errno) = refl
+
 -- the fields of the header
 pub record HeaderIs (reply : Reply) (bytes : List ℕ) : Type 0 where
   pub len : u32_at bytes ≡ 16 + length (payload reply.answer)
   pub error : i32_at (drop 4 bytes) ≡ error_field reply.answer
+  pub word : u32_at (drop 4 bytes) ≡ cast_unsigned w32 (error_field reply.answer)
   pub unique : u64_at (drop 8 bytes) ≡ reply.unique
   pub rest : drop 16 bytes ≡ payload reply.answer
 
@@ -121,10 +149,11 @@ header_again reply fits =
     let at4 : drop 4 bytes ≡ r1 = behind bytes (u32_bytes len) r1 0 4 4 all (length-u32_bytes len) refl in
     let at8 : drop 8 bytes ≡ r2 = behind bytes (i32_bytes error) r2 4 4 8 at4 (length-i32_bytes error) refl in
     let at16 : drop 16 bytes ≡ rest = behind bytes (u64_bytes reply.unique) rest 8 8 16 at8 (length-u64_bytes reply.unique) refl in
-    let short : len < 2 ^ 32 = omega (arith, payload_fits reply.answer) in
+    let short : len < 2 ^ 32 = omega (arith, payload_fits reply.answer fits.1.1) in
     record {
       len = ap u32_at all ∙ u32_again len r1 short;
       error = ap i32_at at4 ∙ i32_again error r2 (error_fits reply.answer);
+      word = ap u32_at at4 ∙ i32_word error r2 (error_fits reply.answer);
       unique = ap u64_at at8 ∙ u64_again reply.unique rest fits.0;
       rest = at16;
     }
@@ -136,27 +165,28 @@ attributes_at bytes before number attr after n k rest len is fits =
     let there : drop k bytes ≡ attributes number attr ++ after = behind bytes before (attributes number attr ++ after) 16 n k rest len is in
     rw there (attributes_again number attr after fits)
 
-answer_is : (answer : Answer) (bytes : List ℕ) → FitsAnswer answer → length bytes ≡ 16 + length (payload answer) → drop 16 bytes ≡ payload answer → answer_at (error_field answer) bytes ≡ Some answer
+answer_is : (answer : Answer) (bytes : List ℕ) → is_buffer answer ≡ false → FitsAnswer answer → length bytes ≡ 16 + length (payload answer) → drop 16 bytes ≡ payload answer → answer_at (error_field answer) bytes ≡ Some answer
 unfolding answer_at
-answer_is (Entry number attr) bytes fits len rest =
+answer_is (Entry number attr) bytes fixed fits len rest =
     let regrouped : entry number attr ≡ (u64_bytes number.0 ++ zeros 32) ++ (attributes number attr ++ []) = ap (λ (t : List ℕ). (u64_bytes number.0 ++ zeros 32) ++ t) (sym (append-nil (attributes number attr))) in
     let forty : length (u64_bytes number.0 ++ zeros 32) ≡ 40 = omega (arith, length-append (u64_bytes number.0) (zeros 32), length-u64_bytes number.0, length-zeros 32) in
     let there = attributes_at bytes (u64_bytes number.0 ++ zeros 32) number attr [] 40 56 (rest ∙ regrouped) forty refl fits in
     let long : length bytes ≡ 144 = omega (arith, length-append (u64_bytes number.0 ++ zeros 32) (attributes number attr), length-attributes number attr) in
     rw (long, there.0, there.1) refl
-answer_is (Opened number attr) bytes fits len rest =
+answer_is (Opened number attr) bytes fixed fits len rest =
     let regrouped : entry number attr ++ zeros 16 ≡ (u64_bytes number.0 ++ zeros 32) ++ (attributes number attr ++ zeros 16) = append_assoc (u64_bytes number.0 ++ zeros 32) (attributes number attr) (zeros 16) in
     let forty : length (u64_bytes number.0 ++ zeros 32) ≡ 40 = omega (arith, length-append (u64_bytes number.0) (zeros 32), length-u64_bytes number.0, length-zeros 32) in
     let there = attributes_at bytes (u64_bytes number.0 ++ zeros 32) number attr (zeros 16) 40 56 (rest ∙ regrouped) forty refl fits in
     let long : length bytes ≡ 160 = omega (arith, length-append (entry number attr) (zeros 16), length-zeros 16, length-append (u64_bytes number.0 ++ zeros 32) (attributes number attr), length-attributes number attr) in
     rw (long, there.0, there.1) refl
-answer_is (Attrs number attr) bytes fits len rest =
+answer_is (Attrs number attr) bytes fixed fits len rest =
     let regrouped : zeros 16 ++ attributes number attr ≡ zeros 16 ++ (attributes number attr ++ []) = ap (λ (t : List ℕ). zeros 16 ++ t) (sym (append-nil (attributes number attr))) in
     let there = attributes_at bytes (zeros 16) number attr [] 16 32 (rest ∙ regrouped) (length-zeros 16) refl fits in
     let long : length bytes ≡ 120 = omega (arith, length-append (zeros 16) (attributes number attr), length-zeros 16, length-attributes number attr) in
     rw (long, there.0, there.1) refl
-answer_is Done bytes fits len rest = let long : length bytes ≡ 16 = omega arith in rw long refl
-answer_is (Error errno) bytes fits len rest = failure_is errno bytes
+answer_is Done bytes fixed fits len rest = let long : length bytes ≡ 16 = omega arith in rw long refl
+answer_is (Buffer buffer) bytes fixed fits len rest = absurd cc
+answer_is (Error errno) bytes fixed fits len rest = failure_is errno bytes
 
 -- what is read of the text of a reply
 pub record ReadAs (reply : Reply) (bytes : List ℕ) : Type 0 where
@@ -165,13 +195,13 @@ pub record ReadAs (reply : Reply) (bytes : List ℕ) : Type 0 where
   pub unique : u64_at (drop 8 bytes) ≡ reply.unique
   pub answer : answer_at (i32_at (drop 4 bytes)) bytes ≡ Some reply.answer
 
-pub reply_again : (reply : Reply) (bytes : List ℕ) → FitsReply reply → bytes ≡ reply_text reply → ReadAs reply bytes
-reply_again reply bytes fits is =
+pub reply_again : (reply : Reply) (bytes : List ℕ) → is_buffer reply.answer ≡ false → FitsReply reply → bytes ≡ reply_text reply → ReadAs reply bytes
+reply_again reply bytes fixed fits is =
     let header : HeaderIs reply bytes = subst (HeaderIs reply) (sym is) (header_again reply fits) in
     let len : length bytes ≡ 16 + length (payload reply.answer) = ap length is ∙ length-reply_text reply in
     record {
       long = omega arith;
       len = header.len ∙ sym len;
       unique = header.unique;
-      answer = ap (λ (e : ℤ). answer_at e bytes) header.error ∙ answer_is reply.answer bytes fits.1 len header.rest;
+      answer = ap (λ (e : ℤ). answer_at e bytes) header.error ∙ answer_is reply.answer bytes fixed fits.1.0 len header.rest;
     }

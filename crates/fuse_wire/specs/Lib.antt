@@ -11,4 +11,5 @@ pub mod RequestReading
 pub mod RequestText
 pub mod ReplyReading
 pub mod ReplyText
+pub mod Sharing
 pub mod Writing

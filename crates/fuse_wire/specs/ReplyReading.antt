@@ -1,7 +1,7 @@
 -- How a reply is read. The fields that vary are read, at offsets that depend on the length of the whole. The bytes are
 -- then compared with the text of the reply that has these fields (linux/fuse.h: fuse_out_header, and the struct of each
 -- answer).
-use Rattle.std.specs.Prelude.{ℕ, zero, suc, ◌==◌, nat_lt, ℤ, pos, negsuc, List, length, drop, Option, Some, None, Result, Ok, Err, if◌then◌else◌}
+use Rattle.std.specs.Prelude.{Bool, ◌&&◌, ℕ, zero, suc, ◌==◌, nat_lt, ℤ, pos, negsuc, List, length, drop, Option, Some, None, Result, Ok, Err, if◌then◌else◌}
 use Rattle.std.specs.Str.{bytes_eq}
 use Rattle.eden_base.specs.declared.attr.Attr.{Attr}
 use Rattle.eden_base.specs.declared.attr.Kind.{Kind}
@@ -11,8 +11,10 @@ use Rattle.eden_base.specs.declared.errno.Errno.TheVariants.{ENOENT, EIO, ENOMEM
 use Rattle.eden_base.specs.declared.number.Number.{Number}
 use Rattle.fuse_wire.specs.declared.fault.WireFault.{WireFault}
 use Rattle.fuse_wire.specs.declared.fault.WireFault.TheVariants.{Short, BadLength, BadBody}
+use Rattle.fuse_wire.specs.declared.form.Form.{Form}
+use Rattle.fuse_wire.specs.declared.form.Form.TheVariants.{ABuffer}
 use Rattle.fuse_wire.specs.declared.reply.Answer.{Answer}
-use Rattle.fuse_wire.specs.declared.reply.Answer.TheVariants.{Entry, Opened, Attrs, Done, Error}
+use Rattle.fuse_wire.specs.declared.reply.Answer.TheVariants.{Entry, Opened, Attrs, Done, Buffer, Error}
 use Rattle.fuse_wire.specs.declared.reply.Reply.{Reply}
 use Rattle.fuse_wire.specs.Field.{i32_at, u32_at, u64_at}
 use Rattle.fuse_wire.specs.Mode.{S_IFREG, perm_of}
@@ -93,6 +95,27 @@ reply_of bytes =
     else if u32_at bytes == length bytes
     then reply_with (u64_at (drop 8 bytes)) (answer_at (i32_at (drop 4 bytes)) bytes) bytes
     else Err BadLength
+
+-- the unique of bytes with a whole header
+abbrev pub unique_in : List ℕ → Option ℕ
+unique_in bytes = if nat_lt (length bytes) 16 then None else Some (u64_at (drop 8 bytes))
+
+-- the bytes are a reply with any bytes behind its header: the header is whole, and has their length and no error; and
+-- they are no more than a frame has
+abbrev pub is_success : List ℕ → Bool
+is_success bytes =
+    nat_lt 15 (length bytes) && nat_lt (length bytes) 65529 && (u32_at bytes == length bytes) && (u32_at (drop 4 bytes) == 0)
+
+-- the reply that the bytes are where a buffer was asked for, or their first fault
+abbrev pub buffer_reply_of : List ℕ → Result Reply WireFault
+buffer_reply_of bytes =
+    if is_success bytes then Ok (record { unique = u64_at (drop 8 bytes); answer = Buffer (drop 16 bytes) })
+    else reply_of bytes
+
+-- the reply that the bytes are to an ask of this form, if there is such an ask, or their first fault
+abbrev pub reply_to : Option Form → List ℕ → Result Reply WireFault
+reply_to (Some ABuffer) bytes = buffer_reply_of bytes
+reply_to form bytes = reply_of bytes
 
 -- a fault that reading a reply may have
 abbrev pub IsReplyFault : WireFault → Type 0

@@ -1,12 +1,12 @@
 -- The bytes of a reply, of which no others are read (linux/fuse.h: fuse_out_header, fuse_entry_out, fuse_attr_out,
 -- fuse_open_out, fuse_attr). What a daemon does not tell here (times, owners, how long an answer may be kept) is 0.
-use Rattle.std.specs.Prelude.{◌<◌, ◌^◌, ℕ, ◌+◌, ℤ, pos, neg_ℤ, List, [], ◌++◌, length}
+use Rattle.std.specs.Prelude.{◌<◌, ◌≤◌, ◌^◌, ℕ, ◌+◌, ℤ, pos, neg_ℤ, List, [], ◌++◌, length, Bool, true, false}
 use Rattle.eden_base.specs.declared.attr.Attr.{Attr}
 use Rattle.eden_base.specs.declared.errno.Errno.{Errno}
 use Rattle.eden_base.specs.declared.errno.Errno.TheVariants.{ENOENT, EIO, ENOMEM, EEXIST, ENOTDIR, EISDIR, EINVAL, ENOSPC, ENAMETOOLONG, ENOSYS, ENOTEMPTY, EOVERFLOW, ESTALE}
 use Rattle.eden_base.specs.declared.number.Number.{Number}
 use Rattle.fuse_wire.specs.declared.reply.Answer.{Answer}
-use Rattle.fuse_wire.specs.declared.reply.Answer.TheVariants.{Entry, Opened, Attrs, Done, Error}
+use Rattle.fuse_wire.specs.declared.reply.Answer.TheVariants.{Entry, Opened, Attrs, Done, Buffer, Error}
 use Rattle.fuse_wire.specs.declared.reply.Reply.{Reply}
 use Rattle.fuse_wire.specs.Field.{i32_bytes, u32_bytes, u64_bytes, zeros}
 use Rattle.fuse_wire.specs.Mode.{type_bits}
@@ -53,6 +53,7 @@ payload (Entry number attr) = entry number attr
 payload (Opened number attr) = entry number attr ++ zeros 16
 payload (Attrs number attr) = zeros 16 ++ attributes number attr
 payload Done = []
+payload (Buffer bytes) = bytes
 payload (Error errno) = []
 
 -- the header of a reply: the length of the whole, the error, the unique
@@ -63,6 +64,26 @@ reply_header len error unique = u32_bytes len ++ i32_bytes error ++ u64_bytes un
 abbrev pub reply_text : Reply → List ℕ
 reply_text reply =
     reply_header (16 + length (payload reply.answer)) (error_field reply.answer) reply.unique ++ payload reply.answer
+
+-- what stands behind the header in the head of a reply: all that follows, but for the bytes of a buffer
+abbrev pub head_payload : Answer → List ℕ
+head_payload (Buffer bytes) = []
+head_payload answer = payload answer
+
+-- the head of a reply: the whole of it, but for the bytes of a buffer
+abbrev pub reply_head : Reply → List ℕ
+reply_head reply =
+    reply_header (16 + length (payload reply.answer)) (error_field reply.answer) reply.unique ++ head_payload reply.answer
+
+-- the bytes behind the head of a reply: those of its buffer, if it has one
+abbrev pub buffer_of : Answer → List ℕ
+buffer_of (Buffer bytes) = bytes
+buffer_of answer = []
+
+-- the answer is a buffer
+abbrev pub is_buffer : Answer → Bool
+is_buffer (Buffer bytes) = true
+is_buffer answer = false
 
 -- a number and its attributes fit their fields
 pub record FitsAttr (number : Number) (attr : Attr) : Type 0 where
@@ -77,6 +98,6 @@ FitsAnswer (Opened number attr) = FitsAttr number attr
 FitsAnswer (Attrs number attr) = FitsAttr number attr
 FitsAnswer answer = Unit {0}
 
--- the numbers and the attributes of a reply fit their fields
+-- the numbers and the attributes of a reply fit their fields, and its buffer a frame
 abbrev pub FitsReply : Reply → Type 0
-FitsReply reply = (reply.unique < 2 ^ 64) × FitsAnswer reply.answer
+FitsReply reply = (reply.unique < 2 ^ 64) × (FitsAnswer reply.answer × (length (buffer_of reply.answer) ≤ 65512))

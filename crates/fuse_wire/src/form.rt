@@ -15,6 +15,8 @@ pub enum Form {
     Attributes,
     /// A header alone.
     NoValue,
+    /// Bytes of any length.
+    ABuffer,
     /// No value: the request is not served and always fails, or it is a forget, which has no reply.
     OnlyAnError,
 }
@@ -29,6 +31,7 @@ impl Form {
             Answer::Opened { .. } => self == Form::AnOpenEntry,
             Answer::Attrs { .. } => self == Form::Attributes,
             Answer::Done => self == Form::NoValue,
+            Answer::Buffer(_) => self == Form::ABuffer,
             Answer::Error(_) => true,
         }
     }

@@ -36,6 +36,9 @@ pub(crate) const BATCH_REST_LEN: usize = 4;
 /// The length of `struct fuse_out_header`: len, error, unique.
 pub(crate) const REPLY_HEADER_LEN: usize = 16;
 
+/// The offset of the unique in `struct fuse_out_header`, behind len and error.
+pub(crate) const UNIQUE: usize = 8;
+
 /// The length of `struct fuse_entry_out`: nodeid, generation, how long it may be kept, attr.
 pub(crate) const ENTRY_LEN: usize = 128;
 

@@ -3,6 +3,7 @@
 
 mod batch;
 mod body_form;
+mod buffer;
 mod errno;
 mod fault;
 mod form;
@@ -26,12 +27,13 @@ mod same;
 mod writer;
 
 pub use batch::{Batch, BatchRoom};
+pub use buffer::Buffer;
 pub use fault::WireFault;
 pub use form::Form;
 pub use item::{Item, Items};
 pub use nodes::NodeIds;
 pub use reply::{Answer, Reply};
-pub use reply_reader::read_reply;
+pub use reply_reader::{read_buffer_reply, read_reply, unique_of};
 pub use reply_to_fault::fault_reply;
 pub use reply_writer::{MAX_REPLY_LEN, write_reply};
 pub use request::{Ask, Request};

@@ -1,11 +1,14 @@
 //! The replies of a daemon.
 ghost use Rattle.std.specs.Prelude.{◌≡◌, ◌↔◌, IsTrue};
+ghost use Rattle.fuse_wire.specs.Sharing.{StandsFor};
 
+use crate::Buffer;
 use crate::same::same_attr;
 use eden_base::{Attr, Errno, Number};
+use std::alloc::Global;
 
 /// What a daemon answers: a reply without its unique.
-#[derive(Clone, Copy, PartialEq, Eq)]
+#[derive(PartialEq, Eq, Drop)]
 pub enum Answer {
     /// To LOOKUP and MKDIR: the kernel holds `number` once more.
     Entry { number: Number, attr: Attr },
@@ -15,6 +18,8 @@ pub enum Answer {
     Attrs { number: Number, attr: Attr },
     /// To UNLINK, RMDIR and RENAME.
     Done,
+    /// Bytes of any length. No request that is served has such an answer yet.
+    Buffer(Buffer),
     Error(Errno),
 }
 
@@ -34,13 +39,42 @@ impl Answer {
                 matches!(other, Answer::Attrs { number: its, attr: second } if number == its && same_attr(*attr, *second))
             }
             Answer::Done => matches!(other, Answer::Done),
+            Answer::Buffer(buffer) => matches!(other, Answer::Buffer(second) if buffer.is(second)),
             Answer::Error(errno) => matches!(other, Answer::Error(second) if errno == second),
+        }
+    }
+
+    /// Returns the answer twice, for two owners, without a copy of its bytes. Only a buffer takes memory. Where that is
+    /// refused, ENOMEM stands for it both times.
+    pub fn twice(self, alloc: Global) -> (Answer, Answer)
+        ensures first { StandsFor self result.0 }
+        ensures second { result.1 ≡ result.0 }
+    {
+        match self {
+            Answer::Entry { number, attr } => (
+                Answer::Entry { number, attr },
+                Answer::Entry { number, attr },
+            ),
+            Answer::Opened { number, attr } => (
+                Answer::Opened { number, attr },
+                Answer::Opened { number, attr },
+            ),
+            Answer::Attrs { number, attr } => (
+                Answer::Attrs { number, attr },
+                Answer::Attrs { number, attr },
+            ),
+            Answer::Done => (Answer::Done, Answer::Done),
+            Answer::Buffer(buffer) => match buffer.twice(alloc) {
+                Ok((first, second)) => (Answer::Buffer(first), Answer::Buffer(second)),
+                Err(_refused) => (Answer::Error(Errno::ENOMEM), Answer::Error(Errno::ENOMEM)),
+            },
+            Answer::Error(errno) => (Answer::Error(errno), Answer::Error(errno)),
         }
     }
 }
 
 /// An answer, and the `unique` of the request that is answered.
-#[derive(Clone, Copy, PartialEq, Eq)]
+#[derive(PartialEq, Eq, Drop)]
 pub struct Reply {
     pub unique: u64,
     pub answer: Answer,

@@ -1,25 +1,82 @@
 //! Replies read from their bytes, on the broker's side.
-ghost use Rattle.std.specs.Prelude.{◌≡◌, ◌≢◌, ◌≤◌, ◌<◌, ◌↔◌, ◌+◌, length, drop, IfOk, IfErr, IsErrOf, Ok};
-ghost use Rattle.fuse_wire.specs.Field.{i32_at, u32_at};
-ghost use Rattle.fuse_wire.specs.ReplyText.{reply_text, FitsReply};
-ghost use Rattle.fuse_wire.specs.ReplyReading.{answer_at, attr_at, if_spelled, number_at, reply_of, IsReplyFault};
+ghost use Rattle.std.specs.Prelude.{◌≡◌, ◌≢◌, ◌≤◌, ◌<◌, ◌↔◌, ◌+◌, length, drop, IfOk, IfErr, IsErrOf, IfSome, Ok, Some, None, true, false, if◌then◌else◌};
+ghost use Rattle.fuse_wire.specs.Field.{i32_at, u32_at, u64_at};
+ghost use Rattle.fuse_wire.specs.Form.{belongs};
+ghost use Rattle.fuse_wire.specs.declared.form.Form.TheVariants.{ABuffer};
+ghost use Rattle.fuse_wire.specs.ReplyText.{is_buffer, reply_text, FitsReply};
+ghost use Rattle.fuse_wire.specs.ReplyReading.{answer_at, attr_at, buffer_reply_of, if_spelled, is_success, number_at, reply_of, unique_in, IsReplyFault};
 
 use crate::errno::errno_of;
 use crate::layout::{
     ATTRS_REPLY_ATTRIBUTES, ATTRS_REPLY_LEN, BLOCKS_AND_TIMES_LEN, DONE_REPLY_LEN,
-    ENTRY_REPLY_ATTRIBUTES, ENTRY_REPLY_LEN, OPENED_REPLY_LEN, REPLY_HEADER_LEN,
+    ENTRY_REPLY_ATTRIBUTES, ENTRY_REPLY_LEN, OPENED_REPLY_LEN, REPLY_HEADER_LEN, UNIQUE,
 };
 use crate::reader::Reader;
-use crate::{Answer, MAX_REPLY_LEN, Reply, WireFault, mode, write_reply};
+use crate::{Answer, Buffer, MAX_REPLY_LEN, Reply, WireFault, mode, write_reply};
+use byte_codec::Bytes;
 use byteorder::{ByteOrder, LittleEndian};
 use eden_base::{Attr, Number};
 
-/// Reads a reply, without taking memory. Bytes of the right length that are not what `write_reply` writes are
+/// Returns the unique in the header of a reply, or none if `bytes` are fewer than a header.
+pub fn unique_of(bytes: &[u8]) -> Option<u64>
+    ensures unique { result ≡ unique_in bytes.now }
+{
+    if bytes.len() < REPLY_HEADER_LEN {
+        return None;
+    }
+    let mut fields = Reader::new(bytes);
+    fields.skip(UNIQUE);
+    Some(fields.u64())
+}
+
+/// Reads the reply to an ask whose answer is a buffer. The buffer stays in the memory of `bytes`, so none is taken.
+pub fn read_buffer_reply(bytes: Bytes) -> Result<Reply, WireFault>
+    ensures exact { result ≡ buffer_reply_of bytes }
+    ensures only { (reply : Reply) → belongs ABuffer reply.answer ≡ true → FitsReply reply
+        → bytes ≡ reply_text reply → result ≡ Ok reply }
+{
+    read_buffer(bytes)
+}
+
+/// Reads a reply as `read_buffer_reply` does.
+fn read_buffer(bytes: Bytes) -> Result<Reply, WireFault>
+    ensures { result ≡ buffer_reply_of bytes }
+{
+    let Some(unique) = success_of(bytes.as_slice()) else {
+        return read_reply(bytes.as_slice());
+    };
+    let Some(buffer) = Buffer::of(bytes.after(REPLY_HEADER_LEN)) else {
+        unreachable!()
+    };
+    Ok(Reply {
+        unique,
+        answer: Answer::Buffer(buffer),
+    })
+}
+
+/// Returns the unique of a reply that has no error and any bytes behind its header, if `bytes` are one.
+fn success_of(bytes: &[u8]) -> Option<u64>
+    ensures unique { result ≡ (if is_success bytes.now then Some (u64_at (drop 8 bytes.now)) else None) }
+{
+    if bytes.len() < REPLY_HEADER_LEN || bytes.len() > REPLY_HEADER_LEN + Buffer::MAX_LEN {
+        return None;
+    }
+    let mut fields = Reader::new(bytes);
+    let len = fields.u32() as usize;
+    let error = fields.u32();
+    let unique = fields.u64();
+    if len != bytes.len() || error != 0 {
+        return None;
+    }
+    Some(unique)
+}
+
+/// Reads a reply whose answer is no buffer, without taking memory. Bytes of the right length that are not what `write_reply` writes are
 /// `BadBody`.
 pub fn read_reply(bytes: &[u8]) -> Result<Reply, WireFault>
     ensures text { IfOk result (λ reply. bytes.now ≡ reply_text reply) }
-    ensures only { (reply : Reply) → FitsReply reply → bytes.now ≡ reply_text reply
-        → result ≡ Ok reply }
+    ensures only { (reply : Reply) → is_buffer reply.answer ≡ false → FitsReply reply
+        → bytes.now ≡ reply_text reply → result ≡ Ok reply }
     ensures short { IsErrOf result WireFault.Short ↔ (length bytes.now < 16) }
     ensures bad_length { IsErrOf result WireFault.BadLength
         ↔ ((16 ≤ length bytes.now) × (u32_at bytes.now ≢ length bytes.now)) }
@@ -65,9 +122,10 @@ impl Reader<'_> {
     }
 }
 
-/// Returns `reply` if `bytes` are its text, else `BadBody`.
+/// Returns `reply`, which has no buffer, if `bytes` are its text, else `BadBody`.
 #[tactic(auto, using(crate::proofs::Lengths::lengths))]
 fn if_spelled(reply: Reply, bytes: &[u8]) -> Result<Reply, WireFault>
+    requires fixed { is_buffer reply.answer ≡ false }
     ensures { result ≡ if_spelled reply bytes.now }
 {
     let mut text = [0u8; MAX_REPLY_LEN];
@@ -82,7 +140,8 @@ fn if_spelled(reply: Reply, bytes: &[u8]) -> Result<Reply, WireFault>
 /// answer.
 #[tactic(auto, unfolding(crate::specs::ReplyReading::answer_at))]
 fn answer_of(error: i32, bytes: &[u8]) -> Option<Answer>
-    ensures { result ≡ answer_at error bytes.now }
+    ensures answer { result ≡ answer_at error bytes.now }
+    ensures fixed { IfSome result (λ answer. is_buffer answer ≡ false) }
 {
     if error != 0 {
         return errno_of(error).map(Answer::Error);

@@ -1,7 +1,7 @@
 //! Replies as bytes.
-ghost use Rattle.std.specs.Prelude.{◌<◌, ◌^◌, ◌≡◌, ◌++◌, ◌≤◌, Ok, length, take, drop};
+ghost use Rattle.std.specs.Prelude.{◌<◌, ◌^◌, ◌≡◌, ◌++◌, ◌≤◌, ◌+◌, Ok, false, length, take, drop};
 ghost use Rattle.fuse_wire.specs.ReplyReading.{reply_of};
-ghost use Rattle.fuse_wire.specs.ReplyText.{attributes, entry, error_field, payload, reply_header, reply_text, FitsAnswer, FitsAttr, FitsReply};
+ghost use Rattle.fuse_wire.specs.ReplyText.{attributes, buffer_of, entry, error_field, head_payload, is_buffer, payload, reply_head, reply_header, reply_text, FitsAnswer, FitsAttr, FitsReply};
 ghost use Rattle.fuse_wire.specs.Writing.{HasRoom, Puts};
 
 use crate::errno::error_field;
@@ -14,22 +14,38 @@ use crate::writer::MessageWriter;
 use crate::{Answer, Reply};
 use eden_base::{Attr, Number};
 
-/// The length of the longest reply, whose answer is `Answer::Opened`.
+/// The length of the longest head of a reply, whose answer is `Answer::Opened`.
 pub const MAX_REPLY_LEN: usize = OPENED_REPLY_LEN;
 
-/// Writes `reply` at the front of `out`, and returns its length. The bytes after the reply are unchanged.
+/// Writes the head of `reply` at the front of `out`, and returns its length. The bytes after it are unchanged. The head
+/// is the whole reply, but for the bytes of its buffer, which follow if the answer has one.
 #[tactic(auto, using(crate::proofs::Written::written))]
 pub fn write_reply(reply: &Reply, out: &mut [u8; MAX_REPLY_LEN]) -> usize
-    ensures text { out.new ≡ reply_text reply.now ++ drop result out.old }
-    ensures len { result ≡ length (reply_text reply.now) }
+    ensures head { out.new ≡ reply_head reply.now ++ drop result out.old }
+    ensures len { result ≡ length (reply_head reply.now) }
+    ensures whole { reply_text reply.now ≡ reply_head reply.now ++ buffer_of reply.now.answer }
     ensures fits { FitsReply reply.now }
-    ensures read_again { reply_of (take result out.new) ≡ Ok reply.now }
+    ensures read_again { is_buffer reply.now.answer ≡ false → reply_of (take result out.new) ≡ Ok reply.now }
 {
-    let len = REPLY_HEADER_LEN + payload_len(&reply.answer);
+    let head_len = REPLY_HEADER_LEN + head_payload_len(&reply.answer);
+    let len = head_len + reply.answer.buffer().len();
     let mut fields = MessageWriter::new(out);
     put_header(&mut fields, len as u32, reply);
     put_payload(&mut fields, &reply.answer);
-    len
+    head_len
+}
+
+impl Answer {
+    /// Returns the bytes of a buffer. Any other answer has none.
+    pub fn buffer(&self) -> &[u8]
+        ensures bytes { result.now ≡ buffer_of self.now }
+        ensures at_most { length result.now ≤ 65512 }
+    {
+        match self {
+            Answer::Buffer(buffer) => buffer.as_slice(),
+            _ => &[],
+        }
+    }
 }
 
 /// Writes the header (`struct fuse_out_header`).
@@ -45,25 +61,26 @@ fn put_header(fields: &mut MessageWriter, len: u32, reply: &Reply)
     fields.put_u64(reply.unique);
 }
 
-/// Returns how many bytes follow the header in a reply with this answer.
+/// Returns how many bytes follow the header in the head of a reply with this answer.
 #[tactic(auto, using(crate::proofs::Lengths::lengths))]
-fn payload_len(answer: &Answer) -> usize
-    ensures len { result ≡ length (payload answer.now) }
+fn head_payload_len(answer: &Answer) -> usize
+    ensures len { result ≡ length (head_payload answer.now) }
+    ensures whole { length (payload answer.now) ≡ result + length (buffer_of answer.now) }
     ensures at_most { result ≤ 144 }
 {
     match answer {
         Answer::Entry { .. } => ENTRY_LEN,
         Answer::Opened { .. } => ENTRY_LEN + OPEN_LEN,
         Answer::Attrs { .. } => ATTR_VALID_LEN + ATTRIBUTES_LEN,
-        Answer::Done | Answer::Error(_) => 0,
+        Answer::Done | Answer::Buffer(_) | Answer::Error(_) => 0,
     }
 }
 
-/// Writes what follows the header in a reply with this answer.
+/// Writes what follows the header in the head of a reply with this answer.
 #[tactic(auto, using(crate::proofs::Written::written))]
 fn put_payload(fields: &mut MessageWriter, answer: &Answer)
-    requires { HasRoom fields.old (length (payload answer.now)) }
-    ensures payload { Puts fields.old fields.new (payload answer.now) }
+    requires { HasRoom fields.old (length (head_payload answer.now)) }
+    ensures payload { Puts fields.old fields.new (head_payload answer.now) }
     ensures fits { FitsAnswer answer.now }
 {
     match answer {
@@ -76,7 +93,7 @@ fn put_payload(fields: &mut MessageWriter, answer: &Answer)
             fields.put_zeros(ATTR_VALID_LEN);
             put_attributes(fields, *number, attr);
         }
-        Answer::Done | Answer::Error(_) => {}
+        Answer::Done | Answer::Buffer(_) | Answer::Error(_) => {}
     }
 }
 

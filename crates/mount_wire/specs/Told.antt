@@ -7,6 +7,8 @@ use Rattle.fuse_wire.specs.declared.reply.Answer.{Answer}
 use Rattle.fuse_wire.specs.declared.reply.Answer.TheVariants.{Entry, Opened, Attrs, Error}
 use Rattle.fuse_wire.specs.Field.{u32_bytes, u64_bytes}
 use Rattle.fuse_wire.specs.ReplyText.{reply_text}
+use Rattle.mount_wire.specs.declared.mount_reply.ReplyKind.{ReplyKind}
+use Rattle.mount_wire.specs.declared.mount_reply.ReplyKind.TheVariants.{Short, Long}
 use Rattle.mount_wire.specs.declared.told_answer.FileOwner.{FileOwner}
 use Rattle.mount_wire.specs.declared.told_answer.MountAttributes.{MountAttributes}
 use Rattle.mount_wire.specs.declared.told_answer.MountTime.{MountTime}
@@ -58,3 +60,8 @@ told_text unique answer own =
 -- the text of the reply with this unique that tells an error
 abbrev pub error_text : ℕ → Errno → List ℕ
 error_text unique errno = reply_text (record { unique = unique; answer = Error errno })
+
+-- the bytes of a reply, wherever they stand
+abbrev pub bytes_of : ReplyKind → List ℕ
+bytes_of (Short bytes) = bytes
+bytes_of (Long bytes) = bytes

@@ -1,11 +1,13 @@
 //! A daemon's answer, as the kernel is told it.
-ghost use Rattle.std.specs.Prelude.{◌≡◌, ◌+◌, ◌≤◌, ◌++◌, length};
+ghost use Rattle.std.specs.Prelude.{◌≡◌, ◌+◌, ◌≤◌, ◌++◌, length, false, true, IfOk, OnErr};
 ghost use Rattle.mount_wire.specs.Told.{attributes_told, error_text, filled, owner_text, told_text, with_own};
-ghost use Rattle.fuse_wire.specs.ReplyText.{reply_text};
+ghost use Rattle.fuse_wire.specs.declared.reply.Answer.TheVariants.{Buffer as ABuffer};
+ghost use Rattle.fuse_wire.specs.ReplyText.{is_buffer, reply_text};
 
-use crate::ReplyBytes;
-use eden_base::Errno;
-use fuse_wire::{Answer, MAX_REPLY_LEN, Reply, write_reply};
+use crate::{MountReply, ReplyBytes};
+use eden_base::{Errno, NoMemory};
+use fuse_wire::{Answer, Buffer, MAX_REPLY_LEN, Reply, write_reply};
+use std::alloc::Global;
 
 /// When a mount began, since 1970. Each of its files has this as all its times, so that `make` sees no file change.
 #[derive(Clone, Copy, PartialEq, Eq)]
@@ -54,19 +56,45 @@ const ENTRY_BLOCKS: usize = 72;
 const ATTRS_BLOCKS: usize = 48;
 
 /// Returns the reply with this `unique` that tells `answer`. A daemon tells neither blocks nor times, and no owner. So
-/// they are put in: the blocks follow from the size, and the others are those of the mount, `own`.
-#[tactic(auto, using(crate::proofs::Texts::texts))]
-pub fn tell_answer(unique: u64, answer: &Answer, own: &MountAttributes) -> ReplyBytes
-    ensures text { result ≡ told_text unique answer.now own.now }
+/// they are put in: the blocks follow from the size, and the others are those of the mount, `own`. Only a buffer that came
+/// by no frame takes memory.
+pub fn tell_answer(
+    alloc: Global,
+    unique: u64,
+    answer: Answer,
+    own: &MountAttributes,
+) -> Result<MountReply, NoMemory>
+    ensures text { IfOk result (λ reply. reply ≡ told_text unique answer own.now) }
+    ensures lacks { OnErr result (is_buffer answer ≡ true) }
 {
-    let reply = Reply {
-        unique,
-        answer: *answer,
-    };
+    match answer {
+        Answer::Buffer(buffer) => tell_buffer(alloc, unique, buffer),
+        answer => Ok(MountReply::short(tell_fixed(unique, answer, own))),
+    }
+}
+
+/// Returns the reply with this `unique` that tells an answer which is a `buffer`.
+#[tactic(auto, using(crate::proofs::Texts::texts))]
+fn tell_buffer(alloc: Global, unique: u64, buffer: Buffer) -> Result<MountReply, NoMemory>
+    ensures text { IfOk result (λ reply. reply ≡ reply_text (record { unique = unique; answer = ABuffer buffer })) }
+{
+    let len = ReplyBytes::HEADER_LEN + buffer.as_slice().len();
+    let header = ReplyBytes::with_header(len as u32, 0, unique);
+    let bytes = buffer.into_bytes().with_front(alloc, header.as_slice())?;
+    Ok(MountReply::long(bytes))
+}
+
+/// Returns the reply with this `unique` that tells an answer of a fixed length.
+#[tactic(auto, using(crate::proofs::Texts::texts))]
+fn tell_fixed(unique: u64, answer: Answer, own: &MountAttributes) -> ReplyBytes
+    requires fixed { is_buffer answer ≡ false }
+    ensures text { result ≡ told_text unique answer own.now }
+{
+    let reply = Reply { unique, answer };
     let mut room = [0; MAX_REPLY_LEN];
     let len = write_reply(&reply, &mut room);
     let (text, _) = room.split_at(len);
-    match attributes_told(answer) {
+    match attributes_told(&reply.answer) {
         Some(shown) => with_own(text, &shown, own),
         None => whole(text),
     }
@@ -82,9 +110,10 @@ pub fn tell_error(unique: u64, errno: Errno) -> ReplyBytes
     })
 }
 
-/// Returns the bytes of `reply` as a daemon writes them.
+/// Returns the bytes of `reply`, which has no buffer, as a daemon writes them.
 #[tactic(auto, using(crate::proofs::Texts::texts))]
 pub(crate) fn tell_reply(reply: &Reply) -> ReplyBytes
+    requires fixed { is_buffer reply.now.answer ≡ false }
     ensures text { result ≡ reply_text reply.now }
 {
     let mut room = [0; MAX_REPLY_LEN];
@@ -106,7 +135,7 @@ fn attributes_told(answer: &Answer) -> Option<Shown>
             offset: ATTRS_BLOCKS,
             size: attr.size,
         }),
-        Answer::Done | Answer::Error(_) => None,
+        Answer::Done | Answer::Buffer(_) | Answer::Error(_) => None,
     }
 }
 

@@ -6,7 +6,7 @@ pub returns-clause-text : goal.returns-clause-text
 returns-clause-text c = let is = reading_is c.args.bytes.now c.read_spelled.result c.read_spelled.ensures in is.text
 
 pub returns-clause-only : goal.returns-clause-only
-returns-clause-only c = λ reply fits is. c.read_spelled.ensures ∙ text_again reply c.args.bytes.now fits is
+returns-clause-only c = λ reply fixed fits is. c.read_spelled.ensures ∙ text_again reply c.args.bytes.now fixed fits is
 
 pub returns-clause-short : goal.returns-clause-short
 returns-clause-short c = let is = reading_is c.args.bytes.now c.read_spelled.result c.read_spelled.ensures in is.short

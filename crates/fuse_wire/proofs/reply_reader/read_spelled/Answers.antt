@@ -17,6 +17,6 @@ returns c =
     let unique : u64_at (drop 8 bytes) ≡ c.u64-unique.result = cc in
     let fits : FitsSigned w32 c.i32-error.result = search rules in
     let passed = ap (λ (e : ℤ). answer_at e bytes) (to_z-of_z w32 c.i32-error.result fits) in
-    let found : answer_at c.i32-error.result bytes ≡ c.answer_of.result = sym passed ∙ sym c.answer_of.ensures in
+    let found : answer_at c.i32-error.result bytes ≡ c.answer_of.result = sym passed ∙ sym c.answer_of.ensures.answer in
     let some : c.answer_of.result ≡ Some c.in-Some.answer = c.in-Some.is in
     c.if_spelled.ensures ∙ sym (answered bytes c.u64-unique.result c.i32-error.result c.in-Some.answer (omega arith) len error unique (found ∙ some))
