@@ -1,9 +1,10 @@
 //! The kernel's side of a mount.
 ghost use Rattle.std.specs.Prelude.{◌≡◌, ◌+◌, ◌≤◌, Bool, true, length, Some, None, IfOk, IfErr, OnOk, OnErr};
 ghost use Rattle.std.specs.List.{list_all};
+ghost use Rattle.std.specs.Option.{option_copied};
 ghost use Rattle.fuse_wire.specs.Request.{is_ask};
 ghost use Rattle.broker_core.specs.Held.{held_count, IsLeastHeldAfter};
-ghost use Rattle.broker_core.specs.Traffic.{front, next_taken, is_under_way};
+ghost use Rattle.broker_core.specs.Traffic.{form_asked, front, next_taken, is_under_way};
 ghost use Rattle.broker_core.specs.Broker.{mount_fault, issue_fault, ask_fault, forget_fault, may_be_asked, seat_fault, take_fault, post_fault, mounted, asked, forgot, issued, unique_of, taken, posted, delivered, claim_fault, claimed, ended, has_seat, without_daemon, last_generation, seated, new_broker, IsIssueRefusal, IsDeliverRefusal};
 
 use crate::Seat;
@@ -11,7 +12,7 @@ use crate::fault::{DeliverFault, NotSeated, PostFault, TakeFault};
 use crate::held::Held;
 use crate::traffic::Traffic;
 use eden_base::{ClaimFault, DaemonId, NoMemory, Number};
-use fuse_wire::{Ask, Item, Reply, Request};
+use fuse_wire::{Ask, Form, Item, Reply, Request};
 use std::alloc::Global;
 use std::collections::VecDeque;
 use std::marker::Model;
@@ -284,6 +285,23 @@ impl Broker {
         }
     }
 
+    /// Returns why `daemon` can't post `reply` at `generation`, or none if it can.
+    pub fn post_refusal(
+        &self,
+        daemon: DaemonId,
+        generation: u64,
+        reply: &Reply,
+    ) -> Option<PostFault>
+        ensures fault { result ≡ post_fault self.now daemon generation reply.now }
+    {
+        match self.seat_refusal(daemon, generation) {
+            Some(NotSeated::Ended) => Some(PostFault::Ended),
+            Some(NotSeated::Stale(now)) => Some(PostFault::Stale(now)),
+            None if !self.traffic.is_asked(reply) => Some(PostFault::NotAsked),
+            None => None,
+        }
+    }
+
     /// Queues a reply for the kernel, if `daemon` has the seat at `generation` and the reply was asked for. Takes no
     /// memory.
     pub fn post(&mut self, daemon: DaemonId, generation: u64, reply: Reply) -> Result<(), PostFault>
@@ -313,8 +331,7 @@ impl Broker {
         if let Some(number) = reply.answer.given_out() {
             self.held.raise(number).map_err(|_| DeliverFault::NoMemory)?;
         }
-        let _delivered = self.traffic.deliver();
-        Ok(reply)
+        self.traffic.deliver().ok_or(DeliverFault::Empty)
     }
 
     /// Returns why the seat cannot be claimed from `generation`, or none if it can.
@@ -437,9 +454,16 @@ impl Broker {
         self.traffic.items_waiting()
     }
 
+    /// Returns the form of the answer to the ask with this unique, if a daemon took that ask and it has no reply.
+    pub fn form_asked(&self, unique: u64) -> Option<Form>
+        ensures form { result ≡ form_asked self.now.traffic unique }
+    {
+        self.traffic.form_asked(unique)
+    }
+
     /// Returns the reply that is delivered next, if one is posted.
-    pub fn next_reply(&self) -> Option<Reply>
-        ensures first { result ≡ front self.now.traffic.posted }
+    pub fn next_reply(&self) -> Option<&Reply>
+        ensures first { option_copied result ≡ front self.now.traffic.posted }
     {
         self.traffic.next_reply()
     }

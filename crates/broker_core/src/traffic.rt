@@ -1,6 +1,7 @@
 //! What is under way at the kernel's side of a mount.
 ghost use Rattle.std.specs.Prelude.{◌≡◌, length, is_ok, is_none, OnOk, OnErr};
 ghost use Rattle.std.specs.List.{list_any};
+ghost use Rattle.std.specs.Option.{option_copied};
 ghost use Rattle.broker_core.specs.Roomy.{is_not_before};
 ghost use Rattle.broker_core.specs.Traffic.{no_traffic, front, asks_under_way, ask_refusal, item_refusal, IsLater, ask_issued, item_issued, next_taken, left_by_take, form_asked, is_asked, may_be_given, reply_posted, reply_delivered, is_reply_of, is_unanswered, is_under_way};
 
@@ -161,7 +162,7 @@ impl Traffic {
     }
 
     /// Returns the form of the answer to the taken ask with this unique, if that ask has no reply.
-    fn form_asked(&self, unique: u64) -> Option<Form>
+    pub(crate) fn form_asked(&self, unique: u64) -> Option<Form>
         ensures { result ≡ form_asked self.now unique }
     {
         if is_not_before(&self.untaken, unique) {
@@ -186,10 +187,10 @@ impl Traffic {
     }
 
     /// Returns the reply that is delivered next, if one is posted.
-    pub(crate) fn next_reply(&self) -> Option<Reply>
-        ensures first { result ≡ front self.now.posted }
+    pub(crate) fn next_reply(&self) -> Option<&Reply>
+        ensures first { option_copied result ≡ front self.now.posted }
     {
-        self.posted.front().copied()
+        self.posted.front()
     }
 
     /// Removes and returns the first posted reply, which the kernel gets.

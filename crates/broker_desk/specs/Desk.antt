@@ -1,19 +1,20 @@
 -- Who is attached to the broker, and how each frame of a daemon is answered, with a row for each kind of frame. Which
 -- calls of the broker give the answers, and by which rules daemons get their numbers, is this project's own.
 use Rattle.std.specs.Prelude.{◌≡◌, ℕ, ◌+◌, Bool, true, false, ◌||◌, ◌⊎◌, ◌==◌, not, nat_le, List, [], ◌∷◌, ◌++◌, length, position, remove, Option, Some, None, is_some, Result, Ok, Err, if◌then◌else◌}
-use Rattle.std.specs.Option.{option_map_or}
+use Rattle.std.specs.Option.{option_and_then, option_map_or}
 use Rattle.std.specs.List.{AllByRecursion}
 use Rattle.eden_base.specs.declared.number.DaemonId.{DaemonId}
 use Rattle.eden_base.specs.declared.claim.ClaimFault.{ClaimFault}
 use Rattle.eden_base.specs.declared.claim.ClaimFault.TheVariants as claim
 use Rattle.fuse_wire.specs.Request.{IsSendable}
 use Rattle.fuse_wire.specs.RequestText.{request_text}
-use Rattle.fuse_wire.specs.ReplyReading.{reply_of}
+use Rattle.fuse_wire.specs.ReplyReading.{reply_to, unique_in}
+use Rattle.fuse_wire.specs.declared.form.Form.{Form}
 use Rattle.fuse_wire.specs.declared.fault.WireFault.{WireFault}
 use Rattle.fuse_wire.specs.declared.request.Ask.{Ask as FuseAsk}
 use Rattle.fuse_wire.specs.declared.reply.Reply.{Reply}
 use Rattle.broker_core.specs.Broker.{BrokerState, new_broker, mount_fault, mounted, take_fault, taken, post_fault, posted, claim_fault, claimed, without_daemon}
-use Rattle.broker_core.specs.Traffic.{next_taken}
+use Rattle.broker_core.specs.Traffic.{form_asked, next_taken}
 use Rattle.broker_core.specs.declared.broker.MountFault.{MountFault}
 use Rattle.broker_core.specs.declared.broker.MountFault.TheVariants as mount
 use Rattle.broker_core.specs.declared.fault.TakeFault.{TakeFault}
@@ -118,6 +119,10 @@ takes desk (Some (take.Stale now)) = tells desk (Stale now)
 takes desk (Some take.Empty) = tells desk Empty
 takes desk None = tells_with desk (frame_taken (next_taken desk.broker.traffic)) (taken desk.broker)
 
+-- the form of the answer to the ask that the bytes of a reply name, if a daemon took that ask and it has no reply
+abbrev pub form_named : DeskState → List ℕ → Option Form
+form_named desk reply = option_and_then (form_asked desk.broker.traffic) (unique_in reply)
+
 -- the result of the Post of a reply, by the fault that refuses it, if any
 abbrev pub posts_reply : DeskState → Reply → Option PostFault → Turn
 posts_reply desk reply (Some post.Ended) = tells desk Ended
@@ -149,10 +154,15 @@ mounts desk daemon None = tells_with desk (Mounted (desk.broker.last + 1)) (moun
 -- sends, closes the connection.
 abbrev pub serves : DeskState → DaemonId → Frame → Turn
 serves desk daemon (Take generation) = takes desk (take_fault desk.broker daemon generation)
-serves desk daemon (Post generation reply) = posts desk daemon generation (reply_of reply)
+serves desk daemon (Post generation reply) = posts desk daemon generation (reply_to (form_named desk reply) reply)
 serves desk daemon (Claim generation) = claims desk daemon generation (claim_fault desk.broker generation)
 serves desk daemon Mount = mounts desk daemon (mount_fault desk.broker)
 serves desk daemon frame = closes desk
+
+-- the frame is a Post
+abbrev pub is_post : Frame → Bool
+is_post (Post generation reply) = true
+is_post frame = false
 
 -- attached daemons send frames of this kind
 abbrev pub is_sent_by_daemons : Frame → Bool

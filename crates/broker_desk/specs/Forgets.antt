@@ -3,9 +3,7 @@
 use Rattle.std.specs.Prelude.{◌≡◌, Option, Some, None, Result, Ok, Err}
 use Rattle.eden_base.specs.declared.number.Number.{Number}
 use Rattle.fuse_wire.specs.declared.item.Item.{Item}
-use Rattle.fuse_wire.specs.declared.reply.Answer.{Answer}
 use Rattle.fuse_wire.specs.declared.request.Request.TheVariants.{Forget}
-use Rattle.fuse_wire.specs.Given.{given_out}
 use Rattle.broker_core.specs.Broker.{issue_fault, issued, IsIssueRefusal}
 use Rattle.broker_core.specs.declared.broker.IssueFault.{IssueFault}
 use Rattle.broker_desk.specs.Desk.{DeskState}
@@ -26,10 +24,6 @@ Forgets old item (Ok done) new = IsForgotten old item new
 Forgets old item (Err fault) new = IsForgetRefused old item fault new
 
 -- a reply that the kernel did not want gives this number out, which is forgotten once; or it gives none out
-abbrev pub TakesBackNumber : DeskState → Option Number → Result (Unit {0}) IssueFault → DeskState → Type 0
-TakesBackNumber old (Some number) result new = Forgets old (record { node = number; k = 1 }) result new
-TakesBackNumber old None result new = (result ≡ Ok tt) × (new ≡ old)
-
--- the number that an answer gives out is forgotten once
-abbrev pub TakesBack : DeskState → Answer → Result (Unit {0}) IssueFault → DeskState → Type 0
-TakesBack old answer result new = TakesBackNumber old (given_out answer) result new
+abbrev pub TakesBack : DeskState → Option Number → Result (Unit {0}) IssueFault → DeskState → Type 0
+TakesBack old (Some number) result new = Forgets old (record { node = number; k = 1 }) result new
+TakesBack old None result new = (result ≡ Ok tt) × (new ≡ old)

@@ -2,11 +2,11 @@
 ghost use Rattle.std.specs.Prelude.{◌≡◌, ◌<◌, ◌⊎◌, Some, None, false, length, IfOk, IfErr, OnOk, OnErr, if◌then◌else◌};
 ghost use Rattle.std.specs.Option.{IfSome};
 ghost use Rattle.frames.specs.declared.frame.Frame.TheVariants.{Take as ATake};
-ghost use Rattle.fuse_wire.specs.ReplyReading.{reply_of};
+ghost use Rattle.fuse_wire.specs.ReplyReading.{reply_to};
 ghost use Rattle.fuse_wire.specs.Request.{IsSendable};
 ghost use Rattle.broker_core.specs.Broker.{claim_fault, delivered, issued, issue_fault, mount_fault, take_fault, unique_of, IsDeliverRefusal, IsIssueRefusal};
 ghost use Rattle.broker_core.specs.Traffic.{front};
-ghost use Rattle.broker_desk.specs.Desk.{new_desk, mount_desk, desk_of, closed, left_by, is_present, is_over_for, is_full, next_daemon, place_of, struck, peer_after, enrolls, meets, hears, takes, posts, claims, mounts, is_sent_by_daemons, Answers, Makes, TakesLater};
+ghost use Rattle.broker_desk.specs.Desk.{new_desk, mount_desk, desk_of, closed, left_by, is_post, is_present, is_over_for, is_full, next_daemon, place_of, struck, form_named, peer_after, enrolls, meets, hears, takes, posts, claims, mounts, is_sent_by_daemons, Answers, Makes, TakesLater};
 ghost use Rattle.broker_desk.specs.declared.peer.Peer.TheVariants.{Unattached, Daemon as ADaemon};
 
 use crate::peer::{Peer, Response};
@@ -14,9 +14,13 @@ use broker_core::{Broker, DeliverFault, IssueFault, MountFault, PostFault, TakeF
 use byte_codec::Bytes;
 use eden_base::{ClaimFault, DaemonId, NoMemory};
 use frames::Frame;
-use fuse_wire::{Reply, Request, RequestRoom, read_reply, write_request_to};
+use fuse_wire::{
+    Form, Reply, Request, RequestRoom, WireFault, read_buffer_reply, read_reply, unique_of,
+    write_request_to,
+};
 use std::alloc::Global;
 use std::marker::Model;
+use std::mem;
 use takeover_core::Message;
 
 /// How many daemons run at once, and how many may come at all to the desk of a script.
@@ -139,10 +143,12 @@ impl Desk {
     }
 
     /// Answers a frame of `peer`. An Attach that is granted makes `peer` a daemon or a worker. Only a Take takes
-    /// memory, for the text of the ask: if that is refused, the answer is Empty, and the ask waits on.
-    pub fn answer(&mut self, peer: &mut Peer, frame: &Frame) -> Response
-        ensures answers { Answers self.old peer.old frame.now result self.new }
-        ensures peer { peer.new ≡ peer_after self.old peer.old frame.now }
+    /// memory, for the text of the ask: if that is refused, the answer is Empty, and the ask waits on. A Post leaves its
+    /// bytes here if they are a buffer's.
+    pub fn answer(&mut self, peer: &mut Peer, frame: &mut Frame) -> Response
+        ensures answers { Answers self.old peer.old frame.old result self.new }
+        ensures peer { peer.new ≡ peer_after self.old peer.old frame.old }
+        ensures frame { is_post frame.old ≡ false → frame.new ≡ frame.old }
     {
         match *peer {
             Peer::Unattached => self.meet(peer, frame),
@@ -225,9 +231,10 @@ impl Desk {
     }
 
     /// Answers a frame of an attached daemon.
-    fn hear(&mut self, daemon: DaemonId, frame: &Frame) -> Response
-        ensures hears { Makes (hears self.old daemon frame.now) result self.new
-            ⊎ TakesLater self.old (Some daemon) frame.now result self.new }
+    fn hear(&mut self, daemon: DaemonId, frame: &mut Frame) -> Response
+        ensures hears { Makes (hears self.old daemon frame.old) result self.new
+            ⊎ TakesLater self.old (Some daemon) frame.old result self.new }
+        ensures frame { is_post frame.old ≡ false → frame.new ≡ frame.old }
     {
         if !is_sent_by_daemons(frame) {
             return Response::Closes;
@@ -237,7 +244,7 @@ impl Desk {
         }
         match frame {
             Frame::Take { generation } => self.take(daemon, *generation),
-            Frame::Post { generation, reply } => self.post(daemon, *generation, reply.as_slice()),
+            Frame::Post { generation, reply } => self.post(daemon, *generation, reply),
             Frame::Claim { generation } => self.claim(daemon, *generation),
             Frame::Mount => self.mount(daemon),
             _ => unreachable!(),
@@ -273,11 +280,20 @@ impl Desk {
         }
     }
 
-    /// Answers a Post: accepts the reply for the kernel, or returns why not.
-    fn post(&mut self, daemon: DaemonId, generation: u64, reply: &[u8]) -> Response
-        ensures posts { Makes (posts self.old daemon generation (reply_of reply.now)) result self.new }
+    /// Returns the form of the answer to the ask that `reply` names, if a daemon took that ask and it has no reply.
+    fn form_named(&self, reply: &[u8]) -> Option<Form>
+        ensures form { result ≡ form_named self.now reply.now }
     {
-        let Ok(reply) = read_reply(reply) else {
+        self.broker.form_asked(unique_of(reply)?)
+    }
+
+    /// Answers a Post: accepts the reply for the kernel, or returns why not.
+    fn post(&mut self, daemon: DaemonId, generation: u64, reply: &mut Bytes) -> Response
+        ensures posts { Makes (posts self.old daemon generation (reply_to (form_named self.old reply.old) reply.old))
+            result self.new }
+    {
+        let form = self.form_named(reply.as_slice());
+        let Ok(reply) = read_reply_to(self.alloc, form, reply) else {
             return Response::Tells(Frame::NotAsked);
         };
         Response::Tells(match self.broker.post(daemon, generation, reply) {
@@ -327,6 +343,20 @@ impl Desk {
         ensures below { IfSome result (λ place. place < length self.now.daemons) }
     {
         self.daemons.iter().position(|known| known.0 == daemon.0)
+    }
+}
+
+/// Reads the reply to an ask whose answer has this `form`, or with none, to an ask that nobody knows. A buffer keeps the
+/// memory of `reply`, which is empty then.
+fn read_reply_to(alloc: Global, form: Option<Form>, reply: &mut Bytes) -> Result<Reply, WireFault>
+    ensures read { result ≡ reply_to form reply.old }
+{
+    match form {
+        Some(Form::ABuffer) => {
+            let none = Bytes::of(Vec::new(alloc));
+            read_buffer_reply(mem::replace(reply, none))
+        }
+        _ => read_reply(reply.as_slice()),
     }
 }
 

@@ -3,7 +3,8 @@ ghost use Rattle.broker_desk.specs.Forgets.{Forgets, TakesBack};
 
 use crate::Desk;
 use broker_core::IssueFault;
-use fuse_wire::{Answer, Item, Request};
+use eden_base::Number;
+use fuse_wire::{Item, Request};
 
 impl Desk {
     /// Accepts a forget of one `item`, as `issue` does. A forget that is refused as bad or without a mount is never
@@ -15,12 +16,12 @@ impl Desk {
         Ok(())
     }
 
-    /// Forgets at once the number that `answer` gave out, since the kernel did not want the reply. An answer that gives no
-    /// number out changes nothing.
-    pub fn take_back(&mut self, answer: &Answer) -> Result<(), IssueFault>
-        ensures takes_back { TakesBack self.old answer.now result self.new }
+    /// Forgets at once the number that a reply has `given` out, since the kernel did not want the reply. One that gave none
+    /// out changes nothing.
+    pub fn take_back(&mut self, given: Option<Number>) -> Result<(), IssueFault>
+        ensures takes_back { TakesBack self.old given result self.new }
     {
-        match answer.given_out() {
+        match given {
             Some(node) => self.forget(Item { node, k: 1 }),
             None => Ok(()),
         }

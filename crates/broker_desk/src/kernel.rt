@@ -37,7 +37,7 @@ impl Model for Kernel {
 }
 
 /// What there is to deliver to the kernel.
-#[derive(Clone, Copy, PartialEq, Eq)]
+#[derive(PartialEq, Eq, Drop)]
 pub enum Delivered {
     /// This reply, with the unique of the kernel's ask.
     Reply(Reply),

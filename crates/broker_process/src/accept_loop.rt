@@ -119,10 +119,10 @@ impl<R: Threads + Wait + Clock + Sync> BrokerContext<'_, R> {
         } else {
             Deadline::Never
         };
-        let Ok(Some(frame)) = connection.read(by) else {
+        let Ok(Some(mut frame)) = connection.read(by) else {
             return false;
         };
-        let goes_on = match self.shared.answer(self.rt, accepted, &frame) {
+        let goes_on = match self.shared.answer(self.rt, accepted, &mut frame) {
             Response::Tells(answer) => connection.write(&answer).is_ok(),
             Response::Closes => false,
         };

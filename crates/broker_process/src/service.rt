@@ -11,8 +11,8 @@ use crate::reply_write::{Texts, Written, write_reply};
 use crate::shared_desk::NextWrite;
 use broker_core::IssueFault;
 use broker_desk::Progress;
-use eden_base::Errno;
-use fuse_wire::{Answer, Reply};
+use eden_base::{Errno, NoMemory, Number};
+use fuse_wire::Reply;
 use mount_wire::{KernelMessage, MountAttributes, read_message, tell_answer, tell_error};
 use std::fs::File;
 use std::io::{self, Read, Write};
@@ -144,9 +144,9 @@ impl<R: Wait + Clock> MountService<'_, R> {
                 NextWrite::Nothing | NextWrite::NoMemory => {}
                 NextWrite::Over => return Delivery::Over,
                 NextWrite::Gone => return Delivery::Gone,
-                NextWrite::Unasked(answer) => self.take_back(&answer),
+                NextWrite::Unasked(answer) => self.take_back(answer.given_out()),
                 NextWrite::Reply(reply) => {
-                    if !self.deliver(&mut device, &reply) {
+                    if !self.deliver(&mut device, reply) {
                         return Delivery::Refused;
                     }
                 }
@@ -156,26 +156,40 @@ impl<R: Wait + Clock> MountService<'_, R> {
     }
 
     /// Writes one reply to the kernel, and forgets its number where the kernel did not take it. Returns whether the
-    /// device takes replies.
-    fn deliver(&self, device: &mut File, reply: &Reply) -> bool {
-        let text = tell_answer(reply.unique, &reply.answer, &self.own);
-        let error = tell_error(reply.unique, Errno::EIO);
-        let texts = Texts {
-            reply: text.as_slice(),
-            error: error.as_slice(),
+    /// device takes replies. Where memory for a buffer is refused, the program gets ENOMEM.
+    fn deliver(&self, device: &mut File, reply: Reply) -> bool {
+        let (rt, alloc) = (self.context.rt, self.context.alloc);
+        let Reply { unique, answer } = reply;
+        let given = answer.given_out();
+        let error = tell_error(unique, Errno::EIO);
+        let written = match tell_answer(alloc, unique, answer, &self.own) {
+            Ok(text) => {
+                let texts = Texts {
+                    reply: text.as_slice(),
+                    error: error.as_slice(),
+                };
+                write_reply(rt, device, &texts)
+            }
+            Err(NoMemory) => {
+                let text = tell_error(unique, Errno::ENOMEM);
+                let texts = Texts {
+                    reply: text.as_slice(),
+                    error: error.as_slice(),
+                };
+                write_reply(rt, device, &texts)
+            }
         };
-        let written = write_reply(self.context.rt, device, &texts);
         if written != Written::Reply {
-            self.take_back(&reply.answer);
+            self.take_back(given);
         }
         written != Written::Refused
     }
 
-    /// Forgets at once the number of an answer that the kernel did not take.
-    fn take_back(&self, answer: &Answer) {
+    /// Forgets at once the number that an answer gave out, if it gave one, since the kernel did not take it.
+    fn take_back(&self, given: Option<Number>) {
         let (rt, shared) = (self.context.rt, self.context.shared);
         for _ in rt.forever() {
-            match shared.take_back(rt, answer) {
+            match shared.take_back(rt, given) {
                 Err(IssueFault::Full | IssueFault::NoMemory) => pause(rt),
                 Ok(()) | Err(_) => return,
             }

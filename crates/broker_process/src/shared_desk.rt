@@ -120,7 +120,7 @@ pub(crate) struct SharedDesk {
 
 impl SharedDeskState {
     /// Answers a frame of a connection, and returns whether the answer wakes the script.
-    fn answer(&mut self, accepted: &mut AcceptedConnection, frame: &Frame) -> (Response, bool) {
+    fn answer(&mut self, accepted: &mut AcceptedConnection, frame: &mut Frame) -> (Response, bool) {
         if accepted.is_unattached() && !self.may_attach(accepted.number, frame) {
             return (Response::Closes, false);
         }
@@ -349,7 +349,7 @@ impl SharedDesk {
         &self,
         rt: &R,
         accepted: &mut AcceptedConnection,
-        frame: &Frame,
+        frame: &mut Frame,
     ) -> Response {
         let response = self.hear(rt, accepted, frame);
         if let Response::Tells(Frame::Mounted { generation }) = response {
@@ -367,7 +367,7 @@ impl SharedDesk {
         &self,
         rt: &R,
         accepted: &mut AcceptedConnection,
-        frame: &Frame,
+        frame: &mut Frame,
         hold: Deadline,
     ) -> Response {
         let mut hold = hold;
@@ -386,7 +386,12 @@ impl SharedDesk {
     }
 
     /// Answers a frame at once, and wakes the script that waits for it.
-    fn hear<R: Wait>(&self, rt: &R, accepted: &mut AcceptedConnection, frame: &Frame) -> Response {
+    fn hear<R: Wait>(
+        &self,
+        rt: &R,
+        accepted: &mut AcceptedConnection,
+        frame: &mut Frame,
+    ) -> Response {
         let (response, wakes) = self.state.lock(rt).answer(accepted, frame);
         self.wake_script(wakes);
         response

@@ -19,7 +19,7 @@ pub enum Awaited {
 }
 
 /// The result of a wait.
-#[derive(Clone, Copy)]
+#[derive(Drop)]
 pub enum Came {
     /// The awaited reply, which reached the kernel.
     Answered(Reply),

@@ -10,6 +10,7 @@ use super::{Agreed, Granted, PAUSE, SharedDesk, SharedDeskState, Waiting};
 use crate::service::MountEnd;
 use broker_core::{DeliverFault, IssueFault};
 use broker_desk::{Delivered, Progress, Response};
+use eden_base::Number;
 use fuse_wire::{Answer, Reply};
 use links::Frame;
 use monitor::Look;
@@ -19,7 +20,7 @@ use std::sync::Wait;
 use std::time::{Duration, Instant};
 
 /// The next write to the kernel: a reply, or why there is none.
-#[derive(Clone, Copy)]
+#[derive(Drop)]
 pub(crate) enum NextWrite {
     /// A reply, with the unique of the kernel's ask.
     Reply(Reply),
@@ -170,9 +171,13 @@ impl SharedDesk {
         progress
     }
 
-    /// Forgets at once the number that `answer` gave out, since the kernel did not take the reply.
-    pub(crate) fn take_back<R: Wait>(&self, rt: &R, answer: &Answer) -> Result<(), IssueFault> {
-        let forgotten = self.state.lock(rt).desk.take_back(answer);
+    /// Forgets at once the number that a reply has `given` out, if it gave one, since the kernel did not take the reply.
+    pub(crate) fn take_back<R: Wait>(
+        &self,
+        rt: &R,
+        given: Option<Number>,
+    ) -> Result<(), IssueFault> {
+        let forgotten = self.state.lock(rt).desk.take_back(given);
         self.asks.notify_one();
         forgotten
     }
