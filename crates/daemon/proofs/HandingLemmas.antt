@@ -1,5 +1,5 @@
 -- A text that is handed over has few parts.
-use Rattle.std.proofs.Common.{◌≡◌, ◌≤◌, ℕ, List, length, Option, Some, None}
+use Rattle.std.proofs.Common.{◌≤◌, ℕ, List, length, Option, Some, None}
 use Rattle.map_image.specs.Parts.{AreParts}
 use Rattle.map_image.specs.Versions.{most_parts}
 use Rattle.map_image.proofs.LongestLaws.{no_longer}

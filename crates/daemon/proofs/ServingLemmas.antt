@@ -1,8 +1,8 @@
 -- What a daemon's calls did, by the first fault.
-use Rattle.std.proofs.Common.{◌≡◌, ℕ, ◌+◌, Bool, List, [], ◌∷◌, ◌++◌, length, Option, Some, None, get_or, refl, sym, ap, ◌∙◌, subst}
+use Rattle.std.proofs.Common.{◌≡◌, ℕ, Bool, List, [], ◌∷◌, ◌++◌, length, Option, Some, None, get_or, refl, sym, ap, ◌∙◌, subst}
 use Rattle.std.proofs.lemmas.List.{append-nil}
 use Rattle.std.proofs.lemmas.Option.{slice_get_read}
-use Rattle.std.specs.Prelude.{remove, map, take, true, false, ◌||◌, is_some, if◌then◌else◌}
+use Rattle.std.specs.Prelude.{remove, map, true, false, ◌||◌, is_some, if◌then◌else◌}
 use Rattle.std.specs.List.{AllByRecursion}
 use Rattle.fuse_wire.specs.Request.{is_ask, item_of, items_of}
 use Rattle.fuse_wire.specs.declared.request.Ask.{Ask}

@@ -61,7 +61,7 @@ impl Refusal {
 }
 
 /// One thing that an event made happen.
-#[derive(Clone, Copy, PartialEq, Eq)]
+#[derive(PartialEq, Eq, Drop)]
 pub enum Happened {
     Started(DaemonId),
     /// A daemon took the seat, at this generation.
@@ -94,7 +94,7 @@ pub enum Happened {
 }
 
 /// The result of issuing a request that a daemon takes at once.
-#[derive(Clone, Copy)]
+#[derive(Drop)]
 pub enum Begun {
     /// The request was not issued.
     Refused(Refusal),

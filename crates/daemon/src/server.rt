@@ -218,9 +218,12 @@ impl Server {
         let Some(answer) = answer else {
             return told;
         };
-        let reply = Reply { unique, answer };
-        self.unposted.push_reserved(reply);
-        Happened::Made(reply)
+        let (answer, told) = answer.twice(self.alloc);
+        self.unposted.push_reserved(Reply { unique, answer });
+        Happened::Made(Reply {
+            unique,
+            answer: told,
+        })
     }
 
     /// Posts the reply at `position` of the replies that are not posted. The first position is 1. It takes no memory.
@@ -231,14 +234,20 @@ impl Server {
         let Some(index) = index_of(position, self.unposted.len()) else {
             return Happened::Refused(Refusal::NoSuch);
         };
-        let Some(reply) = self.unposted.get(index).copied() else {
+        let Some(reply) = self.unposted.get(index) else {
             unreachable!()
         };
-        if let Err(fault) = broker.post(daemon, self.generation, reply) {
+        if let Some(fault) = broker.post_refusal(daemon, self.generation, reply) {
             return Happened::Refused(Refusal::from(fault));
         }
-        let _posted = self.unposted.remove(index);
-        Happened::Posted(reply.unique)
+        let Some(reply) = self.unposted.remove(index) else {
+            unreachable!()
+        };
+        let unique = reply.unique;
+        match broker.post(daemon, self.generation, reply) {
+            Ok(()) => Happened::Posted(unique),
+            Err(_fault) => unreachable!(),
+        }
     }
 }
 

@@ -73,7 +73,7 @@ impl<C: Channel> Channel for Patient<C> {
         self.look()
     }
 
-    fn post(&mut self, reply: Reply) -> Posted {
+    fn post(&mut self, reply: &Reply) -> Posted {
         self.channel.post(reply)
     }
 }

@@ -23,6 +23,7 @@ pub mod Movable
 pub mod MovedNumbers
 pub mod MovedKeeps
 pub mod MovingLaw
+pub mod Owned
 pub mod PlaceNumbers
 pub mod ReadyMaking
 pub mod Remembering

@@ -15,7 +15,7 @@ use Rattle.fuse_wire.specs.Request.{is_ask}
 use Rattle.fuse_wire.specs.declared.request.Request.{Request}
 use Rattle.fuse_wire.specs.declared.form.Form.{Form}
 use Rattle.fuse_wire.specs.declared.reply.Answer.{Answer}
-use Rattle.fuse_wire.specs.declared.reply.Answer.TheVariants.{Entry, Opened, Attrs, Done, Error}
+use Rattle.fuse_wire.specs.declared.reply.Answer.TheVariants.{Entry, Opened, Attrs, Done, Buffer, Error}
 use Rattle.inode_map.specs.InodeMap.{IsGiveRefusal, give_fault, given, number_given}
 use Rattle.inode_map.specs.declared.inode_map.GiveFault.{GiveFault}
 use Rattle.inode_map.specs.declared.inode_map.GiveFault.TheVariants.{NoNumber, TooMany, NoMemory}
@@ -117,6 +117,7 @@ module _ (old : ServedState) (request : Request) (dir : Number) (name : List ℕ
   gives_in file (Opened number attr) new h = absurd h
   gives_in file (Attrs number attr) new h = absurd h
   gives_in file Done new h = absurd h
+  gives_in file (Buffer bytes) new h = absurd h
 
   gives_found : (found : Result FileId Errno) (answer : Answer) (new : ServedState) → GivesFound old dir name found answer new → Legally old request (enters old.tree found) answer new
   gives_found (Ok file) answer new h = gives_in file answer new h

@@ -8,7 +8,7 @@ use Rattle.eden_base.specs.declared.number.FileId.{FileId}
 use Rattle.manifest.specs.Tree.{Tree, child_of}
 use Rattle.fuse_wire.specs.declared.request.Request.{Request}
 use Rattle.fuse_wire.specs.declared.reply.Answer.{Answer}
-use Rattle.fuse_wire.specs.declared.reply.Answer.TheVariants.{Entry, Opened, Attrs, Done, Error}
+use Rattle.fuse_wire.specs.declared.reply.Answer.TheVariants.{Entry, Opened, Attrs, Done, Buffer, Error}
 use Rattle.fuse_ops.specs.Answers.{none_lost, Effect, Deed, find_name, make_file, take_name, move_name, show_file, unserved, deed_of, done_to, comes_to, found_in, free_in, enters, shows, makes, takes, takes_from, movable, against_replacing, is_there, moves, moves_to, moves_between, unless, against_taking, tree_after}
 use Rattle.fuse_ops.specs.Served.{ServedState, PlainState, Replay}
 
@@ -64,10 +64,12 @@ after-over tree (Ok effect) (Entry number attr) over = over
 after-over tree (Ok effect) (Opened number attr) over = over
 after-over tree (Ok effect) (Attrs number attr) over = over
 after-over tree (Ok effect) Done over = over
+after-over tree (Ok effect) (Buffer bytes) over = over
 after-over tree (Err errno) (Entry number attr) over = refl
 after-over tree (Err errno) (Opened number attr) over = refl
 after-over tree (Err errno) (Attrs number attr) over = refl
 after-over tree (Err errno) Done over = refl
+after-over tree (Err errno) (Buffer bytes) over = refl
 
 -- the tree after an answer to a request
 pub answered-manifest : (tree : Tree) (files : ℕ → Option FileId) (request : Request) (answer : Answer) → (tree_after tree (comes_to tree files request) answer).manifest ≡ tree.manifest

@@ -20,7 +20,7 @@ use Rattle.fuse_wire.specs.declared.request.Request.{Request}
 use Rattle.fuse_wire.specs.declared.request.Request.TheVariants.{Other}
 use Rattle.fuse_wire.specs.declared.form.Form.TheVariants.{AnEntry, Attributes, NoValue}
 use Rattle.fuse_wire.specs.declared.reply.Answer.{Answer}
-use Rattle.fuse_wire.specs.declared.reply.Answer.TheVariants.{Entry, Opened, Attrs, Done, Error}
+use Rattle.fuse_wire.specs.declared.reply.Answer.TheVariants.{Entry, Opened, Attrs, Done, Buffer, Error}
 use Rattle.entry_table.specs.Entries.{entry_at, stands_at, once_more, new_entry}
 use Rattle.inode_map.specs.InodeMap.{MapState, given, unlinked, relinked}
 use Rattle.entry_table.specs.declared.kept.Kept.{Kept}
@@ -139,6 +139,7 @@ gift-tree tree effect (Entry n attr) number e = refl
 gift-tree tree effect (Opened n attr) number e = refl
 gift-tree tree effect (Attrs n attr) number e = refl
 gift-tree tree effect Done number e = refl
+gift-tree tree effect (Buffer bytes) number e = refl
 gift-tree tree effect (Error errno) number e = absurd (let none : ⊥ = cc in none)
 
 -- the number of the name is counted once more, over the tree of the effect

@@ -11,7 +11,7 @@ use crate::writing::{write_frame_to, write_post};
 use crate::{Frame, FrameFault};
 use eden_base::NoMemory;
 use frames::BrokerAnswer;
-use fuse_wire::{MAX_REPLY_LEN, MAX_REQUEST_LEN, Reply, write_reply};
+use fuse_wire::{Buffer, MAX_REPLY_LEN, MAX_REQUEST_LEN, Reply, write_reply};
 use std::alloc::Global;
 use std::io::{Read, Write};
 use std::marker::Model;
@@ -21,6 +21,9 @@ pub const MAX_SEAT_TEXT: usize = 5 + MAX_REQUEST_LEN;
 
 /// How many bytes stand before the reply in the text of a Post.
 const BEFORE_REPLY: usize = 13;
+
+/// How many bytes a reply has at most: its header, of 16 bytes, and a buffer.
+const LONGEST_REPLY: usize = 16 + Buffer::MAX_LEN;
 
 /// How many bytes the body of an answer may have.
 const LONGEST_BODY: usize = 65_536;
@@ -39,13 +42,13 @@ impl Model for FrameRoom {
 
     ghost view = { λ room. room.body.items };
 
-    ghost invariant = { λ room. (173 ≤ vec_capacity room.text) × (65536 ≤ vec_capacity room.body) };
+    ghost invariant = { λ room. (65541 ≤ vec_capacity room.text) × (65536 ≤ vec_capacity room.body) };
 }
 
 impl FrameRoom {
     /// Takes memory for any Take, Post and answer. What no frame reaches of it is never touched.
     pub(crate) fn new(alloc: Global) -> Result<FrameRoom, NoMemory> {
-        let text = Vec::with_capacity(alloc, BEFORE_REPLY + MAX_REPLY_LEN)?;
+        let text = Vec::with_capacity(alloc, BEFORE_REPLY + LONGEST_REPLY)?;
         let body = Vec::with_capacity(alloc, LONGEST_BODY)?;
         Ok(FrameRoom { text, body })
     }
@@ -84,7 +87,14 @@ impl FrameRoom {
     {
         let mut bytes = [0; MAX_REPLY_LEN];
         let len = write_reply(reply, &mut bytes);
-        write_post(writer, &mut self.text, generation, &bytes[..len])
+        let head = &bytes[..len];
+        write_post(
+            writer,
+            &mut self.text,
+            generation,
+            head,
+            reply.answer.buffer(),
+        )
     }
 
     /// Reads the answer to a Take or a Post, with its body into this room. Returns none if the input has ended.

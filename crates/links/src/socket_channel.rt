@@ -176,7 +176,7 @@ impl<R: Read, W: Write> SocketChannel<R, W> {
         let Some(reply) = fault_reply(self.frame_room.body(), &fault) else {
             return NextAsk::Broken;
         };
-        match self.post(reply) {
+        match self.post(&reply) {
             Posted::Done => NextAsk::Empty,
             Posted::Broken => NextAsk::Broken,
         }
@@ -236,11 +236,11 @@ impl<R: Read, W: Write> SocketChannel<R, W> {
 
     /// Posts the reply to an ask that was taken. Takes no memory. If the result is Broken, close the connection; `ended`
     /// tells whether the broker said why.
-    pub fn post(&mut self, reply: Reply) -> Posted
-        ensures posts { Posts (state_of R.remaining W.contents self.old) reply result
+    pub fn post(&mut self, reply: &Reply) -> Posted
+        ensures posts { Posts (state_of R.remaining W.contents self.old) reply.now result
             (state_of R.remaining W.contents self.new) }
     {
-        match self.ask_posted(&reply) {
+        match self.ask_posted(reply) {
             Some(answer) => {
                 self.ended = ended_by(answer, self.ended);
                 posted_of(answer)
@@ -286,7 +286,7 @@ impl<R: Read, W: Write> Channel for SocketChannel<R, W> {
         SocketChannel::take(self)
     }
 
-    fn post(&mut self, reply: Reply) -> Posted {
+    fn post(&mut self, reply: &Reply) -> Posted {
         SocketChannel::post(self, reply)
     }
 }

@@ -1,5 +1,5 @@
 //! Frames, written to a writer.
-ghost use Rattle.std.specs.Prelude.{◌≡◌, ◌<◌, ◌≤◌, [], length, take, vec_capacity, OnOk, OnErr, IfOk, IfErr};
+ghost use Rattle.std.specs.Prelude.{◌≡◌, ◌<◌, ◌≤◌, [], ◌++◌, length, take, vec_capacity, OnOk, OnErr, IfOk, IfErr};
 ghost use Rattle.std.specs.Io.KnownBytes.{Appends};
 ghost use Rattle.frames.specs.declared.fault.FrameFault.TheVariants.{Write as WriteFault};
 ghost use Rattle.frames.specs.declared.frame.Frame.TheVariants.{Post as APost};
@@ -80,18 +80,21 @@ pub fn write_frame_to<W: Write>(
     }
 }
 
-/// Writes the Post of `reply` at `generation` as `write_frame_to` does.
+/// Writes the Post of a reply at `generation` as `write_frame_to` does. The reply is the bytes of `head` and then those of
+/// `rest`.
 pub(crate) fn write_post<W: Write>(
     writer: &mut W,
     text: &mut Vec<u8>,
     generation: u64,
-    reply: &[u8],
+    head: &[u8],
+    rest: &[u8],
 ) -> Result<(), FrameFault>
-    ensures writes { Writes (W.contents writer.old) (W.contents writer.new) (APost generation reply.now) result }
-    ensures in_room { HasRoomFor (APost generation reply.now) text.old → IfErr result IsNotMemory }
+    ensures writes { Writes (W.contents writer.old) (W.contents writer.new)
+        (APost generation (head.now ++ rest.now)) result }
+    ensures in_room { HasRoomFor (APost generation (head.now ++ rest.now)) text.old → IfErr result IsNotMemory }
     ensures capacity { vec_capacity text.old ≤ vec_capacity text.new }
 {
-    match write_post_to(text, generation, reply) {
+    match write_post_to(text, generation, head, rest) {
         Ok(()) => write_bytes(writer, text.as_slice()),
         Err(fault) => Err(fault),
     }

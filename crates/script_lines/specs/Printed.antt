@@ -15,7 +15,7 @@ use Rattle.fuse_ops.specs.Served.{ServedState}
 use Rattle.fuse_wire.specs.Request.{item_of}
 use Rattle.fuse_wire.specs.declared.request.Ask.{Ask}
 use Rattle.fuse_wire.specs.declared.reply.Answer.{Answer}
-use Rattle.fuse_wire.specs.declared.reply.Answer.TheVariants.{Entry, Opened, Attrs, Done, Error}
+use Rattle.fuse_wire.specs.declared.reply.Answer.TheVariants.{Entry, Opened, Attrs, Done, Buffer, Error}
 use Rattle.fuse_wire.specs.declared.reply.Reply.{Reply}
 use Rattle.map_image.specs.Versions.{part_len}
 use Rattle.takeover_core.specs.declared.message.Message.{Message}
@@ -57,12 +57,13 @@ abbrev pub file_words : List ℕ → Number → Attr → List (List ℕ)
 file_words word number attr =
     word ∷ decimal number.0 ∷ kind_name attr.kind ∷ octal attr.perm.bits ∷ decimal attr.size ∷ decimal attr.nlink ∷ []
 
--- the words of an answer
+-- the words of an answer; of a buffer only how many bytes it has
 abbrev pub answer_words : Answer → List (List ℕ)
 answer_words (Entry number attr) = file_words (codes "entry") number attr
 answer_words (Opened number attr) = file_words (codes "opened") number attr
 answer_words (Attrs number attr) = file_words (codes "attr") number attr
 answer_words Done = codes "done" ∷ []
+answer_words (Buffer bytes) = codes "buffer" ∷ decimal (length bytes) ∷ []
 answer_words (Error errno) = codes "error" ∷ errno_name errno ∷ []
 
 -- the line of a reply: `WORD U`, and the words of its answer

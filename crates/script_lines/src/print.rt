@@ -219,6 +219,10 @@ fn print_answer<W: Write>(out: &mut W, answer: &Answer) -> io::Result<()>
         Answer::Opened { number, attr } => print_file(out, "opened", *number, attr),
         Answer::Attrs { number, attr } => print_file(out, "attr", *number, attr),
         Answer::Done => writeln!(out, "done"),
+        Answer::Buffer(buffer) => {
+            let len = buffer.as_slice().len();
+            writeln!(out, "buffer {len}")
+        }
         Answer::Error(errno) => {
             let name = errno.name();
             writeln!(out, "error {name}")

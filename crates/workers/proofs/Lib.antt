@@ -1,6 +1,7 @@
 pub mod Fitting
 pub mod Growing
 pub mod Leaving
+pub mod Owned
 pub mod Replaying
 pub mod Rounds
 pub mod Serving

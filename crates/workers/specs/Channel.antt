@@ -1,7 +1,8 @@
 -- What a channel reports of itself: what was taken from it, and what was posted to it. (This project's own.)
-use Rattle.std.specs.Prelude.{◌≡◌, ◌+◌, ◌<◌, ◌≤◌, ℕ, List, [], ◌∷◌, ◌++◌, length, take, slice_get, Some}
+use Rattle.std.specs.Prelude.{◌≡◌, ◌+◌, ◌<◌, ◌≤◌, ◌⊎◌, ℕ, true, List, [], ◌∷◌, ◌++◌, length, take, slice_get, Some}
 use Rattle.fuse_wire.specs.declared.request.Ask.{Ask}
 use Rattle.fuse_wire.specs.declared.reply.Reply.{Reply}
+use Rattle.fuse_wire.specs.ReplyText.{is_buffer}
 use Rattle.workers.specs.declared.channel.NextAsk.{NextAsk}
 use Rattle.workers.specs.declared.channel.NextAsk.TheVariants as took
 use Rattle.workers.specs.declared.channel.Posted.{Posted}
@@ -47,9 +48,11 @@ Takes old took.Empty new = (old.taken ≡ length old.asks) × (new ≡ old)
 Takes old took.Stopped new = ⊥
 Takes old took.Broken new = (old.taken < length old.asks) × (new ≡ old)
 
--- the result of posting a reply: it is appended; or it is Broken if there are as many replies as asks
+-- the result of posting a reply: it is appended; or it is Broken if there are as many replies as asks, or no copy of a
+-- buffer could be made
 abbrev pub Posts : MemoryState → Reply → Posted → MemoryState → Type 0
 Posts old reply post.Done new =
     (length old.replies < length old.asks)
     × (new ≡ record { asks = old.asks; taken = old.taken; replies = old.replies ++ reply ∷ [] })
-Posts old reply post.Broken new = (length old.asks ≤ length old.replies) × (new ≡ old)
+Posts old reply post.Broken new =
+    ((length old.asks ≤ length old.replies) ⊎ (is_buffer reply.answer ≡ true)) × (new ≡ old)

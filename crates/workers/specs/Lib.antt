@@ -1,6 +1,7 @@
-pub mod Channel
-pub mod Replays
-pub mod Endings
 pub mod Buffers
-pub mod Round
+pub mod Channel
+pub mod Endings
 pub mod Faults
+pub mod Owned
+pub mod Replays
+pub mod Round

@@ -54,8 +54,8 @@ pub trait Channel {
         ensures stopped { reports ≡ true → result ≡ took.Stopped → reported self.new ≡ reported self.old };
 
     /// Posts the reply to an ask that was taken.
-    fn post(&mut self, reply: Reply) -> Posted
-        ensures posts { posts self.old reply result self.new }
+    fn post(&mut self, reply: &Reply) -> Posted
+        ensures posts { posts self.old reply.now result self.new }
         ensures posted { reports ≡ true → result ≡ post.Done
-            → reported self.new ≡ with_replies (reported self.old) (reply ∷ []) };
+            → reported self.new ≡ with_replies (reported self.old) (reply.now ∷ []) };
 }

@@ -1,13 +1,15 @@
 //! A channel over asks that are known from the start.
-ghost use Rattle.std.specs.Prelude.{◌≡◌, ◌<◌, ◌≤◌, ℕ, [], length, true, IfOk};
+ghost use Rattle.std.specs.Prelude.{◌≡◌, ◌<◌, ◌≤◌, ℕ, [], length, true, IfOk, OnErr};
 ghost use Rattle.fuse_wire.specs.declared.request.Ask.{Ask as AskValue};
+ghost use Rattle.fuse_wire.specs.ReplyText.{is_buffer};
 ghost use Rattle.workers.specs.Channel.{reported_of, with_ask, with_replies, Takes, Posts};
 ghost use Rattle.workers.specs.declared.channel.NextAsk.TheVariants as took;
 ghost use Rattle.workers.specs.declared.channel.Posted.TheVariants as post;
 
 use crate::channel::{Channel, NextAsk, Posted};
+use byte_codec::Bytes;
 use eden_base::NoMemory;
-use fuse_wire::{Ask, Reply};
+use fuse_wire::{Answer, Ask, Buffer, Reply};
 use std::alloc::Global;
 use std::marker::Model;
 
@@ -91,15 +93,22 @@ impl MemoryChannel {
         }
     }
 
-    /// Keeps the reply. Returns Broken if there are as many replies as asks.
-    pub fn post(&mut self, reply: Reply) -> Posted
-        ensures posts { Posts self.old reply result self.new }
+    /// Keeps a copy of the reply. Returns Broken if there are as many replies as asks, or if memory is refused for the copy
+    /// of a buffer.
+    pub fn post(&mut self, reply: &Reply) -> Posted
+        ensures posts { Posts self.old reply.now result self.new }
     {
         if self.replies.len() >= self.asks.len() {
             return Posted::Broken;
         }
-        self.replies.push_reserved(reply);
-        Posted::Done
+        let unique = reply.unique;
+        match copy_of(self.alloc, &reply.answer) {
+            Ok(answer) => {
+                self.replies.push_reserved(Reply { unique, answer });
+                Posted::Done
+            }
+            Err(NoMemory) => Posted::Broken,
+        }
     }
 }
 
@@ -117,7 +126,36 @@ impl Channel for MemoryChannel {
         MemoryChannel::take(self)
     }
 
-    fn post(&mut self, reply: Reply) -> Posted {
+    fn post(&mut self, reply: &Reply) -> Posted {
         MemoryChannel::post(self, reply)
+    }
+}
+
+/// Makes a copy of `answer`. Only a buffer takes memory.
+fn copy_of(alloc: Global, answer: &Answer) -> Result<Answer, NoMemory>
+    ensures copy { IfOk result (λ copy. copy ≡ answer.now) }
+    ensures lacks { OnErr result (is_buffer answer.now ≡ true) }
+{
+    match answer {
+        Answer::Entry { number, attr } => Ok(Answer::Entry {
+            number: *number,
+            attr: *attr,
+        }),
+        Answer::Opened { number, attr } => Ok(Answer::Opened {
+            number: *number,
+            attr: *attr,
+        }),
+        Answer::Attrs { number, attr } => Ok(Answer::Attrs {
+            number: *number,
+            attr: *attr,
+        }),
+        Answer::Done => Ok(Answer::Done),
+        Answer::Buffer(buffer) => {
+            let bytes = Vec::from_slice(alloc, buffer.as_slice())?;
+            Buffer::of(Bytes::of(bytes))
+                .map(Answer::Buffer)
+                .ok_or(NoMemory)
+        }
+        Answer::Error(errno) => Ok(Answer::Error(*errno)),
     }
 }

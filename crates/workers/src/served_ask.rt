@@ -4,6 +4,7 @@ ghost use Rattle.eden_base.specs.declared.number.FileId.{FileId};
 ghost use Rattle.fuse_ops.specs.Loading.{AsksAs, Backs, FailsAs, Loads};
 ghost use Rattle.fuse_ops.specs.Served.{Replay};
 ghost use Rattle.journal.specs.Journal.{applied};
+ghost use Rattle.workers.specs.Owned.{StandsForIt};
 
 use checkout::Backing;
 use fuse_ops::Served;
@@ -40,10 +41,24 @@ pub fn serve_one<B: Backing>(
     ensures same_manifest { served.new.tree.manifest ≡ served.old.tree.manifest }
 {
     let position = journal.records().len();
-    let answer = served.apply(alloc, backing, &ask.what);
+    let (answer, noted) = twice(alloc, served.apply(alloc, backing, &ask.what));
     journal.push(Record {
         request: ask.what,
-        answer,
+        answer: noted,
     });
     ServedAsk { position, answer }
+}
+
+/// Returns an answer twice, if there is one, as `Answer::twice` does.
+fn twice(alloc: Global, answer: Option<Answer>) -> (Option<Answer>, Option<Answer>)
+    ensures first { StandsForIt answer result.0 }
+    ensures second { result.1 ≡ result.0 }
+{
+    match answer {
+        Some(answer) => {
+            let (first, second) = answer.twice(alloc);
+            (Some(first), Some(second))
+        }
+        None => (None, None),
+    }
 }

@@ -37,16 +37,23 @@ pub(crate) struct Worker<N: Opening, C: Channel + Drop> {
     pub share: Share<N>,
 }
 
-/// Posts the reply to an ask, if the ask has an answer.
-fn post<C: Channel>(channel: &mut C, unique: u64, answer: Option<Answer>) -> Posted
-    ensures replies { Replies C.posts channel.old unique answer result channel.new }
-    ensures reported { C.reports ≡ true → result ≡ post.Done
+/// Posts the reply to an ask, if the ask has an answer, and gives the answer back.
+fn post<C: Channel>(
+    channel: &mut C,
+    unique: u64,
+    answer: Option<Answer>,
+) -> (Posted, Option<Answer>)
+    ensures replies { Replies C.posts channel.old unique answer result.0 channel.new }
+    ensures reported { C.reports ≡ true → result.0 ≡ post.Done
         → C.reported channel.new ≡ with_replies (C.reported channel.old) (replies_to unique answer) }
+    ensures answer { result.1 ≡ answer }
 {
-    match answer {
-        Some(answer) => channel.post(Reply { unique, answer }),
-        None => Posted::Done,
-    }
+    let Some(answer) = answer else {
+        return (Posted::Done, None);
+    };
+    let reply = Reply { unique, answer };
+    let posted = channel.post(&reply);
+    (posted, Some(reply.answer))
 }
 
 /// Serves an ask under the map's lock, and counts it in `share`. One part of `share` goes to the lock.
@@ -126,12 +133,13 @@ impl<N: Opening, C: Channel + Drop> Worker<N, C> {
         hook.before(unique);
         let what = self.receipts.copy(&ask.what);
         let turn = turn_alone(rt, shared, ask, &mut self.share);
+        let position = turn.position;
+        let (posted, answer) = post(&mut self.channel, unique, turn.answer);
         self.receipts.push(Receipt {
-            position: turn.position,
+            position,
             ask: Ask { unique, what },
-            answer: turn.answer,
+            answer,
         });
-        let posted = post(&mut self.channel, unique, turn.answer);
         hook.after(unique);
         match posted {
             Posted::Done => self.after_turn(),

@@ -436,8 +436,9 @@ impl World {
         };
         let beginner = &mut self.daemons[index];
         let begun = beginner.begin(&mut self.broker, daemon, request);
+        let is_made = begun.is_made();
         outcome.tell_begun(begun);
-        begun.is_made()
+        is_made
     }
 
     /// Returns what `daemon` serves and has in hand, if there is such a daemon and it serves.

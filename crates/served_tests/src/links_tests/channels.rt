@@ -290,7 +290,7 @@ fn posted(channel: &mut SocketChannel<&[u8], &mut Vec<u8>>) -> Comes {
         unique: 9,
         answer: Answer::Error(Errno::ENOENT),
     };
-    match channel.post(reply) {
+    match channel.post(&reply) {
         Posted::Done => Comes::Posted,
         Posted::Broken => Comes::Broken,
     }

@@ -36,8 +36,8 @@ returns c =
       within = omega (arith, c.in-Some.ensures.index.within, c.len.ensures, c.self.inside.daemons.ok.0);
     } in
     record {
-      begins = subst (λ (s : State). Begins s c.args.request.now c.args.daemon c.is_made.result c.tell_begun.new.self (record old { broker = c.begin-begun.new.broker; daemons = (set old.daemons c.in-Some.index c.begin-begun.new.self) })) c.self.view_is
+      begins = subst (λ (s : State). Begins s c.args.request.now c.args.daemon c.is_made-is_made.result c.tell_begun.new.self (record old { broker = c.begin-begun.new.broker; daemons = (set old.daemons c.in-Some.index c.begin-begun.new.self) })) c.self.view_is
           (begins-by old c.args.request.now c.args.daemon c.in-Some.index c.index_mut-beginner.result.now c.begin-begun.new.self c.begin-begun.new.broker at
           (slice_get_read old.daemons (length old.daemons) c.in-Some.index c.index_mut-beginner.result.now refl at.within c.index_mut-beginner.ensures.value)
-          c.begin-begun.result c.tell_begun.new.self c.is_made.result c.begin-begun.ensures.begins c.tell_begun.ensures.told c.is_made.ensures.made);
+          c.begin-begun.result c.tell_begun.new.self c.is_made-is_made.result c.begin-begun.ensures.begins c.tell_begun.ensures.told c.is_made-is_made.ensures.made);
     }
