@@ -165,7 +165,9 @@ fn is_answered(broker: &mut Broker, request: &Request, number: u64) -> bool {
     let number = Number(number);
     let answer = Answer::Entry { number, attr: FILE };
     let reply = Reply { unique, answer };
-    is_taken && broker.post(DaemonId(1), 1, reply).is_ok() && broker.deliver() == Ok(reply)
+    is_taken
+        && broker.post(DaemonId(1), 1, reply).is_ok()
+        && matches!(broker.deliver(), Ok(told) if told.unique == unique)
 }
 
 /// Returns how many of `count` rounds are answered, up to the first that is not.

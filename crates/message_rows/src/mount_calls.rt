@@ -129,14 +129,17 @@ fn read_post(alloc: Global, words: &mut Words<'_>) -> Result<Frame, RowFault> {
     let generation = words.number();
     let unique = words.number();
     let answer = read_answer(words)?;
-    let mut bytes = [0; MAX_REPLY_LEN];
-    let len = write_reply(&Reply { unique, answer }, &mut bytes);
-    let reply = Bytes::of(Vec::from_slice(alloc, &bytes[..len])?);
+    let mut head = [0; MAX_REPLY_LEN];
+    let reply = Reply { unique, answer };
+    let len = write_reply(&reply, &mut head);
+    let mut bytes = Vec::from_slice(alloc, &head[..len])?;
+    bytes.extend_from_slice(reply.answer.buffer())?;
+    let reply = Bytes::of(bytes);
     Ok(Frame::Post { generation, reply })
 }
 
 /// Has the desk answer `frame`, which comes from `peer`.
-fn answer(alloc: Global, desk: &mut Desk, peer: &mut Peer, frame: &Frame, output: &mut Output) {
+fn answer(alloc: Global, desk: &mut Desk, peer: &mut Peer, frame: &mut Frame, output: &mut Output) {
     let response = desk.answer(peer, frame);
     tell_response(alloc, output, &response);
 }
@@ -166,8 +169,8 @@ fn call_peer(
     let desk = &mut mount.desk;
     match call {
         PeerCall::On | PeerCall::Post => {
-            let frame = frame_of(alloc, call, words)?;
-            answer(alloc, desk, peer, &frame, output);
+            let mut frame = frame_of(alloc, call, words)?;
+            answer(alloc, desk, peer, &mut frame, output);
             return Ok(());
         }
         PeerCall::Connect => *peer = Peer::Unattached,
@@ -314,7 +317,7 @@ pub(crate) fn call_mount(
         }
         MountCall::TakeBack => {
             let answer = read_answer(words)?;
-            tell_accepted(output, mount.desk.take_back(&answer))
+            tell_accepted(output, mount.desk.take_back(answer.given_out()))
         }
         MountCall::Deliver => tell_delivery(output, mount.kernel.deliver(&mut mount.desk)),
     }

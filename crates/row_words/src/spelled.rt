@@ -2,7 +2,7 @@
 //!
 //! `lookup N NAME`, `create N MODE NAME`, `mkdir N MODE NAME`, `unlink N NAME`, `rmdir N NAME`, `rename N NEWDIR OLD/NEW`,
 //! `getattr N`, `other OPCODE N`, `forget N K`, and `forgets N K ..` for a batch of forgets;
-//! `entry M KIND PERM SIZE NLINK`, `opened ..`, `attr ..`, `done` and `error ERRNO`.
+//! `entry M KIND PERM SIZE NLINK`, `opened ..`, `attr ..`, `done`, `buffer BYTES` and `error ERRNO`.
 //!
 //! A request or an answer is the last of a call's words. What reads it ends the reading.
 ghost use Rattle.std.specs.Prelude.{IfOk};
@@ -12,8 +12,9 @@ use crate::output::Output;
 use crate::row_fault::RowFault;
 use crate::table::chosen;
 use crate::words::Words;
+use byte_codec::Bytes;
 use eden_base::{Attr, Errno, Kind, Name, NameFault, Number, Perm, cut};
-use fuse_wire::{Answer, Batch, Item, Items, Request, WireFault};
+use fuse_wire::{Answer, Batch, Buffer, Item, Items, Request, WireFault};
 use std::alloc::Global;
 
 static ERRNOS: [Errno; 13] = [
@@ -39,14 +40,16 @@ enum AnswerKind {
     Opened,
     Attrs,
     Done,
+    Buffer,
     Error,
 }
 
-static ANSWER_KINDS: [(&str, AnswerKind); 5] = [
+static ANSWER_KINDS: [(&str, AnswerKind); 6] = [
     ("entry", AnswerKind::Entry),
     ("opened", AnswerKind::Opened),
     ("attr", AnswerKind::Attrs),
     ("done", AnswerKind::Done),
+    ("buffer", AnswerKind::Buffer),
     ("error", AnswerKind::Error),
 ];
 
@@ -215,6 +218,10 @@ pub fn read_answer(words: &mut Words<'_>) -> Result<Answer, RowFault> {
             Answer::Attrs { number, attr }
         }
         AnswerKind::Done => Answer::Done,
+        AnswerKind::Buffer => {
+            let buffer = Buffer::of(Bytes::of(words.bytes()));
+            Answer::Buffer(buffer.ok_or(RowFault::BadRow)?)
+        }
         AnswerKind::Error => Answer::Error(read_errno(words)),
     };
     words.end()?;
@@ -372,6 +379,10 @@ pub fn tell_answer(output: &mut Output, answer: &Answer) {
         Answer::Opened { number, attr } => tell_file(output, "opened", *number, attr),
         Answer::Attrs { number, attr } => tell_file(output, "attr", *number, attr),
         Answer::Done => output.word("done"),
+        Answer::Buffer(buffer) => {
+            output.word("buffer");
+            output.bytes(buffer.as_slice());
+        }
         Answer::Error(errno) => {
             output.word("error");
             output.word(errno.name());

@@ -3,7 +3,8 @@
 //! `codec put BYTE TWO FOUR EIGHT LETTERS`: the bytes of numbers of one, two, four and eight bytes, and of letters.
 //! `codec take BYTES`: the same fields, with three letters, at the front of BYTES, and what is behind them, or `Short`.
 //! `codec number BYTES`: the number in two, four or eight BYTES. `codec bytes BYTES`: the same, as `Bytes` show them and
-//! give them back. `codec equal BYTES BYTES`.
+//! give them back. `codec equal BYTES BYTES`. `codec cut N FRONT BYTES`: BYTES without the first N, then with FRONT before
+//! them, and then whether two owners of these have the same, and what the second one has.
 ghost use Rattle.std.specs.Prelude.{◌+◌, length};
 ghost use Rattle.byte_codec.specs.Writing.{HasRoom};
 
@@ -21,14 +22,16 @@ enum CodecCall {
     Number,
     Bytes,
     Equal,
+    Cut,
 }
 
-static CODEC_CALLS: [(&str, CodecCall); 5] = [
+static CODEC_CALLS: [(&str, CodecCall); 6] = [
     ("put", CodecCall::Put),
     ("take", CodecCall::Take),
     ("number", CodecCall::Number),
     ("bytes", CodecCall::Bytes),
     ("equal", CodecCall::Equal),
+    ("cut", CodecCall::Cut),
 ];
 
 /// Says that a field is cut off.
@@ -103,10 +106,31 @@ fn tell_bytes(bytes: Bytes, output: &mut Output) {
     }
 }
 
+/// Cuts bytes, puts others before them, and shares them.
+fn cut(words: &mut Words<'_>, output: &mut Output) -> Result<(), RowFault> {
+    let alloc = words.alloc();
+    let count = words.number() as usize;
+    let front = words.bytes();
+    let bytes = Bytes::of(words.bytes());
+    words.end()?;
+    if count > bytes.as_slice().len() {
+        return Err(RowFault::BadRow);
+    }
+    let rest = bytes.after(count);
+    output.bytes(rest.as_slice());
+    let whole = rest.with_front(alloc, front.as_slice())?;
+    output.bytes(whole.as_slice());
+    let (first, second) = whole.twice(alloc)?;
+    output.flag(first == second);
+    output.bytes(second.as_slice());
+    Ok(())
+}
+
 /// Makes a call of fields.
 pub(crate) fn call_codec(words: &mut Words<'_>, output: &mut Output) -> Result<(), RowFault> {
     match chosen(&CODEC_CALLS, words.word()).ok_or(RowFault::BadRow)? {
         CodecCall::Put => return put(words, output),
+        CodecCall::Cut => return cut(words, output),
         CodecCall::Take => take(words.bytes().as_slice(), output),
         CodecCall::Number => tell_number(words.bytes().as_slice(), output),
         CodecCall::Equal => output.flag(Bytes::of(words.bytes()) == Bytes::of(words.bytes())),

@@ -4,14 +4,16 @@
 //! `fuse kept BYTES`: whether the request that is read into rooms, the copy, and the copy in rooms equal the request;
 //! `fuse write UNIQUE REQUEST`: its bytes;
 //! `fuse goes BYTES`: `ask` and the numbers that the request is for, or `forget`; `fuse other OPCODE N`: that request, or
-//! `none`; `fuse write_reply UNIQUE ANSWER`: its bytes; `fuse read_reply BYTES`: UNIQUE ANSWER, or the fault;
+//! `none`; `fuse write_reply UNIQUE ANSWER`: the bytes of its head, and those of a buffer; `fuse read_reply BYTES`: UNIQUE
+//! ANSWER, or the fault; `fuse read_buffer BYTES`: the same where a buffer was asked for;
 //! `fuse fault_reply BYTES FAULT`: UNIQUE ANSWER of the reply to a request that was refused so, or `none`.
 ghost use Rattle.fuse_wire.specs.Request.{IsSendable};
 
+use byte_codec::Bytes;
 use eden_base::{NameFault, NameRoom, Number};
 use fuse_wire::{
-    Ask, BatchRoom, MAX_REPLY_LEN, Reply, Request, RequestRoom, WireFault, fault_reply, read_reply,
-    read_request, read_request_to, write_reply, write_request_to,
+    Answer, Ask, BatchRoom, MAX_REPLY_LEN, Reply, Request, RequestRoom, WireFault, fault_reply,
+    read_buffer_reply, read_reply, read_request, read_request_to, write_reply, write_request_to,
 };
 use row_words::{
     Output, RowFault, Words, chosen, read_answer, read_request as request_of, read_u32,
@@ -26,13 +28,15 @@ enum FuseCall {
     Other,
     WriteReply,
     FaultReply,
+    ReadBuffer,
 }
 
-static FUSE_CALLS: [(&str, FuseCall); 4] = [
+static FUSE_CALLS: [(&str, FuseCall); 5] = [
     ("write", FuseCall::Write),
     ("other", FuseCall::Other),
     ("write_reply", FuseCall::WriteReply),
     ("fault_reply", FuseCall::FaultReply),
+    ("read_buffer", FuseCall::ReadBuffer),
 ];
 
 static FAULTS: [(&str, WireFault); 4] = [
@@ -151,13 +155,28 @@ fn call_reply(bytes: &[u8], output: &mut Output) {
     }
 }
 
+/// Reads a reply where a buffer was asked for.
+fn call_buffer(words: &mut Words<'_>, output: &mut Output) -> Result<(), RowFault> {
+    let bytes = Bytes::of(words.bytes());
+    words.end()?;
+    match read_buffer_reply(bytes) {
+        Ok(reply) => tell_reply(&reply, output),
+        Err(fault) => tell_wire_fault(output, fault),
+    }
+    Ok(())
+}
+
 /// Writes the bytes of a reply.
 fn put_reply(words: &mut Words<'_>, output: &mut Output) -> Result<(), RowFault> {
     let unique = words.number();
     let answer = read_answer(words)?;
     let mut out = [7; MAX_REPLY_LEN];
-    let len = write_reply(&Reply { unique, answer }, &mut out);
+    let reply = Reply { unique, answer };
+    let len = write_reply(&reply, &mut out);
     output.bytes(&out[..len]);
+    if let Answer::Buffer(buffer) = &reply.answer {
+        output.bytes(buffer.as_slice());
+    }
     Ok(())
 }
 
@@ -222,6 +241,7 @@ pub(crate) fn call_fuse(words: &mut Words<'_>, output: &mut Output) -> Result<()
         Some(FuseCall::Other) => call_other(words, output),
         Some(FuseCall::WriteReply) => put_reply(words, output),
         Some(FuseCall::FaultReply) => call_fault(words, output),
+        Some(FuseCall::ReadBuffer) => call_buffer(words, output),
         None => {
             let bytes = words.bytes();
             words.end()?;

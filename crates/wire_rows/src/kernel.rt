@@ -208,10 +208,11 @@ fn read_attributes(words: &mut Words<'_>) -> MountAttributes {
 
 /// Tells an answer.
 fn call_tell(words: &mut Words<'_>, output: &mut Output) -> Result<(), RowFault> {
+    let alloc = words.alloc();
     let unique = words.number();
     let own = read_attributes(words);
     let answer = read_answer(words)?;
-    output.bytes(tell_answer(unique, &answer, &own).as_slice());
+    output.bytes(tell_answer(alloc, unique, answer, &own)?.as_slice());
     Ok(())
 }
 
