@@ -8,10 +8,10 @@ use Rattle.std.specs.Ordering.{nat_cmp}
 use Rattle.eden_base.specs.declared.number.FileId.{FileId}
 use Rattle.checkout.specs.declared.changes.Changes.{Changes}
 use Rattle.manifest.specs.declared.link_change.LinkChange.{LinkChange}
-use Rattle.checkout.specs.Around.{end_of, AreApart, AreRight, GivesTarget, IsAbove, IsFirstAbove, IsUnder, Leads, StandsIn}
+use Rattle.checkout.specs.Around.{end_of, AreApart, AreRight, GivesTarget, IsAbove, IsFirstAbove, IsUnder, Leads}
 use Rattle.checkout.specs.BadChanges.{bad_by_cut, changed_links, file_below, file_in, first_link, IsAboveItself, IsBadAround}
 use Rattle.manifest.specs.Manifest.{Manifest}
-use Rattle.manifest.specs.Tree.{link_cmp}
+use Rattle.manifest.specs.Tree.{link_cmp, StandsIn}
 use Rattle.checkout.proofs.AroundPaths.{one_dir}
 
 module _ (links : FinMap link_cmp FileId) (change : LinkChange) (file : FileId) (gives : GivesTarget links change) (target : change.target ≡ Some file) where

@@ -7,11 +7,11 @@ use Rattle.std.specs.Option.{option_or}
 use Rattle.eden_base.proofs.MemberLemmas.{some-IsSome}
 use Rattle.eden_base.specs.declared.number.FileId.{FileId}
 use Rattle.checkout.specs.Added.{gives}
-use Rattle.checkout.specs.Around.{links_now, AreBeside, IsDirAbove, StandsIn}
+use Rattle.checkout.specs.Around.{links_now, AreBeside, IsDirAbove}
 use Rattle.checkout.specs.UnlinkedFiles.{UnlinkedFiles, is_gone}
 use Rattle.manifest.specs.Manifest.{Line, Manifest, IsManifest, line_of}
 use Rattle.checkout.specs.Overlay.{still}
-use Rattle.manifest.specs.Tree.{link_cmp, links_from}
+use Rattle.manifest.specs.Tree.{link_cmp, links_from, StandsIn}
 use Rattle.checkout.proofs.LinkLaws.{given_from_link}
 use Rattle.manifest.proofs.ManifestTree.{line_of_link, link_of_line, same_id}
 use Rattle.manifest.proofs.MoreLines.{apart}
@@ -42,11 +42,13 @@ module _ (m : Manifest) (added : FinMap link_cmp FileId) (gone : UnlinkedFiles) 
   base = links_from 2 m.lines
 
   -- an added link stays
-  pub above_by_added : (file dir : FileId) → StandsIn added file dir → StandsIn (links_now m added gone) file dir
-  above_by_added file dir s =
-      (s.0, get-links_over added (is_gone gone) base (dir.0, s.0) ∙ ap (λ o. option_or o (still (is_gone gone) (get base (dir.0, s.0)))) s.1)
+  pub link_by_added : (file dir : FileId) (name : List ℕ) → get added (dir.0, name) ≡ Some file → get (links_now m added gone) (dir.0, name) ≡ Some file
+  link_by_added file dir name there = get-links_over added (is_gone gone) base (dir.0, name) ∙ ap (λ o. option_or o (still (is_gone gone) (get base (dir.0, name)))) there
 
-  still_there : (o : Option FileId) (file : FileId) → still (is_gone gone) o ≡ Some file → (o ≡ Some file) × (is_gone gone file.0 ≡ false)
+  pub above_by_added : (file dir : FileId) → StandsIn added file dir → StandsIn (links_now m added gone) file dir
+  above_by_added file dir s = (s.0, link_by_added file dir s.0 s.1)
+
+  pub still_there : (o : Option FileId) (file : FileId) → still (is_gone gone) o ≡ Some file → (o ≡ Some file) × (is_gone gone file.0 ≡ false)
   still_there None file h = absurd (cc)
   still_there (Some f) file h =
       elim (is_gone gone f.0) as (λ b. is_gone gone f.0 ≡ b → (if b then None else Some f) ≡ Some file → (Some f ≡ Some file) × (is_gone gone file.0 ≡ false)) [
@@ -72,8 +74,8 @@ module _ (m : Manifest) (added : FinMap link_cmp FileId) (gone : UnlinkedFiles) 
       let line = line_of-link m.lines file at.place at.line at.here at.file_is in
       cc (line, no_line)
 
-  pub above_by_line : IsManifest m → AreBeside added (is_gone gone) base → (file : FileId) (line : Line) → is_gone gone file.0 ≡ false → line_of m.lines file ≡ Some line → StandsIn (links_now m added gone) file line.dir
-  above_by_line is beside file line stays h =
+  pub link_by_line : IsManifest m → AreBeside added (is_gone gone) base → (file : FileId) (line : Line) → is_gone gone file.0 ≡ false → line_of m.lines file ≡ Some line → get (links_now m added gone) (line.dir.0, line.name) ≡ Some file
+  link_by_line is beside file line stays h =
       let here : get base (line.dir.0, line.name) ≡ Some file = base_of_line m is file line h in
       let left : still (is_gone gone) (get base (line.dir.0, line.name)) ≡ Some file = ap (still (is_gone gone)) here ∙ ap (λ (b : Bool). if b then None else Some file) stays in
       let rest : option_or (get added (line.dir.0, line.name)) (still (is_gone gone) (get base (line.dir.0, line.name))) ≡ Some file =
@@ -81,4 +83,7 @@ module _ (m : Manifest) (added : FinMap link_cmp FileId) (gone : UnlinkedFiles) 
         | None ↦ λ e. left
         | Some f ↦ λ e. let none = beside line.dir.0 line.name (some-IsSome (get added (line.dir.0, line.name)) f e) in absurd (cc (none, left))
       ] refl in
-      (line.name, get-links_over added (is_gone gone) base (line.dir.0, line.name) ∙ rest)
+      get-links_over added (is_gone gone) base (line.dir.0, line.name) ∙ rest
+
+  pub above_by_line : IsManifest m → AreBeside added (is_gone gone) base → (file : FileId) (line : Line) → is_gone gone file.0 ≡ false → line_of m.lines file ≡ Some line → StandsIn (links_now m added gone) file line.dir
+  above_by_line is beside file line stays h = (line.name, link_by_line is beside file line stays h)

@@ -3,8 +3,8 @@ use Rattle.std.proofs.Common.{◌≡◌, ◌⊎◌, ℕ, Bool, true, List, [], �
 use Rattle.std.specs.FinMap.{FinMap, get}
 use Rattle.std.specs.Option.{option_and_then}
 use Rattle.eden_base.specs.declared.number.FileId.{FileId}
-use Rattle.checkout.specs.Around.{end_of, AreApart, IsUnder, Leads, StandsIn}
-use Rattle.manifest.specs.Tree.{link_cmp}
+use Rattle.checkout.specs.Around.{end_of, AreApart, IsUnder, Leads}
+use Rattle.manifest.specs.Tree.{link_cmp, StandsIn}
 
 module _ (links : FinMap link_cmp FileId) where
   pub end_of-append : (dir : FileId) (path more : List (List ℕ)) → end_of links dir (path ++ more) ≡ option_and_then (λ (f : FileId). end_of links f more) (end_of links dir path)

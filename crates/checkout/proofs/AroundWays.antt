@@ -3,8 +3,8 @@ use Rattle.std.proofs.Common.{◌≡◌, ◌==◌, ◌||◌, ◌⊎◌, true, fa
 use Rattle.std.proofs.lemmas.Bool.Decides.{nat_tests}
 use Rattle.std.specs.FinMap.{FinMap}
 use Rattle.eden_base.specs.declared.number.FileId.{FileId}
-use Rattle.checkout.specs.Around.{among, first_or, AreApart, IsDirAbove, IsUnder, IsWay, Leads, StandsIn}
-use Rattle.manifest.specs.Tree.{link_cmp}
+use Rattle.checkout.specs.Around.{among, first_or, AreApart, IsDirAbove, IsUnder, IsWay, Leads}
+use Rattle.manifest.specs.Tree.{link_cmp, StandsIn}
 use Rattle.checkout.proofs.AroundPaths.{circle_goes_up, leads_down, leads_itself, leads_on, one_dir}
 use Rattle.manifest.proofs.ManifestTree.{same_id}
 

@@ -5,8 +5,8 @@ use Rattle.std.specs.Cmp.{nat_cmp_total}
 use Rattle.std.specs.FinMap.{FinMap, empty, get, get-empty, insert, nat_cmp-IsAntisymmetric}
 use Rattle.std.specs.Ordering.{nat_cmp}
 use Rattle.eden_base.specs.declared.number.FileId.{FileId}
-use Rattle.checkout.specs.Around.{among, from_file, AreApart, AreRight, AreSet, IsClimb, IsEnd, IsUnder, IsWay, StandsIn}
-use Rattle.manifest.specs.Tree.{link_cmp}
+use Rattle.checkout.specs.Around.{among, from_file, AreApart, AreRight, AreSet, IsClimb, IsEnd, IsUnder, IsWay}
+use Rattle.manifest.specs.Tree.{link_cmp, StandsIn}
 use Rattle.checkout.proofs.AroundPaths.{told_above}
 use Rattle.checkout.proofs.AroundWays.{circle_to_top, dir_of_way, first_among, is_circle, ToTop}
 use Rattle.manifest.proofs.MapLemmas.{get-insert_other, get-insert_same}

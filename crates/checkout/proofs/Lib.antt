@@ -27,6 +27,7 @@ pub mod CutLaws
 pub mod FilesFrom
 pub mod FilterLaws
 pub mod FirstBadLaws
+pub mod FirstFrom
 pub mod GoodChanges
 pub mod GoodRounds
 pub mod IdMaps

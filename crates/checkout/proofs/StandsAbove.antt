@@ -4,9 +4,9 @@ use Rattle.std.proofs.lemmas.Map.Steps.{length-le_from_distinct_below}
 use Rattle.std.specs.FinMap.{FinMap, get}
 use Rattle.std.specs.Option.{option_and_then}
 use Rattle.eden_base.specs.declared.number.FileId.{FileId}
-use Rattle.checkout.specs.Around.{end_of, AreApart, IsDirAbove, IsUnder, StandsIn}
+use Rattle.checkout.specs.Around.{end_of, AreApart, IsDirAbove, IsUnder}
 use Rattle.checkout.specs.RenamedTree.{IsAtOrAbove}
-use Rattle.manifest.specs.Tree.{Tree, child_of, file_at, link_cmp, root, IsTree}
+use Rattle.manifest.specs.Tree.{child_of, file_at, link_cmp, root, IsTree, StandsIn, Tree}
 use Rattle.checkout.proofs.AroundPaths.{circle_goes_up, last_of, one_dir}
 use Rattle.checkout.proofs.CreateLaws.{dir_is_below, linked_is_below}
 use Rattle.checkout.proofs.UpwardLaws.{begins, one_up, IsWayUp}

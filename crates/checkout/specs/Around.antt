@@ -1,6 +1,7 @@
 -- Which changed link is the first whose target is the link's own directory, or stands above this directory. Links are a
 -- map from a directory and a name to a file. And how files are coloured by whether they stand below themselves.
 use Rattle.std.specs.Prelude.{◌≡◌, ◌<◌, ◌==◌, ◌||◌, ℕ, Bool, true, false, nat_lt, List, [], ◌∷◌, map, slice_get, Option, Some, None, IsSome, is_some, if◌then◌else◌}
+use Rattle.std.proofs.Common.{Bor}
 use Rattle.std.specs.Coded.{Coded, coded_ℕ, coded_bool}
 use Rattle.std.specs.FinMap as map
 use Rattle.std.specs.FinMap.{FinMap, entries, get}
@@ -13,7 +14,7 @@ use Rattle.checkout.specs.Changes.{place_of}
 use Rattle.checkout.specs.UnlinkedFiles.{UnlinkedFiles, is_gone}
 use Rattle.manifest.specs.Manifest.{Manifest, kids_in}
 use Rattle.checkout.specs.Overlay.{links_over, still}
-use Rattle.manifest.specs.Tree.{link_cmp, links_from}
+use Rattle.manifest.specs.Tree.{link_cmp, links_from, StandsIn}
 
 -- the file to which the names lead, one after another, from a directory down; None if a name gives no file
 abbrev pub end_of : FinMap link_cmp FileId → FileId → List (List ℕ) → Option FileId
@@ -63,14 +64,15 @@ AreBeside added gone base =
 abbrev pub GivesTarget : FinMap link_cmp FileId → LinkChange → Type 0
 GivesTarget links change = get links (place_of change) ≡ change.target
 
--- some link in the directory gives the file
-abbrev pub StandsIn : FinMap link_cmp FileId → FileId → FileId → Type 0
-StandsIn links file dir = (name : List ℕ) × (get links (dir.0, name) ≡ Some file)
-
 -- the option is a directory in which the file stands, or None if the file stands in no directory
 abbrev pub IsDirAbove : FinMap link_cmp FileId → FileId → Option FileId → Type 0
 IsDirAbove links file None = (dir : FileId) → StandsIn links file dir → ⊥
 IsDirAbove links file (Some dir) = StandsIn links file dir
+
+-- the option is the name under which the file stands, or None if the file stands in no directory
+abbrev pub IsNameAbove : FinMap link_cmp FileId → FileId → Option (Bor (List ℕ)) → Type 0
+IsNameAbove links file None = (dir : FileId) → StandsIn links file dir → ⊥
+IsNameAbove links file (Some name) = (dir : FileId) × (get links (dir.0, name.now) ≡ Some file)
 
 -- some names lead from the first file down to the second, or both are the same file
 abbrev pub Leads : FinMap link_cmp FileId → FileId → FileId → Type 0

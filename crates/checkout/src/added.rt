@@ -8,7 +8,7 @@ ghost use Rattle.directory_index.specs.Index.{has_room};
 ghost use Rattle.eden_base.specs.Name.{IsNameText};
 ghost use Rattle.eden_base.specs.declared.number.FileId.{FileId};
 ghost use Rattle.manifest.specs.Links.{added_change};
-ghost use Rattle.manifest.specs.Tree.{link_cmp};
+ghost use Rattle.manifest.specs.Tree.{link_cmp, IsFirstFrom};
 ghost use Rattle.checkout.specs.Added.{gives, place_of_file, without, AreLinks};
 
 mod places;
@@ -93,6 +93,22 @@ impl Added {
     {
         let place = self.places.files.get(&file.0)?;
         Some(place.dir)
+    }
+
+    /// Returns the name under which an added link gives the file, or none if no added link gives it.
+    pub fn name_of(&self, file: FileId) -> Option<&Name>
+        ensures { MatchOption result (gives self.now file ≡ false) (λ name.
+            (dir : FileId) × (get self.now (dir.0, name.now) ≡ Some file)) }
+    {
+        let place = self.places.files.get(&file.0)?;
+        Some(&place.name)
+    }
+
+    /// Returns the first file from the id `least` on that an added link gives in the directory `dir`, by rising id, or none.
+    pub fn first_from(&self, dir: FileId, least: FileId) -> Option<FileId>
+        ensures { IsFirstFrom self.now dir least.0 result }
+    {
+        self.index.first_from(dir.0, least.0).map(FileId)
     }
 
     /// Appends each link to `links`, as one that was added.
@@ -251,7 +267,8 @@ fn take(
     Some(FileId(file))
 }
 
-/// Removes the link under `name` in `dir`, if there is one: it gives `file`.
+/// Removes the added link under `name` in `dir`, if there is one: it gives `file`. Does nothing where the manifest's own link
+/// gives `file` there.
 fn unlink_at(
     places: &mut AddedPlaces,
     index: &mut DirectoryIndex,

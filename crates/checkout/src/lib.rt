@@ -4,6 +4,7 @@
 mod added;
 mod backing;
 mod changes;
+mod children;
 mod fault;
 mod made;
 mod order;
@@ -13,6 +14,7 @@ mod unlinked_files;
 
 pub use backing::{Backing, BackingFault, ManifestBacking};
 pub use changes::{Changes, LinkList, Made, MadeList};
+pub use children::Child;
 pub use fault::{ChangeFault, CreateFault};
 pub use manifest::{LinkChange, Manifest, ManifestFault, ManifestFaultKind};
 pub use tree::Tree;

@@ -4,7 +4,7 @@ ghost use Rattle.std.specs.Prelude.{◌≡◌, ◌==◌, ◌&&◌, ◌||◌, ℕ
 ghost use Rattle.std.specs.FinMap.{entries};
 ghost use Rattle.std.specs.List.{list_any};
 ghost use Rattle.checkout.specs.Added.{gives};
-ghost use Rattle.checkout.specs.Around.{links_now, AreBeside, IsDirAbove};
+ghost use Rattle.checkout.specs.Around.{links_now, AreBeside, IsDirAbove, IsNameAbove};
 ghost use Rattle.checkout.specs.BadChanges.{file_does, gives_same};
 ghost use Rattle.checkout.specs.Laying.{base_target, AreTaken};
 ghost use Rattle.checkout.specs.Listing.{differs};
@@ -17,7 +17,7 @@ ghost use Rattle.manifest.specs.Tree.{links_from};
 use crate::added::Added;
 use crate::changes::bad_itself::gives_same;
 use crate::unlinked_files::UnlinkedFiles;
-use eden_base::FileId;
+use eden_base::{FileId, Name};
 use manifest::{LinkChange, Manifest, Tally, line_of};
 
 /// Returns whether the file is one of the manifest's, below the root.
@@ -67,6 +67,26 @@ pub fn dir_above(
     }
     let line = line_of(manifest.lines(), file)?;
     Some(line.dir)
+}
+
+/// Returns the name under which a link gives the file, or none if no link gives it.
+pub fn name_of<'a>(
+    manifest: &'a Manifest,
+    added: &'a Added,
+    gone: &UnlinkedFiles,
+    file: FileId,
+) -> Option<&'a Name>
+    requires beside { AreBeside added.now (is_gone gone.now) (links_from 2 manifest.now.lines) }
+    ensures name { IsNameAbove (links_now manifest.now added.now gone.now) file result }
+{
+    if let Some(name) = added.name_of(file) {
+        return Some(name);
+    }
+    if gone.has(file) {
+        return None;
+    }
+    let line = line_of(manifest.lines(), file)?;
+    Some(&line.name)
 }
 
 /// Records in `gone` and `lost` that the manifest's link to `target` is gone. Does nothing if there is no target, if

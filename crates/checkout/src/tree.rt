@@ -2,6 +2,7 @@
 ghost use Rattle.std.specs.Prelude.{◌≡◌, ◌≢◌, ◌↔◌, ◌<◌, ◌==◌, ◌&&◌, ◌||◌, nat_lt, not, true, false, None, Some, IfErr, IfOk, IfSome, IsSome, OnErr, OnOk, Option};
 ghost use Rattle.std.specs.FinMap.{entries};
 ghost use Rattle.std.specs.List.{AllByRecursion, list_any};
+ghost use Rattle.std.specs.Option.{option_map};
 ghost use Rattle.eden_base.specs.Name.{IsNameText};
 ghost use Rattle.eden_base.specs.declared.attr.Kind.TheVariants.{Dir};
 ghost use Rattle.checkout.specs.Around.{IsDirAbove};
@@ -10,13 +11,14 @@ ghost use Rattle.checkout.specs.Changed.{changed, IsChangeRefusal};
 ghost use Rattle.checkout.specs.Changes.{AreChanges};
 ghost use Rattle.checkout.specs.declared.changes.Changes.{Changes as ChangesState};
 ghost use Rattle.checkout.specs.Create.{IsCreateRefusal};
-ghost use Rattle.manifest.specs.Tree.{Tree as TreeState, IsTree, tree_of, child_of, kind_of, file_of, nlink_of_kind};
+ghost use Rattle.manifest.specs.Tree.{Tree as TreeState, IsTree, tree_of, child_of, kind_of, file_of, nlink_of_kind, IsFirstFrom};
 ghost use Rattle.checkout.specs.ChangedTree.{attr_of, next_file, nlink_of, has_links, is_empty_dir, is_full_dir, is_backed, is_linked, is_regular, is_unlinked, created, removed};
 ghost use Rattle.checkout.specs.RenamedTree.{can_replace, renamed, IsAtOrAbove};
 
 use crate::added::Added;
 use crate::changes::bad_itself::bad_itself;
 use crate::changes::laid::Laid;
+use crate::children::{Child, first_from};
 use crate::made::{MadeFile, MadeFiles};
 use crate::order::sort;
 use crate::unlinked_files::UnlinkedFiles;
@@ -240,6 +242,19 @@ impl Tree {
             return None;
         }
         Some(file)
+    }
+
+    /// Returns the first file from the id `least` on that stands in the directory `dir`, by rising id, with its name, or
+    /// none. So a directory is listed by going on after the last file that it gave. The cost grows with the manifest's
+    /// files between that lost their names there.
+    pub fn child_from(&self, dir: FileId, least: FileId) -> Option<Child<'_>>
+        ensures first { IsFirstFrom self.now.links dir least.0 (option_map (λ child. child.file) result) }
+        ensures name { IfSome result (λ child. child_of self.now dir child.name.now ≡ Some child.file) }
+    {
+        let (manifest, added, gone) = (&self.manifest, &self.added, &self.gone);
+        let file = first_from(manifest, added, gone, dir, least)?;
+        let name = overlay::name_of(manifest, added, gone, file)?;
+        Some(Child { file, name })
     }
 
     /// Returns the directory in which a name gives the file, or none if no name gives it.

@@ -1,5 +1,6 @@
 pub mod EntryForms
 pub mod FieldForms
+pub mod FirstFile
 pub mod FlatLemmas
 pub mod FormLaws
 pub mod FormReads

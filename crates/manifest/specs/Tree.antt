@@ -39,6 +39,18 @@ kind_of tree file = option_map (λ (f : File). f.kind) (file_of tree file)
 abbrev pub child_of : Tree → FileId → List ℕ → Option FileId
 child_of tree dir name = get tree.links (dir.0, name)
 
+-- some link in the directory gives the file
+abbrev pub StandsIn : FinMap link_cmp FileId → FileId → FileId → Type 0
+StandsIn links file dir = (name : List ℕ) × (get links (dir.0, name) ≡ Some file)
+
+-- the first file of a directory whose id is `least` or greater: the one of the least id, or None if there is none. (A file
+-- keeps its id while it has a name, so this is the order in which a directory is listed: this project's own.)
+abbrev pub IsFirstFrom : FinMap link_cmp FileId → FileId → ℕ → Option FileId → Type 0
+IsFirstFrom links dir least (Some file) =
+    StandsIn links file dir × (least ≤ file.0)
+    × ((other : FileId) → StandsIn links other dir → least ≤ other.0 → file.0 ≤ other.0)
+IsFirstFrom links dir least None = (other : FileId) → StandsIn links other dir → least ≤ other.0 → ⊥
+
 -- the kind is that of a directory
 abbrev pub is_dir : Option Kind → Bool
 is_dir None = false

@@ -1,11 +1,11 @@
 //! The lines of a manifest, and the places that they take.
-ghost use Rattle.std.specs.Prelude.{◌≡◌, [], ◌∷◌, ◌++◌, ◌<◌, ◌≤◌, IfErr, IfOk, IsOkAnd, MatchOption, OnOk, length, Some, None};
+ghost use Rattle.std.specs.Prelude.{◌≡◌, [], ◌∷◌, ◌++◌, ◌+◌, ◌<◌, ◌≤◌, IfErr, IfOk, IfSome, IsOkAnd, MatchOption, OnOk, length, Some, None};
 ghost use Rattle.std.specs.FinMap.{get};
 ghost use Rattle.eden_base.specs.Limits.{greatest_size};
 ghost use Rattle.manifest.specs.Manifest.{AreLines, IsDirBefore, most_lines, kids_in};
 ghost use Rattle.manifest.specs.ManifestText.{line_of_text, IsLineRefusal, parent_of, place_fault, names_of, tree_so_far};
 ghost use Rattle.manifest.specs.Text.{front, last};
-ghost use Rattle.manifest.specs.Tree.{file_at, links_from, root};
+ghost use Rattle.manifest.specs.Tree.{file_at, links_from, root, IsFirstFrom};
 
 use crate::entry::ManifestEntry;
 use crate::field::is_path;
@@ -85,6 +85,14 @@ impl Lines {
             lines: self.lines.as_slice(),
         };
         self.index.get(&places, dir.0, name).map(FileId)
+    }
+
+    /// Returns the first file from the id `least` on that the lines have in the directory `dir`, by rising id, or none.
+    pub fn first_from(&self, dir: FileId, least: FileId) -> Option<FileId>
+        ensures first { IsFirstFrom (links_from 2 self.now) dir least.0 result }
+        ensures few { IfSome result (λ file. file.0 < most_lines + 2) }
+    {
+        self.index.first_from(dir.0, least.0).map(FileId)
     }
 
     /// Returns how many lines stand in a directory.

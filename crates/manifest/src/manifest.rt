@@ -1,7 +1,7 @@
 //! The list of what a commit contains.
-ghost use Rattle.std.specs.Prelude.{◌≡◌, ◌+◌, [], IfErr, IfOk, Ok, length};
+ghost use Rattle.std.specs.Prelude.{◌≡◌, ◌+◌, ◌<◌, [], IfErr, IfOk, IfSome, Ok, length};
 ghost use Rattle.std.specs.FinMap.{get};
-ghost use Rattle.manifest.specs.Manifest.{IsManifest, kids_in};
+ghost use Rattle.manifest.specs.Manifest.{most_lines, IsManifest, kids_in};
 ghost use Rattle.manifest.specs.ManifestForm.{AreFormsRead, IsManifestForm};
 ghost use Rattle.manifest.specs.ManifestText.{commit_of, digest_of, lines_of, manifest_of, read_on, with_commit, IsAmongLines, IsAtLine, IsManifestRefusal, IsRefusal};
 
@@ -47,7 +47,7 @@ impl Model for Manifest {
 }
 
 impl Manifest {
-    ghost use Rattle.manifest.specs.Tree.{IsTree, tree_of, files_from, links_from};
+    ghost use Rattle.manifest.specs.Tree.{IsFirstFrom, IsTree, tree_of, files_from, links_from};
 
     /// Reads a manifest: a line `commit ` with forty hexadecimal digits, and then lines `dir PATH` and `file MODE SIZE
     /// PATH`. Each line is ended by LF.
@@ -130,6 +130,14 @@ impl Manifest {
         ensures is_manifest { IsManifest self.now }
     {
         self.lines.child(dir, name)
+    }
+
+    /// Returns the first file from the id `least` on that the manifest has in the directory `dir`, by rising id, or none.
+    pub fn first_from(&self, dir: FileId, least: FileId) -> Option<FileId>
+        ensures first { IsFirstFrom (links_from 2 self.now.lines) dir least.0 result }
+        ensures few { IfSome result (λ file. file.0 < most_lines + 2) }
+    {
+        self.lines.first_from(dir, least)
     }
 
     /// Returns how many names the manifest has in a directory.

@@ -2,7 +2,8 @@
 use Rattle.std.proofs.Common.{List, sym, ap, subst, ◌∙◌}
 use Rattle.std.specs.Option.{option_copied}
 use Rattle.eden_base.specs.declared.number.FileId.{FileId}
-use Rattle.checkout.specs.Around.{links_now, StandsIn}
+use Rattle.checkout.specs.Around.{links_now}
+use Rattle.manifest.specs.Tree.{StandsIn}
 use Rattle.manifest.specs.Manifest.{Line, line_of}
 use Rattle.checkout.proofs.AboveLaws.{above_by_added, above_by_line, none_above_gone, none_above_other}
 use Rattle.checkout.proofs.overlay.dir_above.Goals as goal
