@@ -2,7 +2,8 @@
 """Prints the rows of data/tree_run.rows: 600 calls on a tree, chosen by dice, and what a plain list of links says.
 
 After each call, `tree names` and `tree names_again` have to tell the names that give another file in the list than in
-the manifest: those of the tree itself, and those of another tree that is made of its changes.
+the manifest: those of the tree itself, and those of another tree that is made of its changes. Then one directory is listed
+by `tree first`, from no file on and then behind each file that it told.
 """
 NAMES = "abcd"
 MANIFEST = ["commit 0123456789abcdef0123456789abcdef01234567", "dir a", "file 0644 12 a/a", "file 0755 0 a/b", "dir a/c",
@@ -68,6 +69,15 @@ class Plain:
         return " ".join([f"next {self.next}", *made, *self.names()])
 
 
+def listing(plain, dir):
+    """Prints the rows that list a directory: its files in the order of their ids, each with its name."""
+    least = 0
+    for file, name in sorted((file, name) for (other, name), file in plain.links.items() if other == dir):
+        print(f"tree first {dir} {least} = {file} {name}")
+        least = file + 1
+    print(f"tree first {dir} {least} = none")
+
+
 def place(plain, dice):
     """Returns one of the first eight directories and one of four names."""
     index = dice // 4 % 8
@@ -101,6 +111,7 @@ def main():
         names = plain.names()
         for call in ["names", "names_again"]:
             print(" ".join([f"tree {call} = {len(names)}", *names]))
+        listing(plain, place(plain, dice // 2**44)[0])
     print(f"tree changes = {plain.changes()}\ntree again = {plain.changes()}")
     assert plain.next > 30 and len(plain.links) > 10
 

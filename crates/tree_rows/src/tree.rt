@@ -5,6 +5,7 @@
 //! `tree rename DIR NAME TO_DIR TO_NAME`: moves a file, and tells the file that stood at the new name.
 //! These three tell `refused` where a condition of the call does not hold, and then make no call.
 //! `tree child DIR NAME`: the file that a name gives.
+//! `tree first DIR LEAST`: the first file of a directory from an id on, and its name.
 //! `tree above FILE OTHER`: whether a file is another one, or stands above it.
 //! `tree attr FILE`: the kind, the permissions, the size and the count of links of a file. `tree kind FILE`: its kind.
 //! `tree tell FILE`: the count of links of a file, its kind, `linked` if it stands under a name, and `empty` if it is an
@@ -55,17 +56,19 @@ enum OnCall {
     Remove,
     Rename,
     Child,
+    First,
     File(FileCall),
     Next,
     Commit,
     Changes(Part),
 }
 
-static ON_CALLS: [(&str, OnCall); 14] = [
+static ON_CALLS: [(&str, OnCall); 15] = [
     ("create", OnCall::Create),
     ("remove", OnCall::Remove),
     ("rename", OnCall::Rename),
     ("child", OnCall::Child),
+    ("first", OnCall::First),
     ("above", OnCall::File(FileCall::Above)),
     ("attr", OnCall::File(FileCall::Attr)),
     ("kind", OnCall::File(FileCall::Kind)),
@@ -130,6 +133,21 @@ fn child(tree: &Tree, words: &mut Words<'_>, output: &mut Output) -> Done {
     Ok(())
 }
 
+/// Tells the first file of a directory from an id on, and its name.
+fn first(tree: &Tree, words: &mut Words<'_>, output: &mut Output) -> Done {
+    let dir = file_of(words);
+    let least = file_of(words);
+    words.end()?;
+    match tree.child_from(dir, least) {
+        Some(child) => {
+            output.number(child.file.0);
+            output.bytes(child.name.bytes());
+        }
+        None => output.word("none"),
+    }
+    Ok(())
+}
+
 /// Writes the kind of a file, or `none`.
 fn put_kind(tree: &Tree, file: FileId, output: &mut Output) {
     match tree.kind(file) {
@@ -180,6 +198,7 @@ fn call_on(tree: &mut Tree, word: &[u8], words: &mut Words<'_>, output: &mut Out
         OnCall::Remove => return remove(tree, words, output),
         OnCall::Rename => return rename(tree, words, output),
         OnCall::Child => return child(tree, words, output),
+        OnCall::First => return first(tree, words, output),
         OnCall::File(call) => return ask_file(tree, call, words, output),
         OnCall::Changes(part) => return put_changes(tree, part, output),
         OnCall::Commit => output.hex(&tree.commit()),
