@@ -1,11 +1,13 @@
 -- Who is at the other end of the connections that are open, and who goes where there are too many. (This project's own.)
-use Rattle.std.specs.Prelude.{ℕ, Bool, true, false, ◌&&◌, ◌||◌, ◌==◌, List, Option, Some, None, is_some, count_by, nat_lt, position, remove, if◌then◌else◌}
+use Rattle.std.specs.Prelude.{ℕ, Bool, true, false, ◌&&◌, ◌||◌, ◌==◌, List, Option, Some, None, Result, Ok, Err, is_some, count_by, nat_lt, position, remove, if◌then◌else◌}
 use Rattle.eden_base.specs.declared.number.DaemonId.{DaemonId}
 use Rattle.broker_desk.specs.declared.peer.Peer.{Peer}
 use Rattle.broker_desk.specs.declared.peer.Peer.TheVariants.{Unattached, Daemon, Worker}
 use Rattle.std.specs.declared.net.unix.UnixStream.{UnixStream}
+use Rattle.frames.specs.Lacking.{lacking}
+use Rattle.frames.specs.declared.fault.FrameFault.{FrameFault}
 use Rattle.broker_process.specs.declared.connections.Heard.{Heard}
-use Rattle.broker_process.specs.declared.connections.Heard.TheVariants.{Unknown, Silence, Something}
+use Rattle.broker_process.specs.declared.connections.Heard.TheVariants.{Unknown, Silence, Frame, Something}
 use Rattle.broker_process.specs.declared.connections.OpenConnection.{OpenConnection}
 
 -- whether nobody attached by a connection of this peer
@@ -41,19 +43,30 @@ without_at connections None = connections
 abbrev pub is_silence : Heard → Bool
 is_silence Unknown = false
 is_silence Silence = true
+is_silence Frame = false
 is_silence Something = false
 
--- whether something came
+-- whether something came that waits for no answer
 abbrev pub is_something : Heard → Bool
 is_something Unknown = false
 is_something Silence = false
+is_something Frame = false
 is_something Something = true
+
+-- whether a frame at the front is whole, by how many bytes it lacks
+abbrev pub is_whole : Result ℕ FrameFault → Bool
+is_whole (Ok count) = count == 0
+is_whole (Err fault) = false
+
+-- what the first bytes of a connection are: a whole frame, or else something
+abbrev pub heard_of : List ℕ → Heard
+heard_of bytes = if is_whole (lacking bytes) then Frame else Something
 
 -- whether the connection is unattached, and nothing came by it for a moment
 abbrev pub is_silent : OpenConnection → Bool
 is_silent connection = is_unattached connection && is_silence connection.heard
 
--- whether the connection is unattached, though something came by it
+-- whether the connection is unattached, though something came by it, and no frame of it waits for an answer
 abbrev pub has_begun : OpenConnection → Bool
 has_begun connection = is_unattached connection && is_something connection.heard
 
@@ -63,7 +76,7 @@ first_place (Some place) other = Some place
 first_place None other = other
 
 -- where the unattached connection stands that goes first: the oldest silent one, or else the oldest one that began to say
--- something
+-- something. One that nobody looked at stays, and so does one whose frame is not answered yet
 abbrev pub place_to_give : List OpenConnection → Option ℕ
 place_to_give connections =
     first_place (position is_silent connections) (position has_begun connections)

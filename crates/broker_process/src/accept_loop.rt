@@ -133,9 +133,8 @@ impl<R: Threads + Wait + Clock + Sync> BrokerContext<'_, R> {
 
 /// Returns what comes by a connection within a moment. Whoever attaches says so at once.
 fn heard_by<R: Clock>(rt: &R, connection: &mut Connection<'_, R>) -> Heard {
-    if connection.hears(Deadline::after(rt, Duration::from_millis(MOMENT))) {
-        Heard::Something
-    } else {
-        Heard::Silence
+    match connection.hears(Deadline::after(rt, Duration::from_millis(MOMENT))) {
+        Some(bytes) => Heard::of(bytes),
+        None => Heard::Silence,
     }
 }

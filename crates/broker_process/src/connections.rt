@@ -1,10 +1,11 @@
 //! The connections that are open.
 ghost use Rattle.std.specs.Prelude.{◌≡◌, ◌<◌, [], ◌∷◌, ◌++◌, None, true, count_by, is_some, length, nat_lt, position, vec_capacity, vec_len};
 ghost use Rattle.std.specs.Option.{IfSome};
-ghost use Rattle.broker_process.specs.Connections.{entered, has_number, has_room, is_unattached, is_silent, has_begun, place_to_give, with_room, without_at, works_for};
+ghost use Rattle.broker_process.specs.Connections.{entered, has_number, has_room, heard_of, is_unattached, is_silent, has_begun, place_to_give, with_room, without_at, works_for};
 
 use broker_desk::Peer;
 use eden_base::DaemonId;
+use frames::missing;
 use std::alloc::Global;
 use std::net::Shutdown;
 use std::os::unix::net::UnixStream;
@@ -22,8 +23,22 @@ pub(crate) enum Heard {
     Unknown,
     /// Nothing for a moment.
     Silence,
-    /// The beginning of a frame at least, or the end.
+    /// A whole frame, which is not answered yet.
+    Frame,
+    /// The beginning of a frame, the end, what is no frame, or a frame that was answered.
     Something,
+}
+
+impl Heard {
+    /// Returns what the first `bytes` of a connection are.
+    pub(crate) fn of(bytes: &[u8]) -> Heard
+        ensures heard { result ≡ heard_of bytes.now }
+    {
+        match missing(bytes) {
+            Ok(0) => Heard::Frame,
+            Ok(_) | Err(_) => Heard::Something,
+        }
+    }
 }
 
 /// A connection that is open, who is at its other end, what came by it, and a handle to end it by.
@@ -50,7 +65,7 @@ impl OpenConnection {
         self.is_unattached() && matches!(self.heard, Heard::Silence)
     }
 
-    /// Returns whether the connection is unattached, though something came by it.
+    /// Returns whether the connection is unattached, though something came by it, and no frame of it waits for an answer.
     fn has_begun(&self) -> bool
         ensures begun { result ≡ has_begun self.now }
     {
@@ -131,7 +146,8 @@ impl Connections {
     }
 
     /// Returns the place of the unattached connection that goes first: the oldest one by which nothing came, or else the
-    /// oldest one by which something came that was no whole frame yet. One that nobody looked at stays.
+    /// oldest one by which something came that waits for no answer. One that nobody looked at stays, and so does one whose
+    /// frame is not answered yet.
     fn place_to_give(&self) -> Option<usize>
         ensures place { result ≡ place_to_give self.now.list.items }
         ensures below { IfSome result (λ place. place < length self.now.list.items) }
@@ -210,11 +226,12 @@ impl Connections {
             .position(|connection| connection.number == number)
     }
 
-    /// Notes that connection `number` is that of `peer`.
+    /// Notes that the first frame of connection `number` is answered, and made it one of `peer`.
     pub(crate) fn name(&mut self, number: u64, peer: Peer) {
         for connection in self.list.iter_mut() {
             if connection.number == number {
                 connection.peer = peer;
+                connection.heard = Heard::Something;
             }
         }
     }

@@ -127,9 +127,9 @@ impl SharedDeskState {
         if !accepted.is_unattached() && self.has_dead_mount() && matches!(frame, Frame::Mount) {
             return (Response::Tells(Frame::Seated), false);
         }
-        let before = accepted.peer;
+        let was_unattached = accepted.is_unattached();
         let response = self.desk.answer(&mut accepted.peer, frame);
-        if accepted.peer != before {
+        if was_unattached {
             self.connections.name(accepted.number, accepted.peer);
         }
         if let Response::Tells(Frame::Claimed { generation }) = &response {

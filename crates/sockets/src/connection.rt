@@ -84,11 +84,11 @@ impl<'a, R: Clock> Connection<'a, R> {
         self.reader.get_ref().is_late()
     }
 
-    /// Waits until something comes, or the other end closes the connection. Returns whether that was so by `deadline`. What
-    /// came is kept for the next read.
-    pub fn hears(&mut self, deadline: Deadline) -> bool {
+    /// Waits until something comes, or the other end closes the connection. Returns what came by `deadline`, which is nothing
+    /// at the end, and is kept for the next read. Returns none if neither was so by then.
+    pub fn hears(&mut self, deadline: Deadline) -> Option<&[u8]> {
         self.reader.get_mut().end_by(deadline);
-        self.reader.fill_buf().is_ok()
+        self.reader.fill_buf().ok()
     }
 
     /// Writes `frame`. After a fault the caller has to close the connection.
