@@ -1,4 +1,5 @@
 pub mod Bodies
+pub mod DirectoryEntries
 pub mod Errors
 pub mod Fields
 pub mod ItemLaws

@@ -1,3 +1,4 @@
+pub mod DirectoryEntries
 pub mod FaultReply
 pub mod Field
 pub mod Form

@@ -28,8 +28,8 @@ impl Model for Buffer {
 }
 
 impl Buffer {
-    /// How many bytes an answer has at most. A reply of so many fills the body of a frame, 65,536 bytes, with its header
-    /// and the generation before it.
+    /// How many bytes an answer has at most. With the header of its reply and the generation before it, the longest
+    /// answer fills the body of a frame, 65,536 bytes.
     pub const MAX_LEN: usize = 65_512;
 
     /// Makes a buffer of `bytes`, in the same memory. Returns none if there are more than `MAX_LEN`.
@@ -50,7 +50,7 @@ impl Buffer {
         self.bytes.as_slice()
     }
 
-    /// Returns the bytes as such, in the same memory.
+    /// Returns the bytes, in the same memory.
     pub fn into_bytes(self) -> Bytes
         ensures bytes { result ≡ self }
     {

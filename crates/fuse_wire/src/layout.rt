@@ -84,3 +84,9 @@ pub(crate) const ENTRY_REPLY_ATTRIBUTES: usize = REPLY_HEADER_LEN + ENTRY_LEN - 
 
 /// The `blksize` in the attributes of every file.
 pub(crate) const BLOCK_SIZE: u32 = 4096;
+
+/// The length of `struct fuse_dirent` before the name (`FUSE_NAME_OFFSET`): ino, off, namelen, type.
+pub(crate) const DIRENT_FIXED: usize = 24;
+
+/// The length of an entry of a directory is a multiple of this one (`FUSE_DIRENT_ALIGN`).
+pub(crate) const DIRENT_ALIGN: usize = 8;
