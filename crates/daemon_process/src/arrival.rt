@@ -96,7 +96,7 @@ impl<'a, R: Net + Clock + Wait> DaemonContext<'a, R> {
         }
     }
 
-    /// Connects to the broker at `path`.
+    /// Connects to the broker at `path`. A write there waits as long as `broker_patience` says.
     fn reach_broker(&self, path: &str) -> Result<Connection<'a, R>, Exit> {
         let stream = match connect(self.rt, path) {
             Ok(stream) => stream,

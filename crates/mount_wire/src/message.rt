@@ -85,7 +85,7 @@ fn daemon_message<'a>(alloc: Global, bytes: &'a [u8]) -> KernelMessage<'a>
     }
 }
 
-/// Returns the message of a request that was read.
+/// Returns the message of a request that was read. It is `Ignored` only for a batch, which `many_message` reads.
 fn asked_message<'a>(ask: Ask) -> KernelMessage<'a>
     requires sendable { IsSendable ask.what }
     ensures read { result ≡ read_message ask }

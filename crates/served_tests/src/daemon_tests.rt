@@ -133,7 +133,7 @@ fn image_with(
     Ok(bytes)
 }
 
-/// Makes the message of `hears`.
+/// Makes the message of `hears`. The image of a part has a 2 in its byte 5, so it is one of version 2.
 fn message_of(alloc: Global, hears: Hears) -> Result<Message, AllocError> {
     match hears {
         Hears::Data(at, byte) => Ok(Message::Data {

@@ -48,7 +48,7 @@ impl NextWrite {
     }
 }
 
-/// Returns what is written to the kernel next where something was delivered.
+/// Returns what comes next where something was delivered: a reply to write, or an answer to take back.
 fn next_of(delivered: Delivered) -> NextWrite {
     match delivered {
         Delivered::Reply(reply) => NextWrite::Reply(reply),

@@ -127,7 +127,8 @@ fn claims(daemon: &mut Daemon, next: u64) -> bool {
     false
 }
 
-/// Lets `daemon` take over the image of version 3 with `count`. Returns whether it serves at generation 2 then.
+/// Lets `daemon` choose version 1 and take over the image of version 3 with `count`, which comes whole. Returns whether it
+/// serves at generation 2 then.
 fn serves(alloc: Global, daemon: &mut Daemon, manifest: &Manifest, count: u64) -> bool {
     chooses(alloc, daemon, manifest, 1);
     let data = data_of(alloc, 1, 3, 1, count);
