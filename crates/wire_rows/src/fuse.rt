@@ -7,8 +7,10 @@
 //! `none`; `fuse write_reply UNIQUE ANSWER`: the bytes of its head, and those of a buffer; `fuse read_reply BYTES`: UNIQUE
 //! ANSWER, or the fault; `fuse read_buffer BYTES`: the same where a buffer was asked for;
 //! `fuse fault_reply BYTES FAULT`: UNIQUE ANSWER of the reply to a request that was refused so, or `none`.
+//! `listing.rt` has the calls `list`, `fits`, `fill` and `entries`.
 ghost use Rattle.fuse_wire.specs.Request.{IsSendable};
 
+use crate::listing::{call_fill, call_fits, call_list, tell_entries};
 use byte_codec::Bytes;
 use eden_base::{NameFault, NameRoom, Number};
 use fuse_wire::{
@@ -29,14 +31,20 @@ enum FuseCall {
     WriteReply,
     FaultReply,
     ReadBuffer,
+    List,
+    Fits,
+    Fill,
 }
 
-static FUSE_CALLS: [(&str, FuseCall); 5] = [
+static FUSE_CALLS: [(&str, FuseCall); 8] = [
     ("write", FuseCall::Write),
     ("other", FuseCall::Other),
     ("write_reply", FuseCall::WriteReply),
     ("fault_reply", FuseCall::FaultReply),
     ("read_buffer", FuseCall::ReadBuffer),
+    ("list", FuseCall::List),
+    ("fits", FuseCall::Fits),
+    ("fill", FuseCall::Fill),
 ];
 
 static FAULTS: [(&str, WireFault); 4] = [
@@ -229,6 +237,10 @@ fn call_bytes(
             call_reply(bytes, output);
             Ok(())
         }
+        b"entries" => {
+            tell_entries(bytes, output);
+            Ok(())
+        }
         _ => call_ask(alloc, call, bytes, output),
     }
 }
@@ -242,6 +254,9 @@ pub(crate) fn call_fuse(words: &mut Words<'_>, output: &mut Output) -> Result<()
         Some(FuseCall::WriteReply) => put_reply(words, output),
         Some(FuseCall::FaultReply) => call_fault(words, output),
         Some(FuseCall::ReadBuffer) => call_buffer(words, output),
+        Some(FuseCall::List) => call_list(words, output),
+        Some(FuseCall::Fits) => call_fits(words, output),
+        Some(FuseCall::Fill) => call_fill(words, output),
         None => {
             let bytes = words.bytes();
             words.end()?;

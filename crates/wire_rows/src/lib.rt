@@ -5,6 +5,7 @@ mod arena;
 mod codec;
 mod fuse;
 mod kernel;
+mod listing;
 mod names;
 mod queue;
 
