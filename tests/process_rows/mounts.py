@@ -22,6 +22,8 @@ WORK = "work"
 # After so many seconds a row is over: its processes are killed, and what waits for the mount fails.
 LONGEST_ROW, LONGEST_ROW_OF_UNPROVED = 400, 800
 CLONE_NEWNS = 0x20000
+# The option by which the kernel keeps nothing: so each look of a program is a request, which rows are about.
+ASKS_AGAIN = ("--valid", "0")
 # The states of processes that were stopped, that ended, and that wait for what they forked to call exec.
 AT_REST = {"T", "Z", "X", "Dkernel_clone", "D_do_fork", "Dwait_for_vfork_done"}
 # The longest image of version 1, in bytes.
@@ -141,9 +143,9 @@ class MountRoom(Room):
         self.running.append(it)
         return it
 
-    def mount_broker(self, *options, mountpoint="mnt", socket="broker.sock", **streams):
-        """Starts a broker that mounts for whichever daemon comes."""
-        return self.run("mount", mountpoint, socket, *options, **streams)
+    def mount_broker(self, *options, mountpoint="mnt", socket="broker.sock", valid=ASKS_AGAIN, **streams):
+        """Starts a broker that mounts for whichever daemon comes. Where `valid` is empty, the kernel keeps what it is told."""
+        return self.run("mount", mountpoint, socket, *valid, *options, **streams)
 
     def program_in(self, script, *words, **streams):
         """Starts a program that works in the mount."""
@@ -300,12 +302,13 @@ class Tap(Proxy):
 class Mount:
     """A checkout that is mounted, and the daemon that serves it."""
 
-    def __init__(self, room, *options, owner=None, **streams):
+    def __init__(self, room, *options, owner=None, valid=ASKS_AGAIN, **streams):
         self.room = room
         self.options = options if "--patience" in options else ("--patience", PATIENCE, *options)
         self.path = room.mountpoint
         is_left = os.path.exists(room.broker_at)
-        self.broker = room.mount_broker("--held", "held", *(("--owner", owner) if owner else ()), **streams)
+        owned = ("--owner", owner) if owner else ()
+        self.broker = room.mount_broker("--held", "held", *owned, valid=valid, **streams)
         room.await_socket(room.broker_at, is_left)
         self.number = 0
         self.generation = 1

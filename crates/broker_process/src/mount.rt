@@ -43,6 +43,8 @@ pub struct MountOptions<'a> {
     pub log: &'a str,
     /// Who owns each file; none for the user and the group of this process.
     pub owner: Option<FileOwner>,
+    /// For how many seconds the kernel may keep what it is told of names and attributes.
+    pub valid: u64,
 }
 
 /// Mounts by these `options` what daemons serve that reach the broker, and prints to `out` when a mount begins and
@@ -77,6 +79,7 @@ pub fn run_mount<
             path: options.mountpoint,
             unmounter: prepared.unmounter.number(),
             owner: prepared.owner,
+            valid: options.valid,
         },
     };
     let ran = open(&accept_loop, &mounts, out);
@@ -268,6 +271,7 @@ impl<R: Threads + Wait + Clock + Files<File = File> + Processes + Sync> MountLoo
             own: MountAttributes {
                 since: now(rt),
                 owner: self.point.owner,
+                valid: self.point.valid,
             },
         };
         service.serve(mounted)

@@ -50,6 +50,8 @@ pub(crate) struct MountPoint<'a> {
     pub unmounter: u32,
     /// Who owns each file.
     pub owner: FileOwner,
+    /// For how many seconds the kernel may keep what it is told.
+    pub valid: u64,
 }
 
 impl MountPoint<'_> {

@@ -27,12 +27,14 @@ pub record IsDaemon (rows : List Row) (daemon : DaemonWords) : Type 0 where
   pub patience : daemon.patience ≡ number_or 2000 (first_of (codes "patience") rows)
   pub until_closed : daemon.until_closed ≡ has_flag (codes "until-closed") rows
 
--- each word of `mount` is that of its argument, and the owner is the one that its option names
+-- each word of `mount` is that of its argument, the owner is the one that its option names, and so are the seconds for which
+-- the kernel may keep what it is told
 pub record IsMount (rows : List Row) (mount : MountWords) : Type 0 where
   pub mountpoint : mount.mountpoint.now ≡ word_in (codes "MOUNTPOINT") rows
   pub socket : mount.socket.now ≡ word_in (codes "SOCKET") rows
   pub held : mount.held.now ≡ word_in (codes "held") rows
   pub owner : mount.owner ≡ option_and_then owner_of (first_of (codes "owner") rows)
+  pub valid : mount.valid ≡ number_or 86400 (first_of (codes "valid") rows)
 
 -- the command asks for this process
 abbrev pub IsServer : Option (Text × List Row) → ServerCommand → Type 0

@@ -77,11 +77,15 @@ held_rule = record (new_rule (codes "held")) { long = Some (codes "held"); actio
 abbrev pub owner_rule : Rule
 owner_rule = record (new_rule (codes "owner")) { long = Some (codes "owner"); action = Some Set; value_names = 1 }
 
--- the command `mount MOUNTPOINT SOCKET`, perhaps with `--held` and `--owner`
+-- the rule of the option that says for how many seconds the kernel may keep what it is told, which is a day by default
+abbrev pub valid_rule : Rule
+valid_rule = number_rule (codes "valid") 0 86400 (codes "86400")
+
+-- the command `mount MOUNTPOINT SOCKET`, perhaps with `--held`, `--owner` and `--valid`
 abbrev pub mount_app : App
 mount_app =
     with_rules (new_app (codes "mount"))
-    (word_rule (codes "MOUNTPOINT") ∷ word_rule (codes "SOCKET") ∷ held_rule ∷ owner_rule ∷ [])
+    (word_rule (codes "MOUNTPOINT") ∷ word_rule (codes "SOCKET") ∷ held_rule ∷ owner_rule ∷ valid_rule ∷ [])
 
 -- the program, which has a version and these four commands
 abbrev pub edend_app : App

@@ -8,7 +8,7 @@ ghost use Rattle.command_line.specs.Owner.{owner_of};
 
 use crate::commands::{
     BROKER, BROKER_SOCKET, DAEMON, HELD, LIMIT, LISTEN_SOCKET, MANIFEST, MOUNT, MOUNTPOINT, OWNER,
-    PATIENCE, SCRIPT, SOCKET, TAKEOVER, UNTIL_CLOSED, WORKERS, WORLD, daemon_command,
+    PATIENCE, SCRIPT, SOCKET, TAKEOVER, UNTIL_CLOSED, VALID, WORKERS, WORLD, daemon_command,
     edend_command, mount_command,
 };
 use crate::{BrokerWords, DaemonWords, MountWords, Owner, ServerCommand, StartMode, read_owner};
@@ -25,6 +25,9 @@ const DEFAULT_WORKERS: u64 = 2;
 
 /// For how many milliseconds a peer may be silent where the words say no number.
 const DEFAULT_PATIENCE: u64 = 2_000;
+
+/// For how many seconds the kernel may keep what it is told if no option names another time: a day.
+const DEFAULT_VALID: u64 = 86_400;
 
 /// What the words ask for.
 #[derive(Clone, Copy)]
@@ -130,6 +133,7 @@ fn mount_in<'a>(alloc: Global, mount: &ArgMatches<'a>) -> Result<MountWords<'a>,
         socket: word_in(mount, SOCKET),
         held: word_in(mount, HELD),
         owner,
+        valid: number_or(DEFAULT_VALID, mount.get_str(VALID)),
     })
 }
 

@@ -1,7 +1,7 @@
 //! The commands that the program has, as `clap` reads them.
 ghost use Rattle.std.specs.Prelude.{◌≡◌, false, IfOk};
 ghost use Rattle.clap.specs.Words.{app_of, rule_of};
-ghost use Rattle.command_line.specs.CommandLine.{IsReadAs, broker_app, daemon_app, edend_app, flag_rule, held_rule, limit_rule, mount_app, owner_rule, patience_rule, word_rule, workers_rule, world_app};
+ghost use Rattle.command_line.specs.CommandLine.{IsReadAs, broker_app, daemon_app, edend_app, flag_rule, held_rule, limit_rule, mount_app, owner_rule, patience_rule, valid_rule, word_rule, workers_rule, world_app};
 
 use clap::builder::ValueParser;
 use clap::{Arg, ArgAction, Command};
@@ -22,6 +22,8 @@ pub const MOUNTPOINT: &str = "MOUNTPOINT";
 pub const HELD: &str = "held";
 
 pub const OWNER: &str = "owner";
+
+pub const VALID: &str = "valid";
 
 /// A command, and an option of `daemon`.
 pub const MOUNT: &str = "mount";
@@ -168,7 +170,8 @@ pub fn mount_command<'a>(alloc: Global) -> Result<Command<'a>, AllocError>
         .arg(word_arg(alloc, MOUNTPOINT, "The directory to mount at"))?
         .arg(word_arg(alloc, SOCKET, "The socket to listen at"))?
         .arg(held_arg(alloc))?
-        .arg(owner_arg(alloc))
+        .arg(owner_arg(alloc))?
+        .arg(valid_arg(alloc))
 }
 
 const SCRIPT_HELP: &str = "The script, or - for standard input";
@@ -224,6 +227,20 @@ fn owner_arg<'a>(alloc: Global) -> Arg<'a>
         .long(OWNER)
         .value_name("UID:GID")
         .help("Who owns each file, by numbers; else the user and the group of this process")
+        .action(ArgAction::Set)
+}
+
+/// Returns the option that says how long the kernel may keep what it is told.
+fn valid_arg<'a>(alloc: Global) -> Arg<'a>
+    ensures rule { rule_of result ≡ valid_rule }
+    ensures own { result.global ≡ false }
+{
+    Arg::new(alloc, VALID)
+        .long(VALID)
+        .value_name("SECONDS")
+        .help("For how many seconds the kernel asks no daemon again, from 0 to 86400")
+        .value_parser(ValueParser::unsigned(0, 86_400))
+        .default_value("86400")
         .action(ArgAction::Set)
 }
 

@@ -58,4 +58,6 @@ pub struct MountWords<'a> {
     pub held: &'a str,
     /// Who owns each file; none if the words don't say.
     pub owner: Option<Owner>,
+    /// For how many seconds the kernel may keep what it is told, from 0 to 86,400.
+    pub valid: u64,
 }

@@ -39,6 +39,7 @@ IsMount noted words =
     × (string_bytes noted.socket ≡ words.socket.now)
     × (string_bytes noted.held ≡ words.held.now)
     × (noted.owner ≡ words.owner)
+    × (noted.valid ≡ words.valid)
 
 -- the noted command is this one
 abbrev pub IsNoted : Noted → ServerCommand → Type 0

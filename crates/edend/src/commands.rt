@@ -360,12 +360,14 @@ fn options_of<'a>(words: &MountWords<'a>) -> MountOptions<'a>
     ensures socket { result.socket.now ≡ words.now.socket.now }
     ensures log { result.log.now ≡ words.now.held.now }
     ensures owner { result.owner ≡ option_map owner_of words.now.owner }
+    ensures valid { result.valid ≡ words.now.valid }
 {
     MountOptions {
         mountpoint: words.mountpoint,
         socket: words.socket,
         log: words.held,
         owner: words.owner.map(owner_of),
+        valid: words.valid,
     }
 }
 

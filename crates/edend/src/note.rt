@@ -36,6 +36,7 @@ pub struct NotedMount {
     pub socket: String,
     pub held: String,
     pub owner: Option<Owner>,
+    pub valid: u64,
 }
 
 /// A command, with owned strings in place of borrowed ones.
@@ -131,6 +132,7 @@ impl NotedMount {
             socket,
             held,
             owner: words.owner,
+            valid: words.valid,
         })
     }
 
@@ -143,6 +145,7 @@ impl NotedMount {
             socket: self.socket.as_str(),
             held: self.held.as_str(),
             owner: self.owner,
+            valid: self.valid,
         }
     }
 }

@@ -1,6 +1,7 @@
--- A daemon's answer as the kernel is told it. A daemon tells neither blocks nor times nor an owner, which stand as zeros
--- in its reply; the program that mounts puts them in (linux/fuse.h: fuse_attr).
-use Rattle.std.specs.Prelude.{ℕ, ◌+◌, List, ◌++◌, take, drop, Option, Some, None}
+-- A daemon's answer as the kernel is told it. A daemon tells neither blocks nor times nor an owner, nor how long the kernel
+-- may keep what it is told. These stand as zeros in its reply, and the program that mounts puts them in (linux/fuse.h:
+-- fuse_entry_out, fuse_attr_out, fuse_attr).
+use Rattle.std.specs.Prelude.{ℕ, ◌+◌, Bool, true, false, List, ◌++◌, take, drop, Option, Some, None}
 use Rattle.std.specs.Int.{div_ceil}
 use Rattle.eden_base.specs.declared.errno.Errno.{Errno}
 use Rattle.fuse_wire.specs.declared.reply.Answer.{Answer}
@@ -32,22 +33,49 @@ filled size since = u64_bytes (blocks size) ++ times since
 abbrev pub owner_text : FileOwner → List ℕ
 owner_text owner = u32_bytes owner.user ++ u32_bytes owner.group
 
--- the attributes in a reply with this answer: after the header, the entry's own 40 bytes, ino and size; or after the
--- header, how long attributes may be kept, ino and size
+-- how many seconds the kernel may keep what it is told: the entry, if there is one, and the attributes (entry_valid,
+-- attr_valid)
+abbrev pub validity : Bool → ℕ → List ℕ
+validity true seconds = u64_bytes seconds ++ u64_bytes seconds
+validity false seconds = u64_bytes seconds
+
+-- the offset of these seconds in a reply: behind the header, the entry's number and its generation; or behind the header
+abbrev pub validity_at : Bool → ℕ
+validity_at true = 32
+validity_at false = 16
+
+-- how many bytes they have
+abbrev pub validity_len : Bool → ℕ
+validity_len true = 16
+validity_len false = 8
+
+-- the offset of the blocks in a reply: behind the seconds, their nanoseconds, ino and size, which are 24 bytes
+abbrev pub blocks_at : Bool → ℕ
+blocks_at true = 72
+blocks_at false = 48
+
+-- the attributes in a reply with this answer, and whether an entry stands before them
 abbrev pub attributes_told : Answer → Option Shown
-attributes_told (Entry number attr) = Some (record { offset = 72; size = attr.size })
-attributes_told (Opened number attr) = Some (record { offset = 72; size = attr.size })
-attributes_told (Attrs number attr) = Some (record { offset = 48; size = attr.size })
+attributes_told (Entry number attr) = Some (record { has_entry = true; size = attr.size })
+attributes_told (Opened number attr) = Some (record { has_entry = true; size = attr.size })
+attributes_told (Attrs number attr) = Some (record { has_entry = false; size = attr.size })
 attributes_told answer = None
 
--- a reply's text, in which 44 bytes from an offset on are the blocks and the times, and 8 bytes the owner, behind the
--- mode and the links
+-- what stands before the blocks of a reply's text, once it says how long the kernel may keep what it is told
+abbrev pub front_told : List ℕ → Bool → ℕ → List ℕ
+front_told text has_entry seconds =
+    take (validity_at has_entry) text ++ validity has_entry seconds
+    ++ take 24 (drop (validity_at has_entry + validity_len has_entry) text)
+
+-- a reply's text, in which the blocks and the times are 44 bytes behind that, and the owner 8 bytes behind the mode and
+-- the links
 abbrev pub with_own : List ℕ → Shown → MountAttributes → List ℕ
 with_own text shown own =
-    take shown.offset text ++ filled shown.size own.since
-    ++ take 8 (drop (shown.offset + 44) text) ++ owner_text own.owner ++ drop (shown.offset + 60) text
+    front_told text shown.has_entry own.valid ++ filled shown.size own.since
+    ++ take 8 (drop (blocks_at shown.has_entry + 44) text) ++ owner_text own.owner
+    ++ drop (blocks_at shown.has_entry + 60) text
 
--- a reply's text with its blocks, its times and its owner, if it has any
+-- a reply's text with all of these, if it has attributes
 abbrev pub completed : List ℕ → Option Shown → MountAttributes → List ℕ
 completed text (Some shown) own = with_own text shown own
 completed text None own = text

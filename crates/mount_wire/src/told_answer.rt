@@ -1,6 +1,6 @@
 //! A daemon's answer, as the kernel is told it.
 ghost use Rattle.std.specs.Prelude.{◌≡◌, ◌+◌, ◌≤◌, ◌++◌, length, false, true, IfOk, OnErr};
-ghost use Rattle.mount_wire.specs.Told.{attributes_told, error_text, filled, owner_text, told_text, with_own};
+ghost use Rattle.mount_wire.specs.Told.{attributes_told, blocks_at, error_text, filled, front_told, owner_text, told_text, validity, validity_at, validity_len, with_own};
 ghost use Rattle.fuse_wire.specs.declared.reply.Answer.TheVariants.{Buffer as ABuffer};
 ghost use Rattle.fuse_wire.specs.ReplyText.{is_buffer, reply_text};
 
@@ -28,12 +28,15 @@ pub struct FileOwner {
 pub struct MountAttributes {
     pub since: MountTime,
     pub owner: FileOwner,
+    /// For how many seconds the kernel may keep entries and attributes without a request. Whoever changes a file does so
+    /// through the kernel, which drops what it changes, and each daemon of a mount tells the same.
+    pub valid: u64,
 }
 
-/// Attributes in a reply: the size of the file, and the offset in the reply at which the blocks and the times stand.
+/// Attributes in a reply: whether an entry stands before them, and the size of the file.
 #[derive(Clone, Copy, PartialEq, Eq)]
 pub(crate) struct Shown {
-    pub(crate) offset: usize,
+    pub(crate) has_entry: bool,
     pub(crate) size: u64,
 }
 
@@ -49,15 +52,13 @@ const MODE_AND_LINKS_LEN: usize = 8;
 /// The length in bytes of the fields after those: uid, gid.
 const OWNER_LEN: usize = 8;
 
-/// The offset of the blocks in a reply with an entry.
-const ENTRY_BLOCKS: usize = 72;
+/// The length in bytes of what stands between the seconds for which a reply may be kept and its blocks: their nanoseconds,
+/// and `ino` and `size` of `struct fuse_attr`.
+const NANOSECONDS_TO_SIZE_LEN: usize = 24;
 
-/// The offset of the blocks in a reply with attributes alone.
-const ATTRS_BLOCKS: usize = 48;
-
-/// Returns the reply with this `unique` that tells `answer`. A daemon tells neither blocks nor times, and no owner. So
-/// they are put in: the blocks follow from the size, and the others are those of the mount, `own`. Only a buffer that came
-/// by no frame takes memory.
+/// Returns the reply with this `unique` that tells `answer`. A daemon tells neither blocks nor times, no owner, and not how
+/// long the kernel may keep the reply. So they are put in: the blocks follow from the size, and the others are those of the
+/// mount, `own`. Only a buffer that came by no frame takes memory.
 pub fn tell_answer(
     alloc: Global,
     unique: u64,
@@ -128,11 +129,11 @@ fn attributes_told(answer: &Answer) -> Option<Shown>
 {
     match answer {
         Answer::Entry { attr, .. } | Answer::Opened { attr, .. } => Some(Shown {
-            offset: ENTRY_BLOCKS,
+            has_entry: true,
             size: attr.size,
         }),
         Answer::Attrs { attr, .. } => Some(Shown {
-            offset: ATTRS_BLOCKS,
+            has_entry: false,
             size: attr.size,
         }),
         Answer::Done | Answer::Buffer(_) | Answer::Error(_) => None,
@@ -149,19 +150,68 @@ fn whole(text: &[u8]) -> ReplyBytes
     reply
 }
 
-/// Copies a reply's `text`, in which the attributes that are `shown` get their blocks, their times and their owner.
+/// Returns the offset of the seconds for which a reply may be kept.
+fn validity_at(has_entry: bool) -> usize
+    ensures { result ≡ validity_at has_entry }
+{
+    if has_entry { 32 } else { 16 }
+}
+
+/// Returns the length in bytes of these seconds.
+fn validity_len(has_entry: bool) -> usize
+    ensures { result ≡ validity_len has_entry }
+{
+    if has_entry { 16 } else { 8 }
+}
+
+/// Returns the offset of the blocks in a reply.
+fn blocks_at(has_entry: bool) -> usize
+    ensures { result ≡ blocks_at has_entry }
+{
+    if has_entry { 72 } else { 48 }
+}
+
+/// Appends for how many `seconds` the entry, if the reply has one, and the attributes may be kept.
+fn put_validity(reply: &mut ReplyBytes, has_entry: bool, seconds: u64)
+    requires room { length reply.old + 16 ≤ 160 }
+    ensures put { reply.new ≡ reply.old ++ validity has_entry seconds }
+    ensures len { length reply.new ≡ length reply.old + validity_len has_entry }
+{
+    if has_entry {
+        reply.put_u64(seconds);
+    }
+    reply.put_u64(seconds);
+}
+
+/// Appends what stands before the blocks in a reply's `text`, with the `seconds` for which it may be kept.
+#[tactic(auto, using(crate::proofs::Texts::texts))]
+fn put_front(reply: &mut ReplyBytes, text: &[u8], has_entry: bool, seconds: u64)
+    requires empty { length reply.old ≡ 0 }
+    requires within { 76 ≤ length text.now }
+    ensures put { reply.new ≡ reply.old ++ front_told text.now has_entry seconds }
+    ensures len { length reply.new ≡ blocks_at has_entry }
+{
+    let (before, rest) = text.split_at(validity_at(has_entry));
+    let (_, rest) = rest.split_at(validity_len(has_entry));
+    let (nanoseconds_to_size, _) = rest.split_at(NANOSECONDS_TO_SIZE_LEN);
+    reply.put(before);
+    put_validity(reply, has_entry, seconds);
+    reply.put(nanoseconds_to_size);
+}
+
+/// Copies a reply's `text`, in which the attributes that are `shown` get what the mount puts in.
 #[tactic(auto, using(crate::proofs::Texts::texts))]
 fn with_own(text: &[u8], shown: &Shown, own: &MountAttributes) -> ReplyBytes
     requires short { length text.now ≤ 160 }
-    requires within { shown.now.offset + 60 ≤ length text.now }
+    requires within { blocks_at shown.now.has_entry + 60 ≤ length text.now }
     ensures told { result ≡ with_own text.now shown.now own.now }
 {
     let mut reply = ReplyBytes::new();
-    let (before, rest) = text.split_at(shown.offset);
+    put_front(&mut reply, text, shown.has_entry, own.valid);
+    let (_, rest) = text.split_at(blocks_at(shown.has_entry));
     let (_, rest) = rest.split_at(BLOCKS_AND_TIMES_LEN);
     let (mode_and_links, rest) = rest.split_at(MODE_AND_LINKS_LEN);
     let (_, after) = rest.split_at(OWNER_LEN);
-    reply.put(before);
     put_blocks_and_times(&mut reply, shown.size, &own.since);
     reply.put(mode_and_links);
     put_owner(&mut reply, &own.owner);

@@ -5,7 +5,7 @@
 //! `kernel init BYTES`: the bytes of the reply to it. `kernel statfs UNIQUE`: the bytes of the reply.
 //! `kernel items BYTES`: the items of a batch of forgets, each as the 16 bytes that it has there.
 //! `kernel read BYTES`: what becomes of a message: `asked UNIQUE REQUEST`, `forgot N K`, `forgot_many`, `ignored`, or the
-//! bytes of a reply. `kernel error UNIQUE ERRNO`, `kernel tell UNIQUE SECONDS NANOSECONDS USER GROUP ANSWER`: the bytes of
+//! bytes of a reply. `kernel error UNIQUE ERRNO`, `kernel tell UNIQUE SECONDS NANOSECONDS USER GROUP VALID ANSWER`: the bytes of
 //! that reply.
 use mount_wire::{
     Agreement, BatchReader, FileOwner, KernelMessage, KernelMessageFault, MountAttributes,
@@ -197,12 +197,14 @@ fn read_attributes(words: &mut Words<'_>) -> MountAttributes {
     let nanoseconds = read_u32(words);
     let user = read_u32(words);
     let group = read_u32(words);
+    let valid = words.number();
     MountAttributes {
         since: MountTime {
             seconds,
             nanoseconds,
         },
         owner: FileOwner { user, group },
+        valid,
     }
 }
 

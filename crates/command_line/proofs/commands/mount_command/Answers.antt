@@ -9,4 +9,5 @@ returns c =
     let mountpoint = with_arg _ _ _ _ _ c.word_arg.ensures.rule c.word_arg.ensures.own told c.in_ok-arg.ensures in
     let socket = with_arg _ _ _ _ _ c.word_arg-2.ensures.rule c.word_arg-2.ensures.own mountpoint c.in_ok-arg-2.ensures in
     let held = with_arg _ _ _ _ _ c.held_arg.ensures.rule c.held_arg.ensures.own socket c.in_ok-arg-3.ensures in
-    IfOk-weaker c.arg-4.result _ _ (λ command adds. with_arg _ _ _ _ _ c.owner_arg.ensures.rule c.owner_arg.ensures.own held adds) c.arg-4.ensures
+    let owner = with_arg _ _ _ _ _ c.owner_arg.ensures.rule c.owner_arg.ensures.own held c.in_ok-arg-4.ensures in
+    IfOk-weaker c.arg-5.result _ _ (λ command adds. with_arg _ _ _ _ _ c.valid_arg.ensures.rule c.valid_arg.ensures.own owner adds) c.arg-5.ensures

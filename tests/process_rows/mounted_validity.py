@@ -1,0 +1,150 @@
+"""Rows: what a kernel keeps of a mount, for a day where no option says otherwise."""
+import errno
+import os
+import signal
+import time
+
+from process_rows.checks import row, same
+from process_rows.mounted_ends import error_of
+from process_rows.mounts import CACHES, DIRECTORIES, FILES, WORK, Mount, drop_caches, size_of, until
+
+# A program that nobody keeps waiting makes a round in a small part of this time, in seconds.
+AT_ONCE = 0.5
+
+
+def kept(room):
+    """Returns a mount whose kernel keeps what it is told."""
+    return Mount(room, valid=())
+
+
+def looks_at_all(mount):
+    """Looks at each file of the checkout, and shows that it is the manifest's."""
+    for directory in range(DIRECTORIES):
+        for file in range(FILES):
+            same(os.stat(mount.at(f"d{directory}/f{file}")).st_size, size_of(directory, file))
+
+
+def waits_for_the_daemon(room, mount, script):
+    """Shows that a program which runs a script waits while the daemon is stopped, and goes on with it."""
+    program = room.program_in(script)
+    time.sleep(AT_ONCE)
+    same(program.rounds(), 0)
+    os.kill(mount.daemon.pid, signal.SIGCONT)
+    program.works_on()
+    program.ends()
+
+
+@row
+def what_was_looked_at_is_asked_for_no_more(room):
+    """A daemon that is stopped is asked for nothing that a program looked at before, and the next one is asked for nothing
+    either. What nobody looked at yet waits for it."""
+    mount = kept(room)
+    with CACHES:
+        looks_at_all(mount)
+        for _ in range(2):
+            os.kill(mount.daemon.pid, signal.SIGSTOP)
+            looks_at_all(mount)
+            os.kill(mount.daemon.pid, signal.SIGCONT)
+            mount.take_over()
+        os.kill(mount.daemon.pid, signal.SIGSTOP)
+        looks_at_all(mount)
+    waits_for_the_daemon(room, mount, "stat none >/dev/null 2>&1 || :")
+    mount.counts_what_is_held()
+    mount.unmount()
+
+
+@row
+def what_the_kernel_keeps_is_what_is_held(room):
+    """Programs look, the kernel drops its caches, and they look again, over takeovers: each daemon counts what the kernel
+    holds, and what it dropped is asked for again."""
+    mount = kept(room)
+    for _ in range(3):
+        looks_at_all(mount)
+        mount.take_over_at_rest()
+        drop_caches()
+        mount.take_over_at_rest()
+    looks_at_all(mount)
+    mount.unmount()
+
+
+@row
+def what_others_change_is_seen_at_once(room):
+    """What one program makes, moves and removes another one sees at once, though the kernel keeps what it was told. So it is
+    with the counts of links, also of what is open and of a directory, before a takeover and behind it."""
+    mount = kept(room)
+    for turn in range(2):
+        one, two = mount.at(f"{WORK}/one{turn}"), mount.at(f"{WORK}/two{turn}")
+        same(error_of(one), errno.ENOENT)
+        os.close(os.open(one, os.O_CREAT | os.O_WRONLY, 0o600))
+        same((os.stat(one).st_mode & 0o777, os.stat(one).st_nlink, error_of(two)), (0o600, 1, errno.ENOENT))
+        number = os.stat(one).st_ino
+        os.rename(one, two)
+        same((error_of(one), os.stat(two).st_ino), (errno.ENOENT, number))
+        replaces(mount, turn, two)
+        removes(two, f"{two}.d", mount)
+        mount.take_over()
+    mount.counts_what_is_held()
+    mount.unmount()
+
+
+def replaces(mount, turn, name):
+    """Moves another file to a name, and shows that what stood there has no link any more."""
+    other = mount.at(f"{WORK}/other{turn}")
+    os.close(os.open(other, os.O_CREAT | os.O_WRONLY, 0o640))
+    held = os.open(name, os.O_PATH)
+    os.rename(other, name)
+    same((os.fstat(held).st_nlink, os.stat(name).st_mode & 0o777, error_of(other)), (0, 0o640, errno.ENOENT))
+    os.close(held)
+
+
+def removes(file, directory, mount):
+    """Makes a directory, and removes it and a file, and shows that neither has a link any more. The directory above keeps
+    its count of links and its times."""
+    work = mount.at(WORK)
+    before = os.stat(work)
+    os.mkdir(directory, 0o700)
+    same(os.stat(directory).st_nlink, 2)
+    held = [os.open(it, os.O_PATH) for it in (file, directory)]
+    os.rmdir(directory)
+    os.unlink(file)
+    same([os.fstat(it).st_nlink for it in held], [0, 0])
+    same([error_of(it) for it in (file, directory)], [errno.ENOENT] * 2)
+    after = os.stat(work)
+    same((after.st_nlink, after.st_mtime_ns, after.st_ctime_ns), (2, before.st_mtime_ns, before.st_ctime_ns))
+    for it in held:
+        os.close(it)
+
+
+@row
+def a_dead_mount_answers_what_the_kernel_kept(room):
+    """A daemon is killed: of what the kernel kept a program is still told, until the kernel drops it; all else is not
+    connected. The next daemon's mount has nothing of it."""
+    mount = kept(room)
+    with CACHES:
+        looks_at_all(mount)
+        mount.daemon.kill()
+        mount.broker.printed("dead")
+        looks_at_all(mount)
+    same(error_of(mount.at("d5/none")), errno.ENOTCONN)
+    drop_caches()
+    until(lambda: error_of(mount.at("d5/f5")) == errno.ENOTCONN, "a file that the kernel dropped")
+    daemon = room.run("daemon", "--mount", "broker.sock", "t0", "m", *mount.options)
+    daemon.printed("serving 2")
+    mount.broker.printed("mounted 2")
+    mount.daemon, mount.number, mount.generation = daemon, 0, 2
+    looks_at_all(mount)
+    mount.unmount()
+
+
+@row
+def a_mount_is_valid_for_as_long_as_is_asked(room):
+    """With --valid 1 the kernel asks again after a second, and not before."""
+    mount = Mount(room, valid=("--valid", "1"))
+    path = mount.at("d5/f5")
+    with CACHES:
+        same(os.stat(path).st_size, size_of(5, 5))
+        os.kill(mount.daemon.pid, signal.SIGSTOP)
+        same(os.stat(path).st_size, size_of(5, 5))
+    time.sleep(1.5)
+    waits_for_the_daemon(room, mount, "stat d5/f5 >/dev/null")
+    mount.unmount()
