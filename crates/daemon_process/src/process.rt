@@ -199,7 +199,8 @@ fn run<R: Threads + Wait + Clock + Sync, W: Unblock + Drop>(
     run_threads(&threads, connection, out)
 }
 
-/// Runs the threads of a daemon until it ends, and returns how it ends. The seat is claimed by `broker`.
+/// Runs the threads of a daemon in a scope until it ends, and returns how it ends. The seat is claimed over the connection
+/// `broker`.
 fn run_threads<R: Threads + Wait + Clock + Sync, W: Unblock + Drop>(
     threads: &DaemonThreads<'_, R>,
     broker: Connection<'_, R>,

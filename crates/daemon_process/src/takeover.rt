@@ -40,7 +40,7 @@ impl From<TakeoverFault> for Lack {
 /// What a new daemon notes of the other one's frames.
 #[derive(Clone, Copy)]
 struct Progress {
-    /// Whether it said that it is there to take the data.
+    /// Whether this daemon said Pong, and so awaits the data.
     is_ponged: bool,
     /// Whether the data began with the name of another manifest.
     is_another: bool,
@@ -121,7 +121,8 @@ impl<R: Wait + Clock> DaemonContext<'_, R> {
         unreachable!()
     }
 
-    /// Reads the other daemon's next frame. Where none comes, returns why not, with what was awaited.
+    /// Reads the other daemon's next frame. Where none comes, returns why not, with what was awaited: in the phase `Chosen` the
+    /// data if `is_ponged`, else Ready.
     fn next_frame(
         &self,
         old: &mut Connection<'_, R>,

@@ -37,7 +37,8 @@ pub(crate) enum NextWrite {
 }
 
 impl NextWrite {
-    /// Returns the look that found this; one that found nothing where the kernel isn't written to yet.
+    /// Returns what the writing thread found at a look: a reply, an answer to take back, or an end of the mount. Else it looks
+    /// again after the next notification; for `NoMemory` also after a pause.
     fn look(self) -> Look<NextWrite> {
         match self {
             NextWrite::Nothing => Look::of(None),

@@ -61,7 +61,8 @@ fn longest_batch(alloc: Global) -> Result<Batch, NoMemory> {
     Batch::of(alloc, &items)
 }
 
-/// Makes the request of the ask `unique`: the longest batch if `unique` is odd, else a LOOKUP of the longest name.
+/// Makes the request of the ask `unique`: the longest batch if `unique` is odd, else a LOOKUP of the longest name. A copy of
+/// either takes memory.
 fn longest(alloc: Global, unique: u64) -> Result<Request, NoMemory> {
     if unique % 2 == 1 {
         return Ok(Request::BatchForget(longest_batch(alloc)?));
