@@ -82,13 +82,14 @@ class Crate:
         return words
 
     def dig(self, proofs, functions, left):
-        """Puts a hole in place of each proof, but not of the functions and their closures, nor of those that are left.
-        Returns whose they were."""
+        """Puts a hole in place of each proof, but not of the functions, nor of those that are left, nor of closures. Returns
+        whose they were."""
         dug = []
         for function in self.functions:
-            owner = function.replace("fn::", "").rpartition("::")[0] if "fn::" in function else function
             folder = proofs / function.replace("::", "/")
-            if owner in functions or function in left or not HAS_FILE.fullmatch(function) or (folder / "Proof.antt").exists():
+            # An emptied function has no closures, and a proof file of one that is not there lets the prover read all twice.
+            is_kept = function in functions or function in left or "fn" in function.split("::")
+            if is_kept or not HAS_FILE.fullmatch(function) or (folder / "Proof.antt").exists():
                 continue
             folder.mkdir(parents=True, exist_ok=True)
             for file in ("Answers.antt", "Invariants.antt"):
