@@ -76,7 +76,7 @@ class Crate:
         for folder in folders:
             words += ["-L", f"dependency={folder}"]
         words += ["--antt-project", self.toolchain / "rattle" / "logic" / "antt-project.json"]
-        words += ["--logic-built", self.toolchain / "logic_built", "--jobs", "1", "--allow-holes"]
+        words += ["--logic-built", self.toolchain / "logic_built", "--jobs", "1", "--allow-holes", "--short-goals"]
         for function in functions:
             words += ["--only", function]
         return words
