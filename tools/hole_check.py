@@ -3,6 +3,7 @@
 A check of one function proves those that it calls, too. Here these are holes, which are taken by their contracts, as
 callers take them anyway. The libraries below stand proved in crates/NAME/out/rlib, where `rt ci` leaves them.
 """
+import collections
 import json
 import os
 import pathlib
@@ -11,6 +12,7 @@ import shutil
 import subprocess
 import tempfile
 
+import copies
 import stubs
 
 HOLE = """use Rattle.{module}.Statement.{{statement}}
@@ -37,6 +39,21 @@ def listed_crates():
     """Returns what crates.txt says: each crate with the libraries that it names."""
     rows = re.findall(r"^(\w+)(?: [^:\n]*)?:(.*)$", pathlib.Path("crates.txt").read_text(), re.M)
     return {name: libraries.split() for name, libraries in rows}
+
+
+# A body, the function whose it is, and the path at which it stands: that of the function, or that of a copy of it.
+Plant = collections.namedtuple("Plant", "body function path")
+
+
+def plants_of(bodies):
+    """Places bodies: the first wrong one of each function stands in it, the others and the right one in copies of it."""
+    plants, seen = [], collections.Counter()
+    for body in sorted(bodies, key=lambda body: body.is_right):
+        number = max(seen[body.function], body.is_right)
+        path = copies.name_of(body.function, number) if number else body.function
+        plants.append(Plant(body, body.function, path))
+        seen[body.function] = number + 1
+    return plants
 
 
 class Crate:
@@ -87,7 +104,7 @@ class Crate:
         dug = []
         for function in self.functions:
             folder = proofs / function.replace("::", "/")
-            # An emptied function has no closures, and a proof file of one that is not there lets the prover read all twice.
+            # An emptied function has no closures. A proof file of one that is not there lets the prover read all twice.
             is_kept = function in functions or function in left or "fn" in function.split("::")
             if is_kept or not HAS_FILE.fullmatch(function) or (folder / "Proof.antt").exists():
                 continue
@@ -99,29 +116,43 @@ class Crate:
             dug.append(function)
         return dug
 
-    def check(self, functions, bodies, left=frozenset()):
-        """Checks the functions in a copy with the wrong bodies, amid holes but for those that are left. Returns what was
-        said, and the seconds that it took."""
-        with tempfile.TemporaryDirectory() as room:
-            copy = pathlib.Path(room)
+    def plant(self, room, plants):
+        """Writes bodies into a copy of the crate. Raises ValueError where texts clash."""
+        texts = collections.defaultdict(list)
+        for body, function, path in plants:
+            if path != function:
+                texts[body.pairs[0][0], function].append(body.text_of_copy(room, path))
+                copies.copy_proofs(room / "proofs", self.name, function, path)
+        for body, function, path in plants:
+            if body and path == function:
+                body.apply(room)
+        for (file, function), found in texts.items():
+            copies.put_behind(room, file, function, found)
+
+    def check(self, plants, left=frozenset()):
+        """Checks bodies in a copy, amid holes but for those that are left. Returns what was said, and the seconds that it
+        took."""
+        in_place = sorted({function for _, function, path in plants if path == function})
+        with tempfile.TemporaryDirectory() as name:
+            room = pathlib.Path(name)
             for part in ("src", "specs", "proofs"):
                 if (self.folder / part).is_dir():
-                    shutil.copytree(self.folder / part, copy / part)
+                    shutil.copytree(self.folder / part, room / part)
             try:
-                for body in bodies:
-                    body.apply(copy)
+                self.plant(room, plants)
             except ValueError as clash:
                 return f"error: {clash}", 0.0
-            stubs.empty_functions(copy / "src", self.dig(copy / "proofs", functions, left), functions)
-            with open(copy / "said", "w+", errors="replace") as said:
-                process = subprocess.Popen(self.words(functions), cwd=copy, stdout=said, stderr=subprocess.STDOUT)
+            stubs.empty_functions(room / "src", self.dig(room / "proofs", in_place, left), in_place)
+            with open(room / "said", "w+", errors="replace") as said:
+                words = self.words(sorted({path for _, _, path in plants}))
+                process = subprocess.Popen(words, cwd=room, stdout=said, stderr=subprocess.STDOUT)
                 _, status, usage = os.wait4(process.pid, 0)
                 process.returncode = os.waitstatus_to_exitcode(status)
                 said.seek(0)
                 text, seconds = said.read(), usage.ru_utime + usage.ru_stime
         made = {path.replace("/", "::") for path in MADE_BY_PROVER.findall(text)} - left
         if made:
-            text, more = self.check(functions, bodies, left | made)
+            text, more = self.check(plants, left | made)
             seconds += more
         return text, seconds
 
@@ -131,14 +162,14 @@ class Crate:
             return None
         return dict(re.findall(rf"^fn {self.name}::(\S+): (.*)$", said, re.M))
 
-    def verdict(self, body, word, said):
-        """Judges the last word on a wrong body's function: it is refused where a goal or an answer of its own fails."""
+    def verdict(self, plant, word, said):
+        """Judges the last word on a body: it is refused where a goal or an answer of its own fails."""
         if word is None:
             return UNKNOWN
         if word.startswith(("proved", "no holes", "depends on a hole")):
             return LET_THROUGH
-        above, _, last = body.function.replace("::", "/").rpartition("/")
-        module = body.function.replace("::", ".")
+        above, _, last = plant.path.replace("::", "/").rpartition("/")
+        module = plant.path.replace("::", ".")
         # The folder of a function that calls itself has a plus before its name.
         folders = [f"./proofs/{above}/{name}/" for name in (last, f"+{last}")]
         if any(folder in word for folder in folders) or f"Rattle.{self.name}.proofs.{module}." in word:
@@ -146,18 +177,19 @@ class Crate:
         # An answer to a goal that the wrong body has not. A wrong body that keeps the names of goals shows more.
         if any(re.search(rf"^{re.escape(folder)}\w+\.antt:\d+:\d+: error", said, re.M) for folder in folders):
             return REFUSED
-        is_refused = body.is_definition() and re.search("did not prove|which antt refuses", word)
+        is_refused = plant.body.is_definition() and re.search("did not prove|which antt refuses", word)
         return REFUSED if is_refused else HIDDEN
 
     def tried(self, bodies):
-        """Tries wrong bodies of different functions in one check. Returns each with its verdict, and the seconds.
+        """Tries bodies in one check. Returns each with its verdict, and the seconds.
 
         One that does not compile hides the others, so they are tried in halves then. Those whose functions are refused
         for what they call alone are tried once more without the others.
         """
-        said, seconds = self.check(sorted({body.function for body in bodies}), bodies)
+        plants = plants_of(bodies)
+        said, seconds = self.check(plants)
         words = self.words_on(said)
-        verdicts = {body: self.verdict(body, words.get(body.function), said) for body in bodies if words is not None}
+        verdicts = {one.body: self.verdict(one, words.get(one.path), said) for one in plants if words is not None}
         hidden = [body for body in bodies if verdicts.get(body) == HIDDEN]
         if len(bodies) == 1 and words is None:
             lines = said.splitlines() or ["nothing was said"]
@@ -176,7 +208,7 @@ class Crate:
 
     def failing(self, functions):
         """Proves functions as they stand, amid holes. Returns those that are refused then, with the word on them."""
-        said, _ = self.check(functions, [])
+        said, _ = self.check([Plant(None, function, function) for function in functions])
         words = self.words_on(said)
         if words is None:
             return {self.name: said[-400:]}

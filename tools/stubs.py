@@ -31,8 +31,7 @@ def functions_of(lines, module):
 def files_of(source):
     """Tells of each file below `source` its path, its lines and its module."""
     for path in source.rglob("*.rt"):
-        words = [word for word in path.relative_to(source).with_suffix("").parts if word not in ("lib", "main", "mod")]
-        yield path, path.read_text().splitlines(), "".join(f"{word}::" for word in words)
+        yield path, path.read_text().splitlines(), module_of(path.relative_to(source))
 
 
 def keys_below(source):
@@ -50,6 +49,26 @@ def body_of(lines, at, indent):
             end = next((end for end in range(start + 1, len(lines)) if lines[end] == f"{indent}}}"), start + 1)
             return range(start + 1, end)
     return range(0)
+
+
+def whole_of(lines, at, indent):
+    """Returns the lines of the function that begins in a line, with its attributes, or none if it has no body."""
+    body, start = body_of(lines, at, indent), at
+    while start and lines[start - 1].startswith(f"{indent}#["):
+        start -= 1
+    return range(start, body.stop + 1) if body else range(0)
+
+
+def wholes_of(lines, module, key):
+    """Returns the lines of each function of a file that has the key."""
+    found = [(at, indent) for at, indent, known in functions_of(lines, module) if known == key]
+    return [whole_of(lines, at, indent) for at, indent in found]
+
+
+def module_of(file):
+    """Returns the module of a file below `src`, as a beginning of paths."""
+    words = [word for word in file.with_suffix("").parts if word not in ("lib", "main", "mod")]
+    return "".join(f"{word}::" for word in words)
 
 
 def places_of(crate, constant):

@@ -1,7 +1,10 @@
 """Reads wrong bodies: the edits of crates/*/planted, and those of tests/wrong."""
+import copy
+import functools
 import pathlib
 import re
 
+import copies
 import stubs
 
 CRATES = pathlib.Path("crates")
@@ -19,6 +22,7 @@ class WrongBody:
         self.crate = path.parent.parent.name
         self.function = self.part = None
         self.pairs = []
+        self.is_right = False
         file = old = None
         for line in path.read_text().splitlines():
             key, _, text = line.partition(": ")
@@ -52,6 +56,30 @@ class WrongBody:
         """Tells whether a text is a private constant that its function names, and nothing else in the crate."""
         constant = re.match(r"\s*const (\w+): ", old)
         return bool(constant) and stubs.places_of(CRATES / self.crate, constant[1]) == {stubs.key_of(self.function)}
+
+    @functools.cached_property
+    def is_movable(self):
+        """Tells whether a copy of its function can have it: it changes nothing else, and the function can be copied."""
+        return bool(self.text_of_copy(CRATES / self.crate, self.function))
+
+    def text_of_copy(self, folder, path):
+        """Returns the text of a copy, at a path, of its function below the folder, with the wrong body, or none."""
+        files = {file for file, _, _ in self.pairs}
+        file = min(files)
+        if len(files) > 1 or not file.startswith("src/"):
+            return ""
+        text = copies.text_of((folder / file).read_text().splitlines(), file, self.function)
+        for _, old, new in self.pairs:
+            if text.count(old) != 1:
+                return ""
+            text = text if self.is_right else text.replace(old, new)
+        return "" if copies.calls_itself(text, self.function) else copies.renamed(text, self.function, path)
+
+    def as_it_stands(self):
+        """Returns the right body of its function, as if it were a wrong one."""
+        right = copy.copy(self)
+        right.name, right.is_right = f"{self.function}, as it stands", True
+        return right
 
     def texts(self, folder):
         """Returns the texts of the files below the folder that it changes, with the wrong body in them."""
