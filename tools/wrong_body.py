@@ -88,10 +88,19 @@ class WrongBody:
         for file, old, new in self.pairs:
             source = folder / file
             text = texts[source] if source in texts else source.read_text() if source.is_file() else ""
-            if text.count(old) != 1:
-                raise ValueError(f"{self.name}: its old text stands in {file} {text.count(old)} times, and not once")
-            texts[source] = text.replace(old, new)
+            texts[source] = self.changed(text, file, old, new)
         return texts
+
+    def changed(self, text, file, old, new):
+        """Returns a file's text with one text changed, which stands there once, or else once in the function."""
+        if text.count(old) == 1:
+            return text.replace(old, new)
+        lines = text.splitlines(keepends=True)
+        place = copies.place_of([line.rstrip("\n") for line in lines], file, self.function or "") if file.startswith("src/") else range(0)
+        own = "".join(lines[place.start : place.stop])
+        if own.count(old) != 1:
+            raise ValueError(f"{self.name}: its old text stands in {file} {text.count(old)} times, and not once")
+        return "".join(lines[: place.start]) + own.replace(old, new) + "".join(lines[place.stop :])
 
     def apply(self, folder):
         """Writes the wrong body into the files below the folder."""
