@@ -133,6 +133,12 @@ def still_told(mount):
     return found.count(0)
 
 
+def drops(path):
+    """Has the kernel drop its caches, and returns whether a file of a dead mount is gone from them."""
+    drop_caches()
+    return error_of(path) == errno.ENOTCONN
+
+
 @row
 def a_dead_mount_answers_what_the_kernel_kept(room):
     """A daemon is killed: of what the kernel kept a program is still told, until the kernel drops it; all else is not
@@ -145,8 +151,7 @@ def a_dead_mount_answers_what_the_kernel_kept(room):
         # Where memory is short the kernel drops some.
         same(still_told(mount) > DIRECTORIES * FILES // 2, True)
     same(error_of(mount.at("d5/none")), errno.ENOTCONN)
-    drop_caches()
-    until(lambda: error_of(mount.at("d5/f5")) == errno.ENOTCONN, "a file that the kernel dropped")
+    until(lambda: drops(mount.at("d5/f5")), "a file that the kernel dropped")
     daemon = room.run("daemon", "--mount", "broker.sock", "t0", "m", *mount.options)
     daemon.printed("serving 2")
     mount.broker.printed("mounted 2")
