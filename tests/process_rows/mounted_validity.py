@@ -88,14 +88,24 @@ def what_others_change_is_seen_at_once(room):
         same(error_of(one), errno.ENOENT)
         os.close(os.open(one, os.O_CREAT | os.O_WRONLY, 0o600))
         same((os.stat(one).st_mode & 0o777, os.stat(one).st_nlink, error_of(two)), (0o600, 1, errno.ENOENT))
-        number = os.stat(one).st_ino
-        os.rename(one, two)
-        same((error_of(one), os.stat(two).st_ino), (errno.ENOENT, number))
+        moves(one, two)
         replaces(mount, turn, two)
         removes(two, f"{two}.d", mount)
         mount.take_over()
     mount.counts_what_is_held()
     mount.unmount()
+
+
+def moves(name, to):
+    """Moves a file, and shows that it is the same one with the same times, but for the ctime that the kernel gives it. Once
+    the kernel dropped that, it is the mount's again."""
+    before = os.stat(name)
+    os.rename(name, to)
+    after = os.stat(to)
+    same(error_of(name), errno.ENOENT)
+    same((after.st_ino, after.st_nlink, after.st_mtime_ns), (before.st_ino, 1, before.st_mtime_ns))
+    same(after.st_ctime_ns >= before.st_ctime_ns, True)
+    until(lambda: drop_caches() or os.stat(to).st_ctime_ns == before.st_ctime_ns, "the mount's time")
 
 
 def replaces(mount, turn, name):
