@@ -9,6 +9,7 @@ pub mod Lengths
 pub mod Moves
 pub mod OtherLaws
 pub mod OwnTexts
+pub mod Ranges
 pub mod Replies
 pub mod ReplyLaws
 pub mod RequestKinds

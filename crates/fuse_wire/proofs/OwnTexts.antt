@@ -11,6 +11,7 @@ use Rattle.fuse_wire.specs.RequestBody.{made_body, batch_body, body, IsBody, IsM
 use Rattle.fuse_wire.specs.RequestReading.{request_of}
 use Rattle.fuse_wire.specs.RequestText.{IsRequestText, request_text, FitsAsk}
 use Rattle.fuse_wire.proofs.Lengths.{length-zeros}
+use Rattle.fuse_wire.proofs.Ranges.{range_is_body}
 use Rattle.fuse_wire.proofs.RequestKinds.{own_nodeid}
 use Rattle.fuse_wire.proofs.Requests.{request_again}
 
@@ -36,7 +37,7 @@ bare_mode perm = record { in_range = omega (arith, perm.in_range); low = omega (
 pub batch_is_body : (items : List Item) → length items ≤ 256 → IsBatchBody items (batch_body items)
 batch_is_body items le = record { others = zeros 4; four = length-zeros 4; at_most = le; parts = refl }
 
-pub ruleset own_bodies = (made_is_body, file_mode, bare_mode, batch_is_body, length-zeros)
+pub ruleset own_bodies = (made_is_body, file_mode, bare_mode, range_is_body, batch_is_body, length-zeros)
 
 pub own_text : (ask : Ask) → length (body ask.what) ≤ 4104 → IsBody ask.what (body ask.what) → IsRequestText ask (request_text ask)
 own_text ask short is = record {

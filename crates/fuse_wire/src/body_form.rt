@@ -1,13 +1,16 @@
 //! The forms of request bodies, each with its length, its writing and its reading: a name; a mode and a name; a number
-//! and two names; the item of a FORGET; the items of a batch.
+//! and two names; an offset and a size; the item of a FORGET; the items of a batch.
 ghost use Rattle.std.specs.Prelude.{All, ◌≡◌, ◌<◌, ◌≤◌, ◌+◌, ◌*◌, ◌^◌, ℕ, length, IfOk, IfErr, Ok, Err};
 ghost use Rattle.std.specs.List.{flat_map};
 ghost use Rattle.eden_base.specs.Name.{IsNameText};
 ghost use Rattle.fuse_wire.specs.Reading.{Gives, TakesSome, TakesNone, MayLack};
-ghost use Rattle.fuse_wire.specs.RequestBody.{IsLongName, IsLongEither, name_text, made_body, move_body, batch_body, item_text, FitsItem, IsMoveBody, name_of, named_with, made_of, ended_by_nul, both_checked, names_of, move_of, forget_of, batch_of, items_at};
+ghost use Rattle.fuse_wire.specs.RequestBody.{IsLongName, IsLongEither, name_text, made_body, move_body, range_body, batch_body, item_text, FitsItem, IsMoveBody, name_of, named_with, made_of, ended_by_nul, both_checked, names_of, move_of, range_of, forget_of, batch_of, items_at};
 ghost use Rattle.fuse_wire.specs.Writing.{HasRoom, Puts};
 
-use crate::layout::{BATCH_FIXED, BATCH_REST_LEN, FORGET_LEN, MODE_LEN, RENAME_FIXED};
+use crate::layout::{
+    BATCH_FIXED, BATCH_REST_LEN, FORGET_LEN, MODE_LEN, RANGE_LEN, RANGE_OFFSET, RANGE_REST_LEN,
+    RENAME_FIXED,
+};
 use crate::memory::Memory;
 use crate::reader::Reader;
 use crate::writer::MessageWriter;
@@ -192,6 +195,35 @@ pub(crate) fn read_move<M: Memory>(
     let (_, named) = body.split_at(RENAME_FIXED);
     let (name, to_name) = read_names(memory, named)?;
     Ok((to_dir, name, to_name))
+}
+
+/// Writes an offset and a size (`struct fuse_read_in`). The other fields are 0.
+#[tactic(auto, using(crate::proofs::Written::written))]
+pub(crate) fn put_range(fields: &mut MessageWriter, offset: u64, size: u32)
+    requires { HasRoom fields.old (length (range_body offset size)) }
+    ensures body { Puts fields.old fields.new (range_body offset size) }
+    ensures fits { (offset < 2 ^ 64) × (size < 2 ^ 32) }
+{
+    fields.put_zeros(RANGE_OFFSET);
+    fields.put_u64(offset);
+    fields.put_u32(size);
+    fields.put_zeros(RANGE_REST_LEN);
+}
+
+/// Reads an offset and a size (`struct fuse_read_in`). The other fields are ignored.
+#[tactic(auto, unfolding(crate::specs::RequestBody::range_of))]
+pub(crate) fn read_range(body: &[u8]) -> Result<(u64, u32), WireFault>
+    ensures value { result ≡ range_of body.now }
+    ensures never_out_of_memory { Gives TakesNone result (range_of body.now) }
+{
+    if body.len() != RANGE_LEN {
+        return Err(WireFault::BadBody);
+    }
+    let mut fields = Reader::new(body);
+    fields.skip(RANGE_OFFSET);
+    let offset = fields.u64();
+    let size = fields.u32();
+    Ok((offset, size))
 }
 
 /// Reads the item of a FORGET (`struct fuse_forget_in`).

@@ -21,6 +21,15 @@ pub(crate) const MKDIR_REST_LEN: usize = 4;
 /// The length of `struct fuse_rename_in`: newdir.
 pub(crate) const RENAME_FIXED: usize = 8;
 
+/// The offset of the offset in `struct fuse_read_in`, behind fh.
+pub(crate) const RANGE_OFFSET: usize = 8;
+
+/// The length of the end of `struct fuse_read_in`, after the size: read_flags, lock_owner, flags, padding.
+pub(crate) const RANGE_REST_LEN: usize = 20;
+
+/// The length of `struct fuse_read_in`, which READDIR has, too: fh, offset, size, and the rest.
+pub(crate) const RANGE_LEN: usize = 40;
+
 /// The length of `struct fuse_getattr_in`: getattr_flags, dummy, fh.
 pub(crate) const GETATTR_LEN: usize = 16;
 

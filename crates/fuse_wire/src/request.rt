@@ -45,6 +45,12 @@ pub enum Request {
         to_dir: Number,
         to_name: Name,
     },
+    /// The entries of a directory from `offset` on, in at most `size` bytes.
+    Readdir {
+        dir: Number,
+        offset: u64,
+        size: u32,
+    },
     /// A forget of one item. It has no reply.
     Forget(Item),
     /// A forget of a batch of items. It has no reply.
@@ -73,6 +79,7 @@ pub(crate) enum Opcode {
     Unlink,
     Rmdir,
     Rename,
+    Readdir,
     Create,
     BatchForget,
     /// Any other operation. The body of its requests is ignored.
@@ -128,6 +135,11 @@ impl Request {
                     to_name,
                 })
             }
+            Request::Readdir { dir, offset, size } => Ok(Request::Readdir {
+                dir: *dir,
+                offset: *offset,
+                size: *size,
+            }),
             Request::Getattr { node } => Ok(Request::Getattr { node: *node }),
             Request::Forget(item) => Ok(Request::Forget(*item)),
             Request::BatchForget(batch) => {
@@ -196,6 +208,10 @@ impl Request {
                 matches!(other, Request::Rename { dir: second, name: its, to_dir: target, to_name: new }
                     if same_place(*dir, name, *second, its) && same_place(*to_dir, to_name, *target, new))
             }
+            Request::Readdir { dir, offset, size } => {
+                matches!(other, Request::Readdir { dir: second, offset: from, size: most }
+                    if dir == second && offset == from && size == most)
+            }
             Request::Forget(item) => { matches!(other, Request::Forget(second) if item.is(second)) }
             Request::BatchForget(batch) => {
                 matches!(other, Request::BatchForget(second) if batch.is(second))
@@ -234,6 +250,7 @@ impl Request {
             Request::Unlink { .. } | Request::Rmdir { .. } | Request::Rename { .. } => {
                 Form::NoValue
             }
+            Request::Readdir { .. } => Form::ABuffer,
             Request::Forget(_) | Request::BatchForget(_) | Request::Other { .. } => {
                 Form::OnlyAnError
             }
@@ -252,6 +269,7 @@ impl Request {
             Request::Unlink { .. } => Opcode::Unlink,
             Request::Rmdir { .. } => Opcode::Rmdir,
             Request::Rename { .. } => Opcode::Rename,
+            Request::Readdir { .. } => Opcode::Readdir,
             Request::Forget(_) => Opcode::Forget,
             Request::BatchForget(_) => Opcode::BatchForget,
             Request::Other { opcode, .. } => Opcode::Other(*opcode),
@@ -268,7 +286,8 @@ impl Request {
             | Request::Mkdir { dir, .. }
             | Request::Unlink { dir, .. }
             | Request::Rmdir { dir, .. }
-            | Request::Rename { dir, .. } => dir.0,
+            | Request::Rename { dir, .. }
+            | Request::Readdir { dir, .. } => dir.0,
             Request::Getattr { node } | Request::Other { node, .. } => node.0,
             Request::Forget(item) => item.node.0,
             Request::BatchForget(_) => 0,
@@ -285,7 +304,8 @@ impl Request {
             | Request::Create { dir, .. }
             | Request::Mkdir { dir, .. }
             | Request::Unlink { dir, .. }
-            | Request::Rmdir { dir, .. } => NodeIds::one(*dir),
+            | Request::Rmdir { dir, .. }
+            | Request::Readdir { dir, .. } => NodeIds::one(*dir),
             Request::Rename { dir, to_dir, .. } => NodeIds::two(*dir, *to_dir),
             Request::Getattr { node } | Request::Other { node, .. } => NodeIds::one(*node),
             Request::Forget(_) | Request::BatchForget(_) => NodeIds::none(),
@@ -329,6 +349,7 @@ impl Opcode {
             10 => Opcode::Unlink,
             11 => Opcode::Rmdir,
             12 => Opcode::Rename,
+            28 => Opcode::Readdir,
             35 => Opcode::Create,
             42 => Opcode::BatchForget,
             other => Opcode::Other(other),
@@ -347,6 +368,7 @@ impl Opcode {
             Opcode::Unlink => 10,
             Opcode::Rmdir => 11,
             Opcode::Rename => 12,
+            Opcode::Readdir => 28,
             Opcode::Create => 35,
             Opcode::BatchForget => 42,
             Opcode::Other(other) => other,

@@ -7,12 +7,12 @@ ghost use Rattle.fuse_wire.specs.RequestReading.{WantsMemory, asked_of};
 ghost use Rattle.fuse_wire.specs.Writing.{HasRoom, Puts};
 
 use crate::body_form::{
-    batch_len, made_len, move_len, name_len, put_batch, put_made, put_move, put_name, read_batch,
-    read_forget, read_made, read_move, read_name,
+    batch_len, made_len, move_len, name_len, put_batch, put_made, put_move, put_name, put_range,
+    read_batch, read_forget, read_made, read_move, read_name, read_range,
 };
 use crate::header::InHeader;
 use crate::layout::{
-    CREATE_MODE, CREATE_REST_LEN, FORGET_LEN, GETATTR_LEN, MKDIR_MODE, MKDIR_REST_LEN,
+    CREATE_MODE, CREATE_REST_LEN, FORGET_LEN, GETATTR_LEN, MKDIR_MODE, MKDIR_REST_LEN, RANGE_LEN,
 };
 use crate::memory::Memory;
 use crate::mode::mode_of;
@@ -39,6 +39,7 @@ pub(crate) fn body_len(request: &Request) -> usize
             to_name,
             ..
         } => move_len(*to_dir, name, to_name),
+        Request::Readdir { .. } => RANGE_LEN,
         Request::Getattr { .. } => GETATTR_LEN,
         Request::Forget(_) => FORGET_LEN,
         Request::BatchForget(items) => batch_len(items.as_slice()),
@@ -70,6 +71,7 @@ pub(crate) fn put_body(fields: &mut MessageWriter, request: &Request)
             to_name,
             ..
         } => put_move(fields, *to_dir, name, to_name),
+        Request::Readdir { offset, size, .. } => put_range(fields, *offset, *size),
         Request::Getattr { .. } => fields.put_zeros(GETATTR_LEN),
         Request::Forget(item) => fields.put_u64(item.k),
         Request::BatchForget(items) => put_batch(fields, items.as_slice()),
@@ -117,6 +119,10 @@ pub(crate) fn read_body<M: Memory>(
                 to_dir,
                 to_name,
             }))
+        }
+        Opcode::Readdir => {
+            let (offset, size) = read_range(body)?;
+            Ok(header.asks(Request::Readdir { dir, offset, size }))
         }
         Opcode::Getattr if body.len() == GETATTR_LEN => Ok(header.asks(Request::Getattr { node })),
         Opcode::Getattr => Err(WireFault::BadBody),
