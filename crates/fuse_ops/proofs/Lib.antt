@@ -1,6 +1,7 @@
 pub mod Asking
 pub mod Entering
 pub mod EnteringAgain
+pub mod Filling
 pub mod Finding
 pub mod Fits
 pub mod FitsAdded
@@ -12,8 +13,11 @@ pub mod ForgettingLaw
 pub mod FromEntries
 pub mod GivingLaw
 pub mod GoingUp
+pub mod Inodes
 pub mod Keeping
 pub mod Known
+pub mod Listings
+pub mod ListReplay
 pub mod Loaded
 pub mod LoadedLists
 pub mod Looking

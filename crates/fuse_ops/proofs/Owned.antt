@@ -1,10 +1,15 @@
--- No answer of the table is a buffer, so both owners of one get the answer itself.
-use Rattle.std.proofs.Common.{◌≡◌, inl, inr, ℕ, Bool, true, false, Option, Some, None, Result, Ok, Err, refl, ap, ◌∙◌}
+-- Both owners of what a request is answered get a legal answer: the answer itself, or ENOMEM for a buffer.
+use Rattle.std.proofs.Common.{◌≡◌, inl, inr, ℕ, Bool, true, false, List, Option, Some, None, Result, Ok, Err, refl, sym, ap, ◌∙◌, subst}
+use Rattle.std.specs.Prelude.{◌↔◌}
 use Rattle.eden_base.specs.declared.attr.Attr.{Attr}
+use Rattle.eden_base.specs.declared.attr.Kind.{Kind}
+use Rattle.eden_base.specs.declared.attr.Kind.TheVariants.{Dir, File}
+use Rattle.eden_base.specs.declared.attr.Perm.{Perm}
 use Rattle.eden_base.specs.declared.errno.Errno.{Errno}
+use Rattle.eden_base.specs.declared.errno.Errno.TheVariants.{EIO, ENOMEM}
 use Rattle.eden_base.specs.declared.number.FileId.{FileId}
 use Rattle.eden_base.specs.declared.number.Number.{Number}
-use Rattle.manifest.specs.Tree.{Tree}
+use Rattle.manifest.specs.Tree.{Tree, kind_of}
 use Rattle.fuse_wire.specs.declared.form.Form.{Form}
 use Rattle.fuse_wire.specs.declared.form.Form.TheVariants.{AnEntry, AnOpenEntry, Attributes, NoValue, ABuffer, OnlyAnError}
 use Rattle.fuse_wire.specs.declared.reply.Answer.{Answer}
@@ -13,8 +18,11 @@ use Rattle.fuse_wire.specs.declared.request.Request.{Request}
 use Rattle.fuse_wire.specs.ReplyText.{is_buffer}
 use Rattle.fuse_wire.specs.Request.{form_of}
 use Rattle.fuse_wire.specs.Sharing.{StandsFor}
-use Rattle.fuse_ops.specs.Answers.{Answers, AnswersCounted, AnswersFile, AnswersNone, AnswersShown, Effect, NameChange, NumberFault, Numbers, Tells, none_lost, one_lost, one_moved, told_as}
-use Rattle.fuse_ops.specs.Served.{Replay, ServedState}
+use Rattle.fuse_ops.specs.Answers.{Answers, AnswersCounted, AnswersEffect, AnswersFile, AnswersNone, AnswersShown, Deed, Effect, NameChange, NumberFault, Numbers, Tells, none_lost, one_lost, one_moved, find_name, make_file, take_name, move_name, show_file, list_dir, unserved, deed_of, done_to, comes_to, told_as, found_in, free_in, enters, shows, makes, takes, takes_from, moves_between, lists_dir, lists_from, unless, against_taking}
+use Rattle.fuse_ops.specs.Listing.{Range}
+use Rattle.fuse_ops.specs.Served.{Replay, ServedState, map_after, names_changed, numbers_at, place_told, plain, served_after}
+use Rattle.fuse_ops.proofs.Movable.{by-move}
+use Rattle.fuse_ops.proofs.Shapes.{error-after, none-changed, none-given}
 
 told-fixed : (form : Form) (number : Number) (attr : Attr) → is_buffer (told_as form number attr) ≡ false
 told-fixed AnEntry number attr = refl
@@ -43,22 +51,118 @@ none-fixed (one_moved replaced) answer (inr is) = ap is_buffer is
 none-fixed none_lost answer is = ap is_buffer is
 none-fixed (one_lost file) answer is = ap is_buffer is
 
-answers-fixed : (numbers : Numbers) (request : Request) (result : Result Effect Errno) (answer : Answer) → Answers numbers request result answer → is_buffer answer ≡ false
-answers-fixed numbers request (Err errno) answer is = ap is_buffer is
-answers-fixed numbers request (Ok effect) answer is = file-fixed effect.file effect.counts is where
-  file-fixed : (file : Option FileId) (counts : Bool) → AnswersFile numbers request effect.tree file counts effect.names answer → is_buffer answer ≡ false
-  file-fixed (Some file) true (fault, against, is) = counted-fixed numbers request effect.tree file fault answer is
-  file-fixed (Some file) false is = shown-fixed numbers request effect.tree file answer is
-  file-fixed None counts is = none-fixed effect.names answer is
+file-fixed : (numbers : Numbers) (request : Request) (tree : Tree) (file : Option FileId) (counts : Bool) (names : NameChange) (answer : Answer) → AnswersFile numbers request tree file counts names answer → is_buffer answer ≡ false
+file-fixed numbers request tree (Some file) true names answer (fault, against, is) = counted-fixed numbers request tree file fault answer is
+file-fixed numbers request tree (Some file) false names answer is = shown-fixed numbers request tree file answer is
+file-fixed numbers request tree None counts names answer is = none-fixed names answer is
 
-owned-fixed : (answer owned : Answer) → is_buffer answer ≡ false → StandsFor answer owned → owned ≡ answer
-owned-fixed (Entry number attr) owned fixed is = is
-owned-fixed (Opened number attr) owned fixed is = is
-owned-fixed (Attrs number attr) owned fixed is = is
-owned-fixed Done owned fixed is = is
-owned-fixed (Buffer bytes) owned fixed is = absurd cc
-owned-fixed (Error errno) owned fixed is = is
+-- ---- what lists a directory changes nothing
 
--- both owners of the answer to a request get that answer
-pub owned-same : (old : ServedState) (request : Request) (answer owned : Answer) (new : ServedState) → Replay old request (Some answer) new → StandsFor answer owned → owned ≡ answer
-owned-same old request answer owned new (is, legal) stands = owned-fixed answer owned (answers-fixed _ request _ answer legal.answers) stands
+-- an effect that lists part of a directory changes neither the tree nor a name
+abbrev IsStill : Tree → Effect → Option Range → Type 0
+IsStill tree effect (Some range) = (effect.tree ≡ tree) × (effect.names ≡ none_lost)
+IsStill tree effect None = Unit {0}
+
+abbrev IsStillIn : Tree → Result Effect Errno → Type 0
+IsStillIn tree (Ok effect) = IsStill tree effect effect.lists
+IsStillIn tree (Err errno) = Unit {0}
+
+enters-still : (tree : Tree) (r : Result FileId Errno) → IsStillIn tree (enters tree r)
+enters-still tree (Ok file) = tt
+enters-still tree (Err errno) = tt
+
+shows-still : (tree : Tree) (o : Option FileId) → IsStillIn tree (shows tree o)
+shows-still tree (Some file) = tt
+shows-still tree None = tt
+
+makes-still : (tree : Tree) (name : List ℕ) (kind : Kind) (perm : Perm) (r : Result FileId Errno) → IsStillIn tree (makes tree name kind perm r)
+makes-still tree name kind perm (Ok dir) = tt
+makes-still tree name kind perm (Err errno) = tt
+
+takes-still : (tree : Tree) (dir : FileId) (name : List ℕ) (r : Result FileId Errno) → IsStillIn tree (takes tree dir name r)
+takes-still tree dir name (Ok file) = tt
+takes-still tree dir name (Err errno) = tt
+
+takes_from-still : (tree : Tree) (against : FileId → Option Errno) (o : Option FileId) (name : List ℕ) → IsStillIn tree (takes_from tree against o name)
+takes_from-still tree against (Some dir) name = takes-still tree dir name (unless against (found_in tree (Some dir) name))
+takes_from-still tree against None name = tt
+
+moves-still : (tree : Tree) (o : Option FileId) (name : List ℕ) (p : Option FileId) (to_name : List ℕ) (r : Result Effect Errno) → moves_between tree o name p to_name ≡ r → IsStillIn tree r
+moves-still tree o name p to_name (Ok effect) is = by-move tree o name p to_name effect is (λ (x : Effect). IsStill tree x x.lists) tt (λ from to g. tt)
+moves-still tree o name p to_name (Err errno) is = tt
+
+lists_dir-still : (tree : Tree) (dir : FileId) (offset size : ℕ) (kind : Option Kind) → IsStillIn tree (lists_dir tree dir offset size kind)
+lists_dir-still tree dir offset size (Some Dir) = (refl, refl)
+lists_dir-still tree dir offset size (Some File) = tt
+lists_dir-still tree dir offset size None = tt
+
+lists_from-still : (tree : Tree) (o : Option FileId) (offset size : ℕ) → IsStillIn tree (lists_from tree o offset size)
+lists_from-still tree (Some dir) offset size = lists_dir-still tree dir offset size (kind_of tree dir)
+lists_from-still tree None offset size = tt
+
+done-still : (tree : Tree) (files : ℕ → Option FileId) (deed : Deed) → IsStillIn tree (done_to tree files deed)
+done-still tree files (find_name dir name) = enters-still tree (found_in tree (files dir.0) name)
+done-still tree files (make_file dir name kind perm) = makes-still tree name kind perm (free_in tree (files dir.0) name)
+done-still tree files (take_name dir name kind) = takes_from-still tree (against_taking kind tree) (files dir.0) name
+done-still tree files (move_name dir name to_dir to_name) = moves-still tree (files dir.0) name (files to_dir.0) to_name (moves_between tree (files dir.0) name (files to_dir.0) to_name) refl
+done-still tree files (show_file node) = shows-still tree (files node.0)
+done-still tree files (list_dir dir offset size) = lists_from-still tree (files dir.0) offset size
+done-still tree files unserved = tt
+
+-- ---- memory for a second owner was refused
+
+-- of what is answered with a buffer, ENOMEM is an answer, too, and nothing changed
+module _ (old : ServedState) (request : Request) (numbers : Numbers) (bytes : List ℕ) where
+  abbrev IsLack : Result Effect Errno → Type 0
+  IsLack r = Answers numbers request r (Error ENOMEM) × (served_after old request r (Buffer bytes) ≡ old)
+
+  lack_of : (effect : Effect) (range : Option Range) → effect.lists ≡ range → AnswersEffect numbers request effect range (Buffer bytes) → IsStill old.tree effect range → IsLack (Ok effect)
+  lack_of effect (Some range) is a still = (
+    subst (λ (o : Option Range). AnswersEffect numbers request effect o (Error ENOMEM)) (sym is) (inr refl),
+    λ i. record { map = map_is i; tree = still.0 i },
+  ) where
+    map_is : names_changed (map_after old.map (place_told request) None) (deed_of request) effect.names ≡ old.map
+    map_is = ap (names_changed (map_after old.map (place_told request) None) (deed_of request)) still.1
+        ∙ none-changed (map_after old.map (place_told request) None) (deed_of request) ∙ none-given old.map (place_told request)
+  lack_of effect None is a still = absurd (let fixed : is_buffer (Buffer bytes) ≡ false = file-fixed numbers request effect.tree effect.file effect.counts effect.names (Buffer bytes) a in let none : ⊥ = cc in none)
+
+  lack_in : (r : Result Effect Errno) → Answers numbers request r (Buffer bytes) → IsStillIn old.tree r → IsLack r
+  lack_in (Ok effect) a still = lack_of effect effect.lists refl a still
+  lack_in (Err errno) a still = absurd (let none : ⊥ = cc in none)
+
+pub lacks-replay : (old : ServedState) (request : Request) (bytes : List ℕ) (new : ServedState) → Replay old request (Some (Buffer bytes)) new → Replay old request (Some (Error ENOMEM)) new
+lacks-replay old request bytes new (is, legal) =
+    let result = comes_to old.tree legal.files request in
+    let lack = lack_in old request (numbers_at old (place_told request)) bytes result legal.answers (done-still old.tree legal.files (deed_of request)) in (
+      is,
+      record {
+        files = legal.files;
+        locates = legal.locates;
+        answers = lack.0;
+        makes = legal.makes ∙ ap plain (lack.1 ∙ sym (error-after old request result ENOMEM));
+        bad_items = legal.bad_items;
+        keeps_tree = legal.keeps_tree;
+      },
+    )
+
+-- ---- both owners
+
+-- what holds of the answer, and of ENOMEM if the answer is a buffer, holds of what an owner gets
+pub by-owner : (answer owned : Answer) → StandsFor answer owned → (P : Answer → Type 0) → P answer → ((bytes : List ℕ) → answer ≡ Buffer bytes → P (Error ENOMEM)) → P owned
+by-owner (Entry number attr) owned is P same lacks = subst P (sym is) same
+by-owner (Opened number attr) owned is P same lacks = subst P (sym is) same
+by-owner (Attrs number attr) owned is P same lacks = subst P (sym is) same
+by-owner Done owned is P same lacks = subst P (sym is) same
+by-owner (Buffer bytes) owned (inl is) P same lacks = subst P (sym is) same
+by-owner (Buffer bytes) owned (inr is) P same lacks = subst P (sym is) (lacks bytes refl)
+by-owner (Error errno) owned is P same lacks = subst P (sym is) same
+
+-- what an owner gets is a legal answer, too
+pub owned-replay : (old : ServedState) (request : Request) (answer owned : Answer) (new : ServedState) → Replay old request (Some answer) new → StandsFor answer owned → Replay old request (Some owned) new
+owned-replay old request answer owned new replay stands = by-owner answer owned stands (λ (a : Answer). Replay old request (Some a) new) replay
+    (λ bytes is. lacks-replay old request bytes new (subst (λ (a : Answer). Replay old request (Some a) new) is replay))
+
+-- and EIO exactly if the answer is
+pub owned-eio : (answer owned : Answer) → StandsFor answer owned → (owned ≡ Error EIO) ↔ (answer ≡ Error EIO)
+owned-eio answer owned stands = by-owner answer owned stands (λ (a : Answer). (a ≡ Error EIO) ↔ (answer ≡ Error EIO)) (λ e. e, λ e. e)
+    (λ bytes is. (λ e. absurd (let none : ⊥ = cc in none), λ e. absurd (let none : ⊥ = cc in none)))

@@ -33,14 +33,14 @@ use Rattle.fuse_ops.proofs.Movable.{by-move}
 use Rattle.fuse_ops.proofs.Shapes.{TellsEntry, TakesPlace, MovesPlace, move-moves, moved-after, moved-bad_items, find-form, show-form, entered, shown, find-tells, make-tells, take-takes, take-frees, unless-found, error-after, entry-after, shown-after, done-after, given-bad_items, taken-bad_items}
 
 -- an answer that the table has for what a request comes to, and what it makes
-record Legally (old : ServedState) (request : Request) (result : Result Effect Errno) (answer : Answer) (new : ServedState) : Type 0 where
-  answers : Answers (numbers_at old (place_told request)) request result answer
-  makes : plain new ≡ plain (served_after old request result answer)
-  bad_items : new.map.bad_items ≡ old.map.bad_items
-  keeps_tree : IsTree old.tree → IsTree new.tree
+pub record Legally (old : ServedState) (request : Request) (result : Result Effect Errno) (answer : Answer) (new : ServedState) : Type 0 where
+  pub answers : Answers (numbers_at old (place_told request)) request result answer
+  pub makes : plain new ≡ plain (served_after old request result answer)
+  pub bad_items : new.map.bad_items ≡ old.map.bad_items
+  pub keeps_tree : IsTree old.tree → IsTree new.tree
 
 -- the whole of it, by the deed
-replays : (old : ServedState) (request : Request) (deed : Deed) (files : ℕ → Option FileId) (answer : Answer) (new : ServedState) → deed_of request ≡ deed → is_ask request ≡ true →
+pub replays : (old : ServedState) (request : Request) (deed : Deed) (files : ℕ → Option FileId) (answer : Answer) (new : ServedState) → deed_of request ≡ deed → is_ask request ≡ true →
     AllByRecursion (λ (node : Number). IsLocated old node.0 (files node.0)) (looked_at deed) → Legally old request (done_to old.tree files deed) answer new → Replay old request (Some answer) new
 replays old request deed files answer new does ask at l = (
   ask,
@@ -59,7 +59,7 @@ tree-same : (old new : ServedState) → plain new ≡ plain old → IsTree old.t
 tree-same old new e is = subst (λ (p : PlainState). IsTree p.tree) (sym e) is
 
 -- an error is told as it is, and changes nothing
-error-legally : (old : ServedState) (request : Request) (errno : Errno) (new : ServedState) → IsSamePlainly old new → Legally old request (Err errno) (Error errno) new
+pub error-legally : (old : ServedState) (request : Request) (errno : Errno) (new : ServedState) → IsSamePlainly old new → Legally old request (Err errno) (Error errno) new
 error-legally old request errno new same = record {
   answers = refl;
   makes = same.plainly ∙ sym (ap plain (error-after old request (Err errno) errno));
@@ -102,7 +102,7 @@ unentered-legally old request dir name tree file errno new tells refusal same = 
 
 -- ---- a lookup
 
-same_of : (old new : ServedState) → new ≡ old → IsSamePlainly old new
+pub same_of : (old new : ServedState) → new ≡ old → IsSamePlainly old new
 same_of old new e = record { plainly = ap plain e; bad_items = ap (λ (s : ServedState). s.map.bad_items) e }
 
 -- a request for which a name is found
@@ -169,7 +169,7 @@ takes_in old request dir name against (Some above) answer new place frees h = in
     keeps_tree = λ was. subst (λ (s : ServedState). IsTree s.tree) (sym made) (removed-IsTree old.tree above name file was (found-child old.tree above file name (unless-found against found file r).0) (frees file (unless-found against found file r).1));
   }) where
     effect : Effect
-    effect = record { tree = removed old.tree above name; file = None; counts = false; names = one_lost file }
+    effect = record { tree = removed old.tree above name; file = None; counts = false; names = one_lost file; lists = None }
 
 -- taking a name away is a legal step
 pub take-replay : (old : ServedState) (request : Request) (dir : Number) (name : List ℕ) (kind : Kind) (answer : Answer) (new : ServedState) → deed_of request ≡ take_name dir name kind → Takes old dir name (against_taking kind old.tree) answer new → Replay old request (Some answer) new

@@ -2,14 +2,15 @@
 use Rattle.std.proofs.Common.{◌≡◌, ℕ, Bool, true, false, List, Option, Some, None, Result, Ok, Err, refl, ap, ◌∙◌}
 use Rattle.std.specs.Prelude.{if◌then◌else◌}
 use Rattle.eden_base.specs.declared.attr.Kind.{Kind}
+use Rattle.eden_base.specs.declared.attr.Kind.TheVariants.{Dir, File}
 use Rattle.eden_base.specs.declared.attr.Perm.{Perm}
 use Rattle.eden_base.specs.declared.errno.Errno.{Errno}
 use Rattle.eden_base.specs.declared.number.FileId.{FileId}
-use Rattle.manifest.specs.Tree.{Tree, child_of}
+use Rattle.manifest.specs.Tree.{Tree, child_of, kind_of}
 use Rattle.fuse_wire.specs.declared.request.Request.{Request}
 use Rattle.fuse_wire.specs.declared.reply.Answer.{Answer}
 use Rattle.fuse_wire.specs.declared.reply.Answer.TheVariants.{Entry, Opened, Attrs, Done, Buffer, Error}
-use Rattle.fuse_ops.specs.Answers.{none_lost, Effect, Deed, find_name, make_file, take_name, move_name, show_file, unserved, deed_of, done_to, comes_to, found_in, free_in, enters, shows, makes, takes, takes_from, movable, against_replacing, is_there, moves, moves_to, moves_between, unless, against_taking, tree_after}
+use Rattle.fuse_ops.specs.Answers.{none_lost, Effect, Deed, find_name, make_file, take_name, move_name, show_file, list_dir, unserved, deed_of, done_to, comes_to, found_in, free_in, enters, shows, lists_dir, lists_from, makes, takes, takes_from, movable, against_replacing, is_there, moves, moves_to, moves_between, unless, against_taking, tree_after}
 use Rattle.fuse_ops.specs.Served.{ServedState, PlainState, Replay}
 
 -- a success is over a tree of the same manifest
@@ -40,7 +41,7 @@ takes_from-over tree against None name = tt
 moves_to-over : (tree : Tree) (dir : FileId) (name : List ℕ) (to_dir : FileId) (to_name : List ℕ) (r : Result FileId Errno) → IsOver tree (moves_to tree dir name to_dir to_name r)
 moves_to-over tree dir name to_dir to_name (Err errno) = tt
 moves_to-over tree dir name to_dir to_name (Ok file) = in_ (is_there (child_of tree to_dir to_name) file) (against_replacing tree file (child_of tree to_dir to_name)) where
-  in_ : (b : Bool) (o : Option Errno) → IsOver tree (if b then Ok (record { tree = tree; file = None; counts = false; names = none_lost }) else moves tree dir name to_dir to_name o)
+  in_ : (b : Bool) (o : Option Errno) → IsOver tree (if b then Ok (record { tree = tree; file = None; counts = false; names = none_lost; lists = None }) else moves tree dir name to_dir to_name o)
   in_ true o = refl
   in_ false None = refl
   in_ false (Some errno) = tt
@@ -50,12 +51,22 @@ moves_between-over tree (Some dir) name (Some to_dir) to_name = moves_to-over tr
 moves_between-over tree (Some dir) name None to_name = tt
 moves_between-over tree None name p to_name = tt
 
+lists_dir-over : (tree : Tree) (dir : FileId) (offset size : ℕ) (kind : Option Kind) → IsOver tree (lists_dir tree dir offset size kind)
+lists_dir-over tree dir offset size (Some Dir) = refl
+lists_dir-over tree dir offset size (Some File) = tt
+lists_dir-over tree dir offset size None = tt
+
+lists_from-over : (tree : Tree) (o : Option FileId) (offset size : ℕ) → IsOver tree (lists_from tree o offset size)
+lists_from-over tree (Some dir) offset size = lists_dir-over tree dir offset size (kind_of tree dir)
+lists_from-over tree None offset size = tt
+
 done-over : (tree : Tree) (files : ℕ → Option FileId) (deed : Deed) → IsOver tree (done_to tree files deed)
 done-over tree files (find_name dir name) = enters-over tree (found_in tree (files dir.0) name)
 done-over tree files (make_file dir name kind perm) = makes-over tree name kind perm (free_in tree (files dir.0) name)
 done-over tree files (take_name dir name kind) = takes_from-over tree (against_taking kind tree) (files dir.0) name
 done-over tree files (move_name dir name to_dir to_name) = moves_between-over tree (files dir.0) name (files to_dir.0) to_name
 done-over tree files (show_file node) = shows-over tree (files node.0)
+done-over tree files (list_dir dir offset size) = lists_from-over tree (files dir.0) offset size
 done-over tree files unserved = tt
 
 after-over : (tree : Tree) (r : Result Effect Errno) (answer : Answer) → IsOver tree r → (tree_after tree r answer).manifest ≡ tree.manifest

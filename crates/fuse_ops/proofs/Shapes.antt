@@ -18,13 +18,14 @@ use Rattle.fuse_wire.specs.Request.{form_of}
 use Rattle.fuse_wire.specs.Given.{given_out}
 use Rattle.fuse_wire.specs.declared.request.Request.{Request}
 use Rattle.fuse_wire.specs.declared.request.Request.TheVariants.{Other}
-use Rattle.fuse_wire.specs.declared.form.Form.TheVariants.{AnEntry, Attributes, NoValue}
+use Rattle.fuse_wire.specs.declared.form.Form.TheVariants.{AnEntry, Attributes, NoValue, ABuffer}
 use Rattle.fuse_wire.specs.declared.reply.Answer.{Answer}
 use Rattle.fuse_wire.specs.declared.reply.Answer.TheVariants.{Entry, Opened, Attrs, Done, Buffer, Error}
 use Rattle.entry_table.specs.Entries.{entry_at, stands_at, once_more, new_entry}
 use Rattle.inode_map.specs.InodeMap.{MapState, given, unlinked, relinked}
 use Rattle.entry_table.specs.declared.kept.Kept.{Kept}
-use Rattle.fuse_ops.specs.Answers.{NameChange, none_lost, one_lost, one_moved, Effect, Deed, find_name, make_file, take_name, move_name, show_file, deed_of, unless, against_unlink, against_rmdir, against_taking, telling, tree_after, name_change}
+use Rattle.fuse_ops.specs.Answers.{NameChange, none_lost, one_lost, one_moved, Effect, Deed, find_name, make_file, take_name, move_name, show_file, list_dir, deed_of, unless, against_unlink, against_rmdir, against_taking, telling, tree_after, name_change}
+use Rattle.fuse_ops.specs.Listing.{Range}
 use Rattle.fuse_ops.specs.Served.{ServedState, place_entered, place_told, name_taken, map_after, names_changed, served_after}
 
 -- the success of this request tells the entry of this name
@@ -45,11 +46,15 @@ pub record MovesPlace (request : Request) (dir : Number) (name : List ℕ) (to_d
 
 -- a file of a tree, whose number is held once more
 abbrev pub entered : Tree → FileId → Effect
-entered tree file = record { tree = tree; file = Some file; counts = true; names = none_lost }
+entered tree file = record { tree = tree; file = Some file; counts = true; names = none_lost; lists = None }
 
 -- a file of a tree that stays as it is, whose number is held as often as before
 abbrev pub shown : Tree → FileId → Effect
-shown tree file = record { tree = tree; file = Some file; counts = false; names = none_lost }
+shown tree file = record { tree = tree; file = Some file; counts = false; names = none_lost; lists = None }
+
+-- a tree that stays as it is, of which part of a directory is listed
+abbrev pub listed : Tree → Range → Effect
+listed tree range = record { tree = tree; file = None; counts = false; names = none_lost; lists = Some range }
 
 -- ---- the requests
 
@@ -74,6 +79,10 @@ take-form request dir name kind e = cc
 pub move-form : (request : Request) (dir : Number) (name : List ℕ) (to_dir : Number) (to_name : List ℕ) → deed_of request ≡ move_name dir name to_dir to_name → form_of request ≡ NoValue
 move-form (Other opcode node) dir name to_dir to_name e = absurd (let none : ⊥ = cc in none)
 move-form request dir name to_dir to_name e = cc
+
+pub list-form : (request : Request) (dir : Number) (offset size : ℕ) → deed_of request ≡ list_dir dir offset size → form_of request ≡ ABuffer
+list-form (Other opcode node) dir offset size e = absurd (let none : ⊥ = cc in none)
+list-form request dir offset size e = cc
 
 pub find-tells : (request : Request) (dir : Number) (name : List ℕ) → deed_of request ≡ find_name dir name → TellsEntry request dir name
 find-tells request dir name e = record { told = ap place_entered e; stays = λ map change. ap (λ (d : Deed). names_changed map d change) e; gives = entry-gives request dir name (ap place_entered e) }
@@ -121,17 +130,19 @@ unless-found against (Ok f) file e = in_ (against f) refl e where
 -- ---- what is known after an answer
 
 -- where no file lost its name the map stays
-none-changed : (map : MapState) (deed : Deed) → names_changed map deed none_lost ≡ map
+pub none-changed : (map : MapState) (deed : Deed) → names_changed map deed none_lost ≡ map
 none-changed map (take_name dir name kind) = refl
 none-changed map (move_name dir name to_dir to_name) = refl
 none-changed map deed = refl
 
+-- where no number is given out the map stays
+pub none-given : (map : MapState) (place : Option (Number × List ℕ)) → map_after map place None ≡ map
+none-given map None = refl
+none-given map (Some place) = refl
+
 -- an error changes nothing
 pub error-after : (old : ServedState) (request : Request) (result : Result Effect Errno) (errno : Errno) → served_after old request result (Error errno) ≡ old
-error-after old request result errno = ap (λ (m : MapState). record old { map = m }) (none-changed (map_after old.map (place_told request) None) (deed_of request) ∙ no_gift old.map (place_told request)) where
-  no_gift : (map : MapState) (place : Option (Number × List ℕ)) → map_after map place None ≡ map
-  no_gift map None = refl
-  no_gift map (Some place) = refl
+error-after old request result errno = ap (λ (m : MapState). record old { map = m }) (none-changed (map_after old.map (place_told request) None) (deed_of request) ∙ none-given old.map (place_told request))
 
 -- what gives a number out is a success, whose tree is the tree after it
 pub gift-tree : (tree : Tree) (effect : Effect) (answer : Answer) (number : Number) → given_out answer ≡ Some number → tree_after tree (Ok effect) answer ≡ effect.tree
@@ -156,6 +167,12 @@ pub shown-after : (old : ServedState) (request : Request) (node : Number) (effec
 shown-after old request node effect answer does stays = λ i. record { map = map_is i; tree = stays i } where
   map_is : names_changed (map_after old.map (place_told request) (given_out answer)) (deed_of request) (name_change (Ok effect) answer) ≡ old.map
   map_is = ap (λ (d : Deed). names_changed (map_after old.map (place_entered d) (given_out answer)) d (name_change (Ok effect) answer)) does
+
+-- nor does a directory that is listed
+pub listed-after : (old : ServedState) (request : Request) (dir : Number) (offset size : ℕ) (effect : Effect) (bytes : List ℕ) → deed_of request ≡ list_dir dir offset size → effect.tree ≡ old.tree → served_after old request (Ok effect) (Buffer bytes) ≡ old
+listed-after old request dir offset size effect bytes does stays = λ i. record { map = map_is i; tree = stays i } where
+  map_is : names_changed (map_after old.map (place_told request) None) (deed_of request) effect.names ≡ old.map
+  map_is = ap (λ (d : Deed). names_changed (map_after old.map (place_entered d) None) d effect.names) does
 
 -- the name of the file is taken
 pub done-after : (old : ServedState) (request : Request) (dir : Number) (name : List ℕ) (effect : Effect) (file : FileId) → TakesPlace request dir name → effect.names ≡ one_lost file →

@@ -17,12 +17,14 @@ use Rattle.checkout.specs.ChangedTree.{attr_of, has_links, is_unlinked, next_fil
 use Rattle.checkout.specs.RenamedTree.{renamed}
 use Rattle.fuse_wire.specs.Request.{nodes, form_of}
 use Rattle.fuse_wire.specs.declared.request.Request.{Request}
-use Rattle.fuse_wire.specs.declared.request.Request.TheVariants.{Lookup, Getattr, Create, Mkdir, Unlink, Rmdir, Rename}
+use Rattle.fuse_wire.specs.declared.request.Request.TheVariants.{Lookup, Getattr, Create, Mkdir, Unlink, Rmdir, Rename, Readdir}
 use Rattle.fuse_wire.specs.declared.form.Form.{Form}
 use Rattle.fuse_wire.specs.declared.form.Form.TheVariants.{AnEntry, AnOpenEntry, Attributes}
 use Rattle.fuse_wire.specs.declared.reply.Answer.{Answer}
-use Rattle.fuse_wire.specs.declared.reply.Answer.TheVariants.{Entry, Opened, Attrs, Done, Error}
+use Rattle.fuse_wire.specs.declared.reply.Answer.TheVariants.{Entry, Opened, Attrs, Done, Buffer, Error}
+use Rattle.fuse_wire.specs.DirectoryEntries.{Dirent, entries_text}
 use Rattle.fuse_ops.specs.Above.{is_at_or_above}
+use Rattle.fuse_ops.specs.Listing.{Range, Lists, range_of}
 
 -- ---- by the tree
 
@@ -36,12 +38,13 @@ pub data NameChange : Type 0 where
   one_moved : (replaced : Option FileId) → NameChange
 
 -- a success: the tree after it; the file of that tree that the answer tells, if any; whether that file's number is
--- counted once more; and what became of the names that there were
+-- counted once more; what became of the names that there were; and what part of a directory the answer lists, if any
 pub record Effect : Type 0 where
   pub tree : Tree
   pub file : Option FileId
   pub counts : Bool
   pub names : NameChange
+  pub lists : Option Range
 
 -- the file under a name in `dir`, which has this kind, or the error if there is no such file
 abbrev pub found_in_dir : Tree → FileId → List ℕ → Option Kind → Result FileId Errno
@@ -57,12 +60,12 @@ found_in tree None name = Err ESTALE
 
 -- a success that answers with an entry for this file and leaves the tree unchanged, or the error
 abbrev pub enters : Tree → Result FileId Errno → Result Effect Errno
-enters tree (Ok file) = Ok (record { tree = tree; file = Some file; counts = true; names = none_lost })
+enters tree (Ok file) = Ok (record { tree = tree; file = Some file; counts = true; names = none_lost; lists = None })
 enters tree (Err errno) = Err errno
 
 -- a success that answers with the attributes of the file that a number names, if it names one, or the error
 abbrev pub shows : Tree → Option FileId → Result Effect Errno
-shows tree (Some file) = Ok (record { tree = tree; file = Some file; counts = false; names = none_lost })
+shows tree (Some file) = Ok (record { tree = tree; file = Some file; counts = false; names = none_lost; lists = None })
 shows tree None = Err ESTALE
 
 -- `dir`, which has this kind, if it is a directory in which a new file may get this name, else the error
@@ -87,6 +90,7 @@ makes tree name kind perm (Ok dir) = Ok (record {
   file = Some (next_file tree);
   counts = true;
   names = none_lost;
+  lists = None;
 })
 makes tree name kind perm (Err errno) = Err errno
 
@@ -107,7 +111,7 @@ unless against (Err errno) = Err errno
 -- a success that takes this name out of a directory, or the error
 abbrev pub takes : Tree → FileId → List ℕ → Result FileId Errno → Result Effect Errno
 takes tree dir name (Ok file) =
-    Ok (record { tree = removed tree dir name; file = None; counts = false; names = one_lost file })
+    Ok (record { tree = removed tree dir name; file = None; counts = false; names = one_lost file; lists = None })
 takes tree dir name (Err errno) = Err errno
 
 -- a success that takes a name out of the directory that a number names, if it names one, or the error
@@ -154,6 +158,7 @@ moves tree dir name to_dir to_name None = Ok (record {
   file = None;
   counts = false;
   names = one_moved (child_of tree to_dir to_name);
+  lists = None;
 })
 moves tree dir name to_dir to_name (Some errno) = Err errno
 
@@ -161,7 +166,7 @@ moves tree dir name to_dir to_name (Some errno) = Err errno
 abbrev pub moves_to : Tree → FileId → List ℕ → FileId → List ℕ → Result FileId Errno → Result Effect Errno
 moves_to tree dir name to_dir to_name (Ok file) =
     if is_there (child_of tree to_dir to_name) file
-    then Ok (record { tree = tree; file = None; counts = false; names = none_lost })
+    then Ok (record { tree = tree; file = None; counts = false; names = none_lost; lists = None })
     else moves tree dir name to_dir to_name (against_replacing tree file (child_of tree to_dir to_name))
 moves_to tree dir name to_dir to_name (Err errno) = Err errno
 
@@ -171,16 +176,36 @@ moves_between tree (Some dir) name (Some to_dir) to_name =
     moves_to tree dir name to_dir to_name (movable tree dir name to_dir)
 moves_between tree dir name to_dir to_name = Err ESTALE
 
+-- ---- a directory that is listed
+
+-- a success that lists part of `dir`, which has this kind, if it is a directory, else the error
+abbrev pub lists_dir : Tree → FileId → ℕ → ℕ → Option Kind → Result Effect Errno
+lists_dir tree dir offset size (Some Dir) = Ok (record {
+  tree = tree;
+  file = None;
+  counts = false;
+  names = none_lost;
+  lists = Some (range_of dir offset size);
+})
+lists_dir tree dir offset size (Some File) = Err ENOTDIR
+lists_dir tree dir offset size None = Err ENOTDIR
+
+-- a success that lists part of the directory that a number names, if it names one, or the error
+abbrev pub lists_from : Tree → Option FileId → ℕ → ℕ → Result Effect Errno
+lists_from tree (Some dir) offset size = lists_dir tree dir offset size (kind_of tree dir)
+lists_from tree None offset size = Err ESTALE
+
 -- ---- what is done
 
 -- what is done for a request: a name in the directory of a number is found, is given to a file that is made, is taken
--- from its file, or moves to another name; or the file of a number is shown
+-- from its file, or moves to another name; the file of a number is shown; or part of the directory of a number is listed
 pub data Deed : Type 0 where
   find_name : (dir : Number) (name : List ℕ) → Deed
   make_file : (dir : Number) (name : List ℕ) (kind : Kind) (perm : Perm) → Deed
   take_name : (dir : Number) (name : List ℕ) (kind : Kind) → Deed
   move_name : (dir : Number) (name : List ℕ) (to_dir : Number) (to_name : List ℕ) → Deed
   show_file : (node : Number) → Deed
+  list_dir : (dir : Number) (offset size : ℕ) → Deed
   -- nothing: the request is not served
   unserved : Deed
 
@@ -193,6 +218,7 @@ deed_of (Mkdir dir name perm) = make_file dir name Dir perm
 deed_of (Unlink dir name) = take_name dir name File
 deed_of (Rmdir dir name) = take_name dir name Dir
 deed_of (Rename dir name to_dir to_name) = move_name dir name to_dir to_name
+deed_of (Readdir dir offset size) = list_dir dir offset size
 deed_of request = unserved
 
 -- the numbers whose files are looked at for a deed
@@ -202,6 +228,7 @@ looked_at (make_file dir name kind perm) = dir ∷ []
 looked_at (take_name dir name kind) = dir ∷ []
 looked_at (move_name dir name to_dir to_name) = dir ∷ to_dir ∷ []
 looked_at (show_file node) = node ∷ []
+looked_at (list_dir dir offset size) = dir ∷ []
 looked_at unserved = []
 
 -- what a deed comes to, if `files` says which file each number names; one row a deed
@@ -212,6 +239,7 @@ done_to tree files (take_name dir name kind) = takes_from tree (against_taking k
 done_to tree files (move_name dir name to_dir to_name) =
     moves_between tree (files dir.0) name (files to_dir.0) to_name
 done_to tree files (show_file node) = shows tree (files node.0)
+done_to tree files (list_dir dir offset size) = lists_from tree (files dir.0) offset size
 done_to tree files unserved = Err ENOSYS
 
 -- the numbers whose files are looked at for a request
@@ -246,12 +274,14 @@ number_errno none_left = ENOSPC
 number_errno at_greatest = EOVERFLOW
 
 -- What the reader of the table says of a file: what forbids to count its number once more, which number may be told,
--- when its attributes may fail to come, and when memory for its number may be refused.
+-- when its attributes may fail to come, when memory for its number may be refused, and by which inode number an entry of
+-- a directory may tell it.
 pub record Numbers : Type 1 where
   pub IsAgainst : FileId → Option NumberFault → Type 0
   pub IsNumber : FileId → ℕ → Type 0
   pub MayFail : FileId → Type 0
   pub MayWant : FileId → Type 0
+  pub IsInode : FileId → ℕ → Type 0
 
 -- the answer tells one of these numbers, with the attributes of the file
 pub record Tells (request : Request) (tree : Tree) (file : FileId) (IsNumber : ℕ → Type 0)
@@ -289,10 +319,23 @@ AnswersFile numbers request tree (Some file) true names answer =
 AnswersFile numbers request tree (Some file) false names answer = AnswersShown numbers request tree file answer
 AnswersFile numbers request tree None counts names answer = AnswersNone names answer
 
+-- this is an answer with the entries of part of a directory, where `IsInode` says by which inode number an entry may tell
+-- a file; or memory for them was refused
+abbrev pub AnswersListed : (FileId → ℕ → Type 0) → Tree → Range → Answer → Type 0
+AnswersListed IsInode tree range answer =
+    ((entries : List Dirent) × Lists IsInode tree range.dir range.from range.room entries
+    × (answer ≡ Buffer (entries_text entries)))
+    ⊎ (answer ≡ Error ENOMEM)
+
+-- this is an answer to a success, by the part of a directory that it lists, if any
+abbrev pub AnswersEffect : Numbers → Request → Effect → Option Range → Answer → Type 0
+AnswersEffect numbers request effect (Some range) answer = AnswersListed numbers.IsInode effect.tree range answer
+AnswersEffect numbers request effect None answer =
+    AnswersFile numbers request effect.tree effect.file effect.counts effect.names answer
+
 -- this is an answer to a request, by what the request comes to
 abbrev pub Answers : Numbers → Request → Result Effect Errno → Answer → Type 0
-Answers numbers request (Ok effect) answer =
-    AnswersFile numbers request effect.tree effect.file effect.counts effect.names answer
+Answers numbers request (Ok effect) answer = AnswersEffect numbers request effect effect.lists answer
 Answers numbers request (Err errno) answer = answer ≡ Error errno
 
 -- a regular file of the manifest; the backing is asked for such files only

@@ -2,6 +2,7 @@ pub mod Above
 pub mod Answers
 pub mod Changes
 pub mod Gifts
+pub mod Listing
 pub mod Loading
 pub mod Served
 pub mod Soundness

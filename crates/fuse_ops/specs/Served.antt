@@ -1,6 +1,6 @@
 -- What a daemon serves: its numbers and the tree of its checkout; and how a request and its answer change this.
 -- (EdenFS's documents on inode lifetime; libfuse's rules for lookup counts, `fuse_lowlevel.h`.)
-use Rattle.std.specs.Prelude.{◌≡◌, ℕ, max, true, false, List, [], ◌∷◌, MatchOption, Option, Some, None, Result}
+use Rattle.std.specs.Prelude.{◌≡◌, ℕ, ◌<◌, ◌⊎◌, max, true, false, List, [], ◌∷◌, MatchOption, Option, Some, None, Result}
 use Rattle.std.specs.Option.{option_map_or}
 use Rattle.std.specs.List.{AllByRecursion}
 use Rattle.eden_base.specs.declared.number.FileId.{FileId}
@@ -13,7 +13,7 @@ use Rattle.fuse_wire.specs.declared.request.Request.{Request}
 use Rattle.fuse_wire.specs.declared.item.Item.{Item}
 use Rattle.fuse_wire.specs.declared.reply.Answer.{Answer}
 use Rattle.eden_base.specs.declared.errno.Errno.{Errno}
-use Rattle.entry_table.specs.Entries.{IsFileOf, entry_at}
+use Rattle.entry_table.specs.Entries.{IsFileOf, count_of, entry_at}
 use Rattle.inode_map.specs.InodeMap.{MapState, map_of, new_map, attr_of, give_fault, given, number_given, forgotten, unlinked, relinked}
 use Rattle.entry_table.specs.declared.kept.Kept.{Kept}
 use Rattle.inode_map.specs.declared.inode_map.GiveFault.{GiveFault}
@@ -80,20 +80,37 @@ IsUnloaded served file =
     IsBacked served.tree file
     × ((n : ℕ) → IsFileOf served.tree served.map.entries n file → attr_of served.map.loaded n ≡ None)
 
--- how a daemon reads the table: its map says which number a place has; its backing may fail for a file that isn't
--- loaded; and only a new number takes memory
+-- a number is live for a daemon: it is the root's, or the kernel holds it, as far as the daemon knows
+abbrev pub IsLive : ServedState → ℕ → Type 0
+IsLive served n = (n ≡ 1) ⊎ (0 < count_of served.map.entries n)
+
+-- the inode number that an entry tells of a file of which no number is live (libfuse's `FUSE_UNKNOWN_INO`)
+abbrev pub unknown_inode : ℕ
+unknown_inode = 4294967295
+
+-- the inode number by which an entry tells a file: the file's live number, if it has one
+abbrev pub IsInode : ServedState → FileId → ℕ → Type 0
+IsInode served file n =
+    (IsLive served n × IsFileOf served.tree served.map.entries n file)
+    ⊎ ((n ≡ unknown_inode)
+    × ((m : ℕ) → IsLive served m → IsFileOf served.tree served.map.entries m file → ⊥))
+
+-- how a daemon reads the table: its map says which number a place has, and which a file; its backing may fail for a file
+-- that isn't loaded; and only a new number takes memory
 abbrev pub numbers_at : ServedState → Option (Number × List ℕ) → Numbers
 numbers_at served (Some (dir, name)) = record {
   IsAgainst = λ file fault. fault ≡ number_fault (give_fault served.map dir.0 name);
   IsNumber = λ file n. n ≡ (number_given served.map dir.0 name).0;
   MayFail = IsUnloaded served;
   MayWant = λ file. entry_at served.map.entries dir.0 name ≡ None;
+  IsInode = IsInode served;
 }
 numbers_at served None = record {
   IsAgainst = λ file fault. ⊥;
   IsNumber = λ file n. ⊥;
   MayFail = IsUnloaded served;
   MayWant = λ file. ⊥;
+  IsInode = IsInode served;
 }
 
 -- the map after an answer: the number that is given out, if any, is counted once more

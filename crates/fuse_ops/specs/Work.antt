@@ -4,14 +4,16 @@ use Rattle.std.specs.Option.{option_map}
 use Rattle.eden_base.specs.Limits.{end_of_numbers}
 use Rattle.eden_base.specs.Name.{IsNameText}
 use Rattle.eden_base.specs.declared.attr.Kind.{Kind}
+use Rattle.eden_base.specs.declared.attr.Kind.TheVariants.{Dir, File}
 use Rattle.eden_base.specs.declared.attr.Perm.{Perm}
 use Rattle.eden_base.specs.declared.attr.Attr.{Attr}
 use Rattle.eden_base.specs.declared.errno.Errno.{Errno}
-use Rattle.eden_base.specs.declared.errno.Errno.TheVariants.{ESTALE, ENOSPC, EOVERFLOW, EIO, ENOMEM}
+use Rattle.eden_base.specs.declared.errno.Errno.TheVariants.{ESTALE, ENOTDIR, ENOSPC, EOVERFLOW, EIO, ENOMEM}
 use Rattle.eden_base.specs.declared.number.FileId.{FileId}
 use Rattle.eden_base.specs.declared.number.Number.{Number}
-use Rattle.manifest.specs.Tree.{Tree, IsTree, child_of, file_of}
+use Rattle.manifest.specs.Tree.{Tree, IsTree, StandsIn, child_of, file_of, kind_of, root}
 use Rattle.checkout.specs.ChangedTree.{attr_of, next_file, created, removed}
+use Rattle.fuse_wire.specs.DirectoryEntries.{Dirent, Listed, entries_text}
 use Rattle.fuse_wire.specs.declared.reply.Answer.{Answer}
 use Rattle.fuse_wire.specs.declared.reply.Answer.TheVariants.{Entry, Attrs, Done, Error}
 use Rattle.inode_map.specs.InodeMap.{IsGiveRefusal, give_fault, given, number_given}
@@ -19,8 +21,9 @@ use Rattle.inode_map.specs.declared.inode_map.GiveFault.{GiveFault}
 use Rattle.inode_map.specs.declared.inode_map.GiveFault.TheVariants.{NoNumber, TooMany, NoMemory}
 use Rattle.checkout.specs.RenamedTree.{renamed}
 use Rattle.entry_table.specs.Entries.{IsFileOf}
-use Rattle.fuse_ops.specs.Answers.{one_moved, Effect, found_in, free_in, unless, movable, against_replacing, is_there, moves_between, move_name}
-use Rattle.fuse_ops.specs.Served.{ServedState, IsLocated, IsUnloaded, plain, name_taken, name_moved, names_changed}
+use Rattle.fuse_ops.specs.Answers.{AnswersListed, one_moved, Effect, found_in, free_in, unless, movable, against_replacing, is_there, moves_between, move_name}
+use Rattle.fuse_ops.specs.Listing.{IsEnd, IsFirstEntry, Lists, range_of}
+use Rattle.fuse_ops.specs.Served.{ServedState, IsInode, IsLocated, IsUnloaded, plain, name_taken, name_moved, names_changed}
 use Rattle.fuse_ops.specs.declared.served.Found.{Found}
 use Rattle.fuse_ops.specs.declared.served.Linkage.{Linkage}
 use Rattle.fuse_ops.specs.declared.served.Linkage.TheVariants.{Linked, Unlinked}
@@ -99,6 +102,46 @@ pub record Shows (served : ServedState) (node : Number) (answer : Answer) : Type
   pub file : Option FileId
   pub located : IsLocated served node.0 file
   pub shows : ShowsFile served node file answer
+
+-- this is an answer with part of a directory, which has this kind, or the error for a file that is no directory
+abbrev pub ListsKind : ServedState → FileId → ℕ → ℕ → Option Kind → Answer → Type 0
+ListsKind served dir offset size (Some Dir) answer =
+    AnswersListed (IsInode served) served.tree (range_of dir offset size) answer
+ListsKind served dir offset size (Some File) answer = answer ≡ Error ENOTDIR
+ListsKind served dir offset size None answer = answer ≡ Error ENOTDIR
+
+-- this is an answer with part of the directory that a number names, if it names one
+abbrev pub ListsFile : ServedState → Option FileId → ℕ → ℕ → Answer → Type 0
+ListsFile served (Some dir) offset size answer =
+    ListsKind served dir offset size (kind_of served.tree dir) answer
+ListsFile served None offset size answer = answer ≡ Error ESTALE
+
+-- this is an answer to a READDIR
+pub record ListsDir (served : ServedState) (dir : Number) (offset size : ℕ) (answer : Answer) : Type 0 where
+  pub dir_file : Option FileId
+  pub located : IsLocated served dir.0 dir_file
+  pub lists : ListsFile served dir_file offset size answer
+
+-- this is the first entry of a directory from a position on, if there is one
+abbrev pub IsNextEntry : ServedState → FileId → ℕ → Option Dirent → Type 0
+IsNextEntry served dir from (Some entry) = IsFirstEntry (IsInode served) served.tree dir from entry
+IsNextEntry served dir from None = IsEnd served.tree dir from
+
+-- the bytes are those of the entries of a directory from a position on, as many as have room
+pub record IsFilled (served : ServedState) (dir : FileId) (from : ℕ) (listing : Listed) : Type 0 where
+  pub entries : List Dirent
+  pub lists : Lists (IsInode served) served.tree dir from listing.room entries
+  pub bytes : listing.bytes ≡ entries_text entries
+
+-- the file stands directly above a directory, as the root does above itself
+abbrev pub IsAbove : Tree → FileId → FileId → Type 0
+IsAbove tree dir file = StandsIn tree.links dir file ⊎ ((dir ≡ root) × (file ≡ root))
+
+-- a number names the file that stands directly above a directory
+pub record NamesAbove (served : ServedState) (dir : FileId) (n : ℕ) : Type 0 where
+  pub file : FileId
+  pub names : IsFileOf served.tree served.map.entries n file
+  pub above : IsAbove served.tree dir file
 
 -- the next number is not made ready for this cause: no number is left, or memory was refused
 abbrev pub IsNextRefusal : ℕ → Errno → Type 0

@@ -15,6 +15,7 @@ ghost use Rattle.fuse_ops.specs.Served.{new_served, served_of, forgotten_all, Is
 ghost use Rattle.fuse_ops.specs.Soundness.{IsSound, AreRemembered, AreLoaded};
 ghost use Rattle.fuse_ops.specs.Work.{Finds, Takes, lacks_name};
 
+mod listing;
 mod lookup;
 mod moves;
 mod names;
@@ -177,6 +178,7 @@ impl Served {
             Request::Mkdir { dir, name, perm } => Some(self.make_dir(alloc, *dir, name, *perm)),
             Request::Unlink { dir, name } => Some(self.unlink(*dir, name)),
             Request::Rmdir { dir, name } => Some(self.remove_dir(*dir, name)),
+            Request::Readdir { dir, offset, size } => Some(self.list(alloc, *dir, *offset, *size)),
             Request::Forget(item) => {
                 self.forget(*item);
                 None

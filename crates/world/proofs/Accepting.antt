@@ -4,17 +4,18 @@ use Rattle.std.specs.Option.{option_map_or}
 use Rattle.std.proofs.lemmas.Bool.Decides.{nat_tests}
 use Rattle.eden_base.specs.declared.attr.Attr.{Attr}
 use Rattle.eden_base.specs.declared.attr.Kind.{Kind}
+use Rattle.eden_base.specs.declared.attr.Kind.TheVariants.{Dir, File}
 use Rattle.eden_base.specs.declared.attr.Perm.{Perm}
 use Rattle.eden_base.specs.declared.errno.Errno.{Errno}
-use Rattle.eden_base.specs.declared.errno.Errno.TheVariants.{ESTALE, EIO, ENOMEM, ENOSYS}
+use Rattle.eden_base.specs.declared.errno.Errno.TheVariants.{ESTALE, ENOTDIR, EIO, ENOMEM, ENOSYS}
 use Rattle.eden_base.specs.declared.number.FileId.{FileId}
 use Rattle.eden_base.specs.declared.number.Number.{Number}
-use Rattle.manifest.specs.Tree.{Tree}
+use Rattle.manifest.specs.Tree.{Tree, kind_of}
 use Rattle.fuse_wire.specs.Request.{form_of}
 use Rattle.fuse_wire.specs.Form.{belongs}
 use Rattle.fuse_wire.specs.Given.{given_out}
 use Rattle.fuse_wire.specs.declared.form.Form.{Form}
-use Rattle.fuse_wire.specs.declared.form.Form.TheVariants.{AnEntry, AnOpenEntry, Attributes, NoValue}
+use Rattle.fuse_wire.specs.declared.form.Form.TheVariants.{AnEntry, AnOpenEntry, Attributes, NoValue, ABuffer}
 use Rattle.fuse_wire.specs.declared.request.Request.{Request}
 use Rattle.fuse_wire.specs.declared.reply.Answer.{Answer}
 use Rattle.fuse_wire.specs.declared.reply.Answer.TheVariants.{Done, Error}
@@ -23,11 +24,11 @@ use Rattle.entry_table.specs.Entries.{entry_at, stands_at, number_of_kept}
 use Rattle.entry_table.specs.declared.kept.Kept.{Kept}
 use Rattle.entry_table.proofs.EntryLemmas.{numbers-bound, numbers-entry, entry_of-first}
 use Rattle.inode_map.specs.InodeMap.{number_given}
-use Rattle.fuse_ops.specs.Answers.{NumberFault, number_errno, Effect, enters, shows, makes, takes, takes_from, moves_between, found_in, free_in, unless, against_taking, told_as, AnswersCounted, Answers, Deed, find_name, make_file, take_name, move_name, show_file, unserved, deed_of, done_to}
+use Rattle.fuse_ops.specs.Answers.{NumberFault, number_errno, Effect, enters, shows, lists_dir, lists_from, makes, takes, takes_from, moves_between, found_in, free_in, unless, against_taking, told_as, AnswersCounted, Answers, Deed, find_name, make_file, take_name, move_name, show_file, list_dir, unserved, deed_of, done_to}
 use Rattle.fuse_ops.specs.Served.{ServedState, numbers_at, place_told, IsLegal}
 use Rattle.fuse_ops.specs.Soundness.{IsSound}
 use Rattle.fuse_ops.proofs.Movable.{by-move}
-use Rattle.fuse_ops.proofs.Shapes.{TellsEntry, find-tells, make-tells, show-form, take-form, move-form}
+use Rattle.fuse_ops.proofs.Shapes.{TellsEntry, find-tells, make-tells, show-form, list-form, take-form, move-form}
 
 -- the broker takes this answer to an ask of this form
 abbrev pub IsTakenAs : Form → Answer → Type 0
@@ -112,6 +113,17 @@ module _ (served : ServedState) (request : Request) (answer : Answer) (sound : I
   show_in tree (Some file) form (inr (is, may)) = error-taken (form_of request) answer EIO is
   show_in tree None form a = error-taken (form_of request) answer ESTALE a
 
+  -- the answer that lists part of a directory is taken
+  list_dir_in : (tree : Tree) (dir : FileId) (offset size : ℕ) (kind : Option Kind) → form_of request ≡ ABuffer → Legal (lists_dir tree dir offset size kind) → Taken
+  list_dir_in tree dir offset size (Some Dir) form (inl (entries, lists, e)) = subst (λ (f : Form). IsTakenAs f answer) (sym form) (subst (IsTakenAs ABuffer) (sym e) refl)
+  list_dir_in tree dir offset size (Some Dir) form (inr e) = error-taken (form_of request) answer ENOMEM e
+  list_dir_in tree dir offset size (Some File) form a = error-taken (form_of request) answer ENOTDIR a
+  list_dir_in tree dir offset size None form a = error-taken (form_of request) answer ENOTDIR a
+
+  list_in : (tree : Tree) (above : Option FileId) (offset size : ℕ) → form_of request ≡ ABuffer → Legal (lists_from tree above offset size) → Taken
+  list_in tree (Some dir) offset size form a = list_dir_in tree dir offset size (kind_of tree dir) form a
+  list_in tree None offset size form a = error-taken (form_of request) answer ESTALE a
+
   -- A legal answer is taken, by what the request does.
   pub legal-taken : (later : ServedState) → IsLegal served request answer later → IsTakenAs (form_of request) answer
   legal-taken later l = by_deed (deed_of request) refl l.answers where
@@ -121,4 +133,5 @@ module _ (served : ServedState) (request : Request) (answer : Answer) (sound : I
     by_deed (take_name dir name kind) is a = take_from served.tree (against_taking kind served.tree) (l.files dir.0) name (take-form request dir name kind is) a
     by_deed (move_name dir name to_dir to_name) is a = move_in served.tree (l.files dir.0) name (l.files to_dir.0) to_name (move-form request dir name to_dir to_name is) a
     by_deed (show_file node) is a = show_in served.tree (l.files node.0) (show-form request node is) a
+    by_deed (list_dir dir offset size) is a = list_in served.tree (l.files dir.0) offset size (list-form request dir offset size is) a
     by_deed unserved is a = error-taken (form_of request) answer ENOSYS a

@@ -3,35 +3,41 @@
 use Rattle.std.proofs.Common.{◌≡◌, ℕ, ◌+◌, false, List, [], ◌∷◌, Option, Some, None, Result, Ok, Err, refl, sym, ap, ◌∙◌, subst, inl, inr, ◌⊎◌, arith}
 use Rattle.std.specs.List.{AllByRecursion}
 use Rattle.eden_base.specs.declared.attr.Kind.{Kind}
+use Rattle.eden_base.specs.declared.attr.Kind.TheVariants.{Dir, File}
 use Rattle.eden_base.specs.declared.attr.Perm.{Perm}
 use Rattle.eden_base.specs.declared.errno.Errno.{Errno}
 use Rattle.eden_base.specs.declared.errno.Errno.TheVariants.{ESTALE, EIO, ENOMEM}
 use Rattle.eden_base.specs.declared.number.FileId.{FileId}
 use Rattle.eden_base.specs.declared.number.Number.{Number}
-use Rattle.manifest.specs.Tree.{Tree, IsTree, child_of}
+use Rattle.manifest.specs.Tree.{Tree, IsTree, child_of, kind_of}
 use Rattle.checkout.specs.ChangedTree.{is_full_dir, next_file, created, removed}
+use Rattle.fuse_wire.specs.DirectoryEntries.{entries_text}
 use Rattle.fuse_wire.specs.declared.request.Request.{Request}
 use Rattle.fuse_wire.specs.declared.form.Form.{Form}
 use Rattle.fuse_wire.specs.declared.reply.Answer.{Answer}
-use Rattle.fuse_wire.specs.declared.reply.Answer.TheVariants.{Attrs, Done, Error}
+use Rattle.fuse_wire.specs.declared.reply.Answer.TheVariants.{Attrs, Done, Buffer, Error}
 use Rattle.entry_table.specs.Entries.{IsFileOf}
 use Rattle.inode_map.specs.InodeMap.{MapState}
-use Rattle.fuse_ops.specs.Answers.{one_lost, Effect, found_in, free_in, enters, makes, takes, takes_from, moves_between, unless, against_taking, Deed, find_name, make_file, take_name, move_name, show_file, unserved, deed_of, looked_at, looks_at, done_to, comes_to, shows, told_as, telling, Answers, AnswersShown}
+use Rattle.fuse_ops.specs.Answers.{one_lost, Effect, found_in, free_in, enters, makes, takes, takes_from, moves_between, unless, against_taking, Deed, find_name, make_file, take_name, move_name, show_file, list_dir, unserved, deed_of, looked_at, looks_at, done_to, comes_to, shows, lists_dir, lists_from, told_as, telling, Answers, AnswersListed, AnswersShown}
 use Rattle.fuse_ops.specs.Changes.{MayLose, MayMove}
 use Rattle.fuse_ops.specs.Gifts.{served_over}
+use Rattle.fuse_ops.specs.Listing.{Range, range_of}
 use Rattle.fuse_ops.specs.Served.{ServedState, PlainState, plain, place_entered, place_told, name_taken, name_moved, names_changed, numbers_at, served_after, IsLegal}
-use Rattle.world.specs.World.{World, file_named, owed, numbers_of, effect_in, MayAnswer}
+use Rattle.world.specs.World.{World, IsInode, file_named, owed, numbers_of, effect_in, MayAnswer}
 use Rattle.world.specs.Agreement.{Knows}
 use Rattle.world.proofs.Entering.{Answered, backed, enters-worked}
+use Rattle.world.proofs.Inodes.{inode-known}
 use Rattle.world.proofs.Knowing.{live-named, knows-along, knows-plain, kept-knows}
 use Rattle.world.proofs.Placed.{found-number, found-enters, made-number, made-enters}
 use Rattle.world.proofs.Worked.{Worked, worked-from, error-worked}
 use Rattle.fuse_ops.proofs.Keeping.{found-child}
 use Rattle.fuse_ops.proofs.Making.{free-place}
+use Rattle.fuse_ops.proofs.Listings.{lists-wider}
+use Rattle.fuse_ops.proofs.ListReplay.{inode-same}
 use Rattle.fuse_ops.proofs.Looking.{done-same, done-stale, IsNamed, IsUnnamed, all-named}
 use Rattle.fuse_ops.proofs.Movable.{left, gone, by-move, may-move}
 use Rattle.fuse_ops.proofs.MovingLaw.{moving-keeps}
-use Rattle.fuse_ops.proofs.Shapes.{TellsEntry, TakesPlace, MovesPlace, move-moves, moved-after, entered, shown, show-form, find-tells, make-tells, take-takes, take-frees, unless-found, shown-after, done-after}
+use Rattle.fuse_ops.proofs.Shapes.{TellsEntry, TakesPlace, MovesPlace, move-moves, moved-after, entered, shown, listed, listed-after, show-form, find-tells, make-tells, take-takes, take-frees, unless-found, shown-after, done-after}
 use Rattle.fuse_ops.proofs.UnnamingLaw.{unnaming-keeps}
 
 -- what a daemon that answers knows of a world
@@ -104,7 +110,7 @@ done_in w request effect map later came may is so k =
 
 -- the effect of taking a name away
 abbrev taken : Tree → FileId → List ℕ → FileId → Effect
-taken tree above name file = record { tree = removed tree above name; file = None; counts = false; names = one_lost file }
+taken tree above name file = record { tree = removed tree above name; file = None; counts = false; names = one_lost file; lists = None }
 
 take_in : (w : World) (m : MapState) (request : Request) (dir : Number) (name : List ℕ) (against : Tree → FileId → Option Errno) (answer : Answer) (later : ServedState) → Serves w m → TakesPlace request dir name →
     ((tree : Tree) (file : FileId) → against tree file ≡ None → is_full_dir tree file ≡ false) → Succeeds w m request dir (λ tree above. takes_from tree (against tree) above name) answer later
@@ -194,6 +200,41 @@ show_in w m request node answer later s does file at e is came l =
             so = made.makes ∙ ap (λ (a : Answer). plain (served_after (served_over w.tree m) request (Ok (shown w.tree file)) a)) (t.is ∙ form)
                 ∙ ap plain (shown-after (served_over w.tree m) request node (shown w.tree file) told does refl)
 
+-- a request for part of a directory is answered so
+list_in : (w : World) (m : MapState) (request : Request) (dir : Number) (offset size : ℕ) (answer : Answer) (later : ServedState) → Serves w m → deed_of request ≡ list_dir dir offset size →
+    Succeeds w m request dir (λ tree above. lists_from tree above offset size) answer later
+list_in w m request dir offset size answer later s does above at e is came l = in_ (kind_of w.tree above) is where
+  range : Range
+  range = range_of above offset size
+
+  answered : effect_in w request ≡ Ok (listed w.tree range) → Answered w m request (Ok (listed w.tree range)) answer later →
+      AnswersListed (numbers_at (served_over w.tree m) (place_told request)).IsInode w.tree range answer → Worked w request answer later
+  answered comes made (inr told) = subst (λ (a : Answer). Worked w request a later) (sym told)
+      (error-worked w m request (Ok (listed w.tree range)) ENOMEM later s.is_tree s.knows
+      (made.makes ∙ ap (λ (a : Answer). plain (served_after (served_over w.tree m) request (Ok (listed w.tree range)) a)) told)
+      (inr (subst (λ (r : Result Effect Errno). Answers (numbers_of w) request r (Error ENOMEM)) (sym comes) (inr refl))))
+  answered comes made (inl (entries, lists, told)) = subst (λ (a : Answer). Worked w request a later) (sym told)
+      (worked-from w request (Buffer (entries_text entries)) later (Ok (listed w.tree range)) None comes refl
+      (inr (subst (λ (r : Result Effect Errno). Answers (numbers_of w) request r (Buffer (entries_text entries))) (sym comes)
+      (inl (entries, lists-wider (numbers_at (served_over w.tree m) (place_told request)).IsInode (IsInode w) wider w.tree above offset range.room entries lists, refl))))
+      s.is_tree
+      (knows-plain w.tree w.names (λ n. owed w n + 0) later (served_over w.tree m) so
+      (knows-along w.tree w.names (owed w) (λ n. owed w n + 0) (served_over w.tree m) (λ n. omega arith) s.knows))) where
+        wider : (file : FileId) (n : ℕ) → (numbers_at (served_over w.tree m) (place_told request)).IsInode file n → IsInode w file n
+        wider file n inode = inode-known w m s.knows file n (subst (λ (is : FileId → ℕ → Type 0). is file n) (inode-same (served_over w.tree m) (place_told request)) inode)
+
+        so : plain later ≡ plain (served_over w.tree m)
+        so = made.makes ∙ ap (λ (a : Answer). plain (served_after (served_over w.tree m) request (Ok (listed w.tree range)) a)) told
+            ∙ ap plain (listed-after (served_over w.tree m) request dir offset size (listed w.tree range) (entries_text entries) does refl)
+
+  in_ : (kind : Option Kind) → lists_dir w.tree above offset size kind ≡ Ok e → Worked w request answer later
+  in_ (Some Dir) h =
+      let same : listed w.tree range ≡ e = cc in
+      let legal = subst (λ (x : Effect). Legal w m request (Ok x) answer later) (sym same) l in
+      answered (came ∙ ap (λ (x : Effect). Ok x) (sym same)) legal.answered legal.answers
+  in_ (Some File) h = absurd (let none : ⊥ = cc in none)
+  in_ None h = absurd (let none : ⊥ = cc in none)
+
 -- ---- all requests
 
 module _ (w : World) (m : MapState) (request : Request) (files : ℕ → Option FileId) (answer : Answer) (later : ServedState) (s : Serves w m) where
@@ -213,6 +254,7 @@ module _ (w : World) (m : MapState) (request : Request) (files : ℕ → Option 
   success_in (take_name dir name kind) does (n, _) = one_in dir (λ tree above. takes_from tree (against_taking kind tree) above name) (take_in w m request dir name (against_taking kind) answer later s (take-takes request dir name kind does) (take-frees kind)) n
   success_in (move_name dir name to to_name) does (n, (t, _)) = move_in w m request dir name to to_name answer later s (move-moves request dir name to to_name does) files n t
   success_in (show_file node) does (n, _) = one_in node shows (show_in w m request node answer later s does) n
+  success_in (list_dir dir offset size) does (n, _) = one_in dir (λ tree above. lists_from tree above offset size) (list_in w m request dir offset size answer later s does) n
   success_in unserved does all = λ e is came l. absurd (let none : ⊥ = cc in none)
 
   -- what each number names for the daemon it names in the world

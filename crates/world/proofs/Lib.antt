@@ -8,6 +8,7 @@ mod Orderly
 mod Times
 mod Keeping
 mod Knowing
+mod Inodes
 mod Worked
 mod Entering
 mod Placed

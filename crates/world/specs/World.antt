@@ -23,6 +23,7 @@ use Rattle.fuse_wire.specs.declared.reply.Answer.{Answer}
 use Rattle.fuse_wire.specs.declared.reply.Answer.TheVariants.{Error}
 use Rattle.fuse_wire.specs.declared.reply.Reply.{Reply}
 use Rattle.fuse_ops.specs.Answers.{NumberFault, none_left, at_greatest, Numbers, Effect, looks_at, comes_to, Answers, tree_after, file_told}
+use Rattle.fuse_ops.specs.Served.{unknown_inode}
 use Rattle.broker_core.specs.declared.seat.Seat.{Seat}
 
 -- A world: who serves and at which generation; the last generation; the tree; and the file that each number was given
@@ -140,15 +141,21 @@ IsAgainst world file None = MayBeGiven world file
 abbrev pub IsBacked : World → FileId → Type 0
 IsBacked world file = (kind_of world.tree file ≡ Some File) × (file.0 < length world.manifest.lines + 2)
 
+-- the inode number by which an entry of a directory tells a file: the file's live number, if it has one
+abbrev pub IsInode : World → FileId → ℕ → Type 0
+IsInode world file n =
+    IsNumberOf world file n ⊎ ((n ≡ unknown_inode) × ((m : ℕ) → IsNumberOf world file m → ⊥))
+
 -- What the world knows of numbers, for the table of answers. Failing backings and lack of memory are no part of the
--- world. So EIO may come for every file that is backed, and ENOMEM for every number that is given out and every name that
--- moves, unless an earlier error of the row comes.
+-- world. So EIO may come for every file that is backed, and ENOMEM for every number that is given out, every name that
+-- moves and every directory that is listed, unless an earlier error of the row comes.
 abbrev pub numbers_of : World → Numbers
 numbers_of world = record {
   IsAgainst = IsAgainst world;
   IsNumber = MayNumber world;
   MayFail = IsBacked world;
   MayWant = λ file. Unit {0};
+  IsInode = IsInode world;
 }
 
 -- the effect of a request, or its error, if its numbers name the files that they were given out for

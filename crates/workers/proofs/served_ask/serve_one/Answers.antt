@@ -1,23 +1,18 @@
--- Both owners of an answer get the one that was applied.
-use Rattle.workers.proofs.Owned.{owned-outcome}
+-- Both owners of an answer get one that is legal where the one that was applied is.
+use Rattle.workers.proofs.Owned.{owned-replay, owned-loads, owned-fails, owned-asks}
 use Rattle.workers.proofs.served_ask.serve_one.Goals as goal
 
 pub returns-clause-replay : goal.returns-clause-replay
 returns-clause-replay g c =
-    let same = owned-outcome c.args.served.now c.args.ask.what c.apply.result c.twice-answer.result.0 c.apply.new.self c.apply.ensures.replay c.twice-answer.ensures.first in
-    rw same c.apply.ensures.replay
+    owned-replay c.apply.result c.twice-answer.result.0 c.twice-answer.ensures.first c.args.served.now c.args.ask.what c.apply.new.self c.apply.ensures.replay
 
 pub returns-clause-loads : goal.returns-clause-loads
 returns-clause-loads g c =
-    let same = owned-outcome c.args.served.now c.args.ask.what c.apply.result c.twice-answer.result.0 c.apply.new.self c.apply.ensures.replay c.twice-answer.ensures.first in
-    rw same c.apply.ensures.loads
+    owned-loads c.apply.result c.twice-answer.result.0 c.twice-answer.ensures.first c.args.served.now.map c.args.ask.what c.apply.new.self.map c.apply.ensures.loads
 
 pub returns-clause-fails : goal.returns-clause-fails
-returns-clause-fails g c =
-    let same = owned-outcome c.args.served.now c.args.ask.what c.apply.result c.twice-answer.result.0 c.apply.new.self c.apply.ensures.replay c.twice-answer.ensures.first in
-    rw same c.apply.ensures.fails
+returns-clause-fails g c = owned-fails c.apply.result c.twice-answer.result.0 c.twice-answer.ensures.first _ _ c.apply.ensures.fails
 
 pub returns-clause-asks : goal.returns-clause-asks
 returns-clause-asks g c =
-    let same = owned-outcome c.args.served.now c.args.ask.what c.apply.result c.twice-answer.result.0 c.apply.new.self c.apply.ensures.replay c.twice-answer.ensures.first in
-    rw same c.apply.ensures.asks
+    owned-asks c.apply.result c.twice-answer.result.0 c.twice-answer.ensures.first c.args.served.now c.args.ask.what _ c.apply.ensures.asks
