@@ -1,3 +1,4 @@
+pub mod Owned
 pub mod Positions
 pub mod ServingLemmas
 pub mod DaemonCalls

@@ -1,5 +1,5 @@
 -- Both owners of what a request is answered get a legal answer: the answer itself, or ENOMEM for a buffer.
-use Rattle.std.proofs.Common.{◌≡◌, ℕ, Bool, true, false, List, Option, Some, None, refl, ap, subst}
+use Rattle.std.proofs.Common.{◌≡◌, ℕ, Bool, List, Option, Some, None, ap, subst}
 use Rattle.eden_base.specs.declared.errno.Errno.TheVariants.{EIO, ENOMEM}
 use Rattle.fuse_wire.specs.declared.reply.Answer.{Answer}
 use Rattle.fuse_wire.specs.declared.reply.Answer.TheVariants.{Buffer, Error}
