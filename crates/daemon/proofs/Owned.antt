@@ -1,6 +1,5 @@
 -- What an owner of an answer gets is a legal answer, and EIO exactly if the answer is.
 use Rattle.std.proofs.Common.{◌≡◌, Bool, Some, ap}
-use Rattle.std.specs.Prelude.{◌↔◌}
 use Rattle.eden_base.specs.declared.errno.Errno.TheVariants.{EIO}
 use Rattle.fuse_wire.specs.Sharing.{StandsFor}
 use Rattle.fuse_wire.specs.declared.reply.Answer.{Answer}
