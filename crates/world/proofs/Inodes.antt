@@ -1,5 +1,5 @@
 -- The inode numbers that a daemon's entries of a directory tell are those of the world.
-use Rattle.std.proofs.Common.{◌≡◌, ℕ, sym, inl, inr, ◌⊎◌, arith}
+use Rattle.std.proofs.Common.{◌≡◌, ℕ, inl, inr, ◌⊎◌, arith}
 use Rattle.eden_base.specs.declared.number.FileId.{FileId}
 use Rattle.eden_base.proofs.NumberTests.{eq-or}
 use Rattle.entry_table.specs.Entries.{count_of}
