@@ -42,6 +42,7 @@ mod AttendingOn
 mod Refusing
 mod Coming
 mod Events
+mod Listings
 pub mod InTurn
 pub mod WholeRun
 mod Journals

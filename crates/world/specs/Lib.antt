@@ -3,6 +3,7 @@ pub mod Step
 pub mod Beginning
 pub mod World
 pub mod Handing
+pub mod Listings
 pub mod Attending
 pub mod Agreement
 pub mod Laws

@@ -1,10 +1,12 @@
 //! A list of events from the beginning of a world.
 ghost use Rattle.std.specs.Prelude.{IfOk};
+ghost use Rattle.world.specs.Listings.{ListingsAreWhole};
 ghost use Rattle.world.specs.State.{started};
 ghost use Rattle.std.specs.List.{AllByRecursion};
 ghost use Rattle.world.specs.Attending.{RefusalsMayCome};
 ghost use Rattle.world.specs.Step.{Steps};
-ghost use Rattle.world.specs.Agreement.{world_after, Matches, IsRunOfMoves, CountsAreOwed, NumbersNameTheirFirstFile, OneDaemonForEachGeneration, DataIsCurrent, IsGoodForget, RepliesAreAnswered};
+ghost use Rattle.world.specs.World.{first_world};
+ghost use Rattle.world.specs.Agreement.{world_after, all_moves, Matches, IsRunOfMoves, CountsAreOwed, NumbersNameTheirFirstFile, OneDaemonForEachGeneration, DataIsCurrent, IsGoodForget, RepliesAreAnswered};
 
 use crate::event::Event;
 use crate::outcome::Outcome;
@@ -44,6 +46,11 @@ pub fn run(
         RepliesAreAnswered (world_after manifest.now events.now r.1.items) (started manifest.now limit) events.now r.1.items r.0) }
     ensures no_bad_forget { IfOk result (λ r.
         AllByRecursion (AllByRecursion IsGoodForget) r.1.items) }
+
+    // A listing of a directory, whatever happens between its READDIRs, gives each file once that stays there, and none
+    // twice.
+    ensures listings_are_whole { IfOk result (λ r.
+        ListingsAreWhole (first_world manifest.now) (all_moves (first_world manifest.now) events.now r.1.items)) }
 
     // No take or post is refused as Ended, Stale or NotAsked, and no claim is refused as Unanswered.
     ensures refusals_may_come { IfOk result (λ r. RefusalsMayCome events.now r.1.items) }

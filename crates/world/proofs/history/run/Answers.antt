@@ -3,6 +3,7 @@ use Rattle.std.proofs.Common.{subst}
 use Rattle.world.specs.Agreement.{Matches}
 use Rattle.world.specs.State.{State, started}
 use Rattle.world.specs.World.{first_world}
+use Rattle.world.proofs.Listings.{listings-whole}
 use Rattle.world.proofs.WholeRun.{Ran, match-agrees, match-counts, match-names, match-current, steps-matched, posters-answered}
 use Rattle.world.proofs.history.run.Goals as goal
 
@@ -11,6 +12,9 @@ whole c = steps-matched (first_world c.args.manifest.now) c.in_ok-world.world c.
 
 pub returns-clause-events_are_a_run_of_moves : goal.returns-clause-events_are_a_run_of_moves
 returns-clause-events_are_a_run_of_moves c = record { run = (whole c).run; agrees = match-agrees _ _ (whole c).matches.follows }
+
+pub returns-clause-listings_are_whole : goal.returns-clause-listings_are_whole
+returns-clause-listings_are_whole c = listings-whole (first_world c.args.manifest.now) _ (whole c).run
 
 pub returns-clause-matches : goal.returns-clause-matches
 returns-clause-matches c = (whole c).matches
