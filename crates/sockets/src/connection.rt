@@ -96,7 +96,8 @@ impl<'a, R: Clock> Connection<'a, R> {
         write_frame_to(&mut self.writer, &mut self.text, frame)
     }
 
-    /// Takes the memory of a Post that was read here back, for the next frame.
+    /// Takes the memory of a Post that was read here back, for the next frame. That of a buffer goes on to the kernel, so
+    /// other memory takes its place here. Where that is refused, the next frames take theirs as they come.
     pub fn give_back(&mut self, frame: Frame) {
         if let Frame::Post {
             generation: _,
@@ -104,6 +105,11 @@ impl<'a, R: Clock> Connection<'a, R> {
         } = frame
         {
             if let Some(body) = reply.into_vec() {
+                self.body = body;
+            }
+        }
+        if self.body.capacity() < MAX_SEAT_TEXT {
+            if let Ok(body) = Vec::with_capacity(self.alloc, MAX_SEAT_TEXT) {
                 self.body = body;
             }
         }
