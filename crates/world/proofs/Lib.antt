@@ -42,7 +42,7 @@ mod AttendingOn
 mod Refusing
 mod Coming
 mod Events
-mod Listings
+pub mod Listings
 pub mod InTurn
 pub mod WholeRun
 mod Journals

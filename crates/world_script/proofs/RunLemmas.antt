@@ -7,8 +7,9 @@ use Rattle.manifest.specs.Manifest.{Manifest}
 use Rattle.world.specs.State.{State, started}
 use Rattle.world.specs.Step.{Steps}
 use Rattle.world.specs.World.{first_world}
-use Rattle.world.specs.Agreement.{Matches, world_after}
+use Rattle.world.specs.Agreement.{Matches, all_moves, world_after}
 use Rattle.daemon.specs.declared.happened.Happened.{Happened}
+use Rattle.world.proofs.Listings.{listings-whole}
 use Rattle.world.proofs.WholeRun.{match-agrees, match-counts, match-names, match-current, steps-matched, posters-answered}
 use Rattle.world.specs.declared.event.Event.{Event}
 use Rattle.world_script.specs.declared.program_fault.ProgramFault.{ProgramFault}
@@ -39,6 +40,7 @@ promised manifest limit events outcomes last matches steps =
       handed_data_is_current = match-current (world_after manifest events outcomes) last ran.matches;
       replies_are_answered = λ way. posters-answered (first_world manifest) (started manifest limit) events outcomes last matches way;
       no_bad_forget = ran.forgets;
+      listings_are_whole = listings-whole (first_world manifest) (all_moves (first_world manifest) events outcomes) ran.run;
       refusals_may_come = ran.refusals;
     }
 

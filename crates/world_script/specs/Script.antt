@@ -10,6 +10,7 @@ use Rattle.world.specs.Step.{Step}
 use Rattle.world.specs.World.{IsRun, first_world}
 use Rattle.world.specs.Agreement.{all_moves, world_after, Matches, IsRunOfMoves, CountsAreOwed, NumbersNameTheirFirstFile, OneDaemonForEachGeneration, DataIsCurrent, RepliesAreAnswered, IsGoodForget}
 use Rattle.world.specs.Attending.{RefusalsMayCome}
+use Rattle.world.specs.Listings.{ListingsAreWhole}
 use Rattle.world.specs.declared.event.Event.{Event}
 use Rattle.daemon.specs.declared.happened.Happened.{Happened}
 use Rattle.world_script.specs.Parts.{IsSplit, SaysEvents}
@@ -65,6 +66,10 @@ pub record IsPromised (manifest : Manifest) (limit : ℕ) (events : List Event)
       RepliesAreAnswered (world_after manifest events outcomes) (started manifest limit) events outcomes last
   -- no forget was bad, or of the root
   pub no_bad_forget : AllByRecursion (AllByRecursion IsGoodForget) outcomes
+  -- of a listing of a directory by any READDIRs, whatever happened between them, no entry is there twice, and each file
+  -- that stayed in the directory is there if nothing was left at its end
+  pub listings_are_whole :
+      ListingsAreWhole (first_world manifest) (all_moves (first_world manifest) events outcomes)
   -- no take or post was refused as Ended, Stale or NotAsked, and no claim as Unanswered
   pub refusals_may_come : RefusalsMayCome events outcomes
 
