@@ -12,7 +12,8 @@ use Rattle.fuse_wire.specs.DirectoryEntries.{Dirent}
 use Rattle.fuse_wire.specs.declared.request.Ask.{Ask}
 use Rattle.fuse_wire.specs.declared.request.Request.{Request}
 use Rattle.fuse_wire.specs.declared.request.Request.TheVariants.{Readdir}
-use Rattle.fuse_wire.specs.declared.reply.Answer.TheVariants.{Entry, Opened, Attrs, Done, Buffer, Error}
+use Rattle.fuse_wire.specs.declared.reply.Answer.{Answer}
+use Rattle.fuse_wire.specs.declared.reply.Answer.TheVariants.{Buffer}
 use Rattle.fuse_ops.specs.Answers.{lists_dir, lists_from, Answers}
 use Rattle.fuse_ops.specs.Listing.{is_child, Lists}
 use Rattle.world.specs.World.{World, IsInode, Move, issue, issue_item, work, work_item, accept, deliver, mount, claim, end, MayAnswer, MayMove, MayWork, IsRun, numbers_of, is_asked, after}
@@ -119,12 +120,9 @@ module _ (world : World) (unique : ℕ) (bytes : List ℕ) (dir : FileId) (from 
     works e m = subst (λ (p : Option Ask). MayWork world p (Buffer bytes)) e m
 
 move-gives : (world : World) (move : Move) → MayMove world move → GivesIfAsked world move
-move-gives world (work unique (Buffer bytes)) may = λ dir from size asked. may-give world unique bytes dir from size asked (first_where (is_asked unique) world.asks) asked.asked may refl
-move-gives world (work unique (Entry number attr)) may = tt
-move-gives world (work unique (Opened number attr)) may = tt
-move-gives world (work unique (Attrs number attr)) may = tt
-move-gives world (work unique Done) may = tt
-move-gives world (work unique (Error errno)) may = tt
+move-gives world (work unique answer) may = λ bytes dir from size is asked.
+    let given = may-give world unique bytes dir from size asked (first_where (is_asked unique) world.asks) asked.asked (subst (λ (a : Answer). MayMove world (work unique a)) is may) refl in
+    (given.0, subst (λ (a : Answer). GivesEntries world unique a dir from given.0) (sym is) given.1)
 move-gives world (issue ask) may = tt
 move-gives world (issue_item item) may = tt
 move-gives world (work_item item) may = tt

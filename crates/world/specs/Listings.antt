@@ -38,9 +38,10 @@ Gives world move dir from entries = ⊥
 
 -- where a READDIR is answered by bytes, they are those of entries
 abbrev pub GivesIfAsked : World → Move → Type 0
-GivesIfAsked world (work unique (Buffer bytes)) =
-    (dir : FileId) (from size : ℕ) → IsAskedFrom world unique dir from size →
-    (entries : List Dirent) × GivesEntries world unique (Buffer bytes) dir from entries
+GivesIfAsked world (work unique answer) =
+    (bytes : List ℕ) (dir : FileId) (from size : ℕ) → answer ≡ Buffer bytes →
+    IsAskedFrom world unique dir from size →
+    (entries : List Dirent) × GivesEntries world unique answer dir from entries
 GivesIfAsked world move = Unit {0}
 
 -- so it is at each move of a run
