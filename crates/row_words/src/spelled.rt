@@ -1,7 +1,7 @@
 //! Requests, answers and their parts, spelled as scripts write and print them (docs/SCRIPTS.md):
 //!
 //! `lookup N NAME`, `create N MODE NAME`, `mkdir N MODE NAME`, `unlink N NAME`, `rmdir N NAME`, `rename N NEWDIR OLD/NEW`,
-//! `getattr N`, `other OPCODE N`, `forget N K`, and `forgets N K ..` for a batch of forgets;
+//! `getattr N`, `readdir N OFFSET SIZE`, `other OPCODE N`, `forget N K`, and `forgets N K ..` for a batch of forgets;
 //! `entry M KIND PERM SIZE NLINK`, `opened ..`, `attr ..`, `done`, `buffer BYTES` and `error ERRNO`.
 //!
 //! A request or an answer is the last of a call's words. What reads it ends the reading.
@@ -69,12 +69,13 @@ enum RequestKind {
     Mkdir,
     Rename,
     Getattr,
+    Readdir,
     Other,
     Forget,
     Forgets,
 }
 
-static REQUEST_KINDS: [(&str, RequestKind); 10] = [
+static REQUEST_KINDS: [(&str, RequestKind); 11] = [
     ("lookup", RequestKind::Named(NamedKind::Lookup)),
     ("unlink", RequestKind::Named(NamedKind::Unlink)),
     ("rmdir", RequestKind::Named(NamedKind::Rmdir)),
@@ -82,6 +83,7 @@ static REQUEST_KINDS: [(&str, RequestKind); 10] = [
     ("mkdir", RequestKind::Mkdir),
     ("rename", RequestKind::Rename),
     ("getattr", RequestKind::Getattr),
+    ("readdir", RequestKind::Readdir),
     ("other", RequestKind::Other),
     ("forget", RequestKind::Forget),
     ("forgets", RequestKind::Forgets),
@@ -237,6 +239,17 @@ fn read_getattr(words: &mut Words<'_>) -> Result<Request, RowFault>
     Ok(Request::Getattr { node })
 }
 
+/// Reads the words behind `readdir`.
+fn read_readdir(words: &mut Words<'_>) -> Result<Request, RowFault>
+    ensures sendable { IfOk result IsSendable }
+{
+    let dir = Number(words.number());
+    let offset = words.number();
+    let size = read_u32(words);
+    words.end()?;
+    Ok(Request::Readdir { dir, offset, size })
+}
+
 /// Reads the words behind `other`.
 #[tactic(auto, unfolding(fuse_wire::specs::Request::opcode_of))]
 fn read_other(words: &mut Words<'_>) -> Result<Request, RowFault>
@@ -351,6 +364,7 @@ pub fn read_request(alloc: Global, words: &mut Words<'_>) -> Result<Request, Row
         RequestKind::Mkdir => read_made(alloc, false, words),
         RequestKind::Rename => read_move(alloc, words),
         RequestKind::Getattr => read_getattr(words),
+        RequestKind::Readdir => read_readdir(words),
         RequestKind::Other => read_other(words),
         RequestKind::Forget => read_forget(words),
         RequestKind::Forgets => read_forgets(alloc, words),
@@ -443,6 +457,12 @@ fn tell_of_number(output: &mut Output, request: &Request) {
         Request::Getattr { node } => {
             output.word("getattr");
             output.number(node.0);
+        }
+        Request::Readdir { dir, offset, size } => {
+            output.word("readdir");
+            output.number(dir.0);
+            output.number(*offset);
+            output.number(u64::from(*size));
         }
         Request::Other { opcode, node } => {
             output.word("other");
