@@ -3,6 +3,8 @@
 It knows nothing of refused memory, of a backing that fails, and of limits. Models make their rows with it.
 """
 PART = 4096
+# What stands for the number of a file that has none, and the most bytes that an answer may have.
+UNKNOWN, MOST = 4294967295, 65512
 
 
 class Refused(Exception):
@@ -71,6 +73,11 @@ class Served:
         number = self.number_of[file]
         self.counts[number] += 1
         return number
+
+    def live_number(self, file):
+        """Returns the number by which a file is counted, or UNKNOWN."""
+        number = self.number_of.get(file)
+        return number if number == 1 or self.counts.get(number) else UNKNOWN
 
     def strike(self):
         """Drops each number that counts 0 and is not kept for another one in its directory."""
@@ -180,6 +187,38 @@ def rename(served, number, to_number, names):
     return "done"
 
 
+def entries_of(served, directory):
+    """Returns what stands in a directory: the position, the file and the name of each entry."""
+    if served.is_gone(directory):
+        return []
+    above = served.places[directory][0] if directory != 1 else 1
+    children = sorted((file, name) for (parent, name), file in served.links.items() if parent == directory)
+    return [(0, directory, "."), (1, above, ".."), *((file, file, name) for file, name in children)]
+
+
+def entry_length(name):
+    """Returns how many bytes an entry has."""
+    return (24 + len(name.encode()) + 7) // 8 * 8
+
+
+def listed(served, number, offset, size):
+    """Returns what a directory lists: of each entry the number, the next offset, the kind and the name."""
+    entries, room = [], min(size, MOST)
+    for position, file, name in entries_of(served, is_directory(served, number)):
+        if position < offset:
+            continue
+        room -= entry_length(name)
+        if room < 0:
+            break
+        entries.append((served.live_number(file), position + 1, served.kind(file), name))
+    return entries
+
+
+def list_directory(served, number, offset, size):
+    entries = listed(served, number, offset, size)
+    return f"buffer {sum(entry_length(name) for *_, name in entries)}"
+
+
 def numbers_of(words):
     """Returns the numbers that a request is about."""
     if words[0] == "rename":
@@ -209,6 +248,7 @@ def answered(served, words):
         "rmdir": lambda: remove(served, numbers[0], words[2]),
         "rename": lambda: rename(served, *numbers, words[3]),
         "getattr": lambda: f"attr {numbers[0]} {served.attributes(served.numbers[numbers[0]])}",
+        "readdir": lambda: list_directory(served, *map(int, words[1:])),
         "other": lambda: "error ENOSYS",
     }
     try:
