@@ -1,6 +1,6 @@
 -- The words of a text, one after another, and the versions that they say.
 use Rattle.std.proofs.Common.{◌≡◌, ℕ, ◌+◌, ◌==◌, Bool, true, false, cond, not, List, [], ◌∷◌, length, take, drop, nat_lt, Some, None, refl, ap, sym, ◌∙◌, arith}
-use Rattle.std.specs.List.{slice_split, onto_first, position_or_len, before_first, after_first}
+use Rattle.std.specs.List.{onto_first, position_or_len, before_first, after_first}
 use Rattle.std.specs.Option.{option_map, option_and_then}
 use Rattle.std.proofs.lemmas.Bool.Decides.{nat_tests}
 use Rattle.std.proofs.lemmas.List.Splits.{slice_split_first}
