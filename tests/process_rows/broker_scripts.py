@@ -83,6 +83,21 @@ def getattr_of(number):
     return lambda unique: request(3, unique, number, bytes(16))
 
 
+def readdir_of(number, offset, size):
+    body = struct.pack("<QQIIQII", 0, offset, size, 0, 0, 0, 0)
+    return lambda unique: request(28, unique, number, body)
+
+
+def entry_of(number, following, kind, name):
+    """Returns an entry of a directory, whose kind is the type of the system's."""
+    entry = struct.pack("<QQII", number, following, len(name), kind) + name
+    return entry + bytes(-len(entry) % 8)
+
+
+def buffer_of(text):
+    return lambda unique: struct.pack("<IiQ", 16 + len(text), 0, unique) + text
+
+
 def given(number):
     return lambda unique: entry_reply(unique, number)
 
@@ -204,6 +219,32 @@ def each_line_says_what_it_says(room):
     for generation in (1, 2, 3):
         same(daemon.ask("Claim", u64(generation)), ("Claimed", u64(generation + 1)))
         it.comes(*["seat 2"] * (generation == 1))
+
+
+@row
+def a_listing_is_told_by_its_entries(room):
+    """A script is told each entry of a listing. Of bytes that are none, also behind an entry, it is told how many."""
+    entry, other = entry_of(2, 3, 4, b"src"), entry_of(4294967295, 8, 8, b" a\xff ")
+    link = entry_of(2, 3, 10, b"src")
+    answers = (
+        (b"", "listing 0"),
+        (entry, "listing 1", "listed 2 3 dir src"),
+        (entry + other, "listing 2", "listed 2 3 dir src", "listed 4294967295 8 file  a\xff "),
+        (b"abc", "buffer 3"),
+        (entry + other[:-1], "buffer 63"),
+        (entry + link, "buffer 64"),
+        (link + entry, "buffer 64"),
+        (entry + other + bytes(8), "buffer 72"),
+    )
+    it = Course(room, "seat 1", *["ask readdir 1 2 4096"] * len(answers), "seat 2")
+    daemon = it.daemon()
+    it.mounts(daemon, 1)
+    for text, head, *lines in answers:
+        it.asked(daemon, 1, readdir_of(1, 2, 4096))
+        it.posts(daemon, 1, buffer_of(text), f"answer {it.unique} {head}", *lines)
+    same(daemon.ask("Claim", u64(1)), ("Claimed", u64(2)))
+    it.lines.append("seat 2")
+    it.ends(daemon)
 
 
 BAD_LINES = (

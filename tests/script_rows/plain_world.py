@@ -216,7 +216,8 @@ def listed(served, number, offset, size):
 
 def list_directory(served, number, offset, size):
     entries = listed(served, number, offset, size)
-    return f"buffer {sum(entry_length(name) for *_, name in entries)}"
+    lines = (f"listed {file} {following} {kind} {name}" for file, following, kind, name in entries)
+    return "\n".join([f"listing {len(entries)}", *lines])
 
 
 def numbers_of(words):
@@ -310,7 +311,7 @@ class World:
             told = getattr(self, word)(rest)
         except Refused as cause:
             told = f"refused {cause}"
-        return told if isinstance(told, list) else [told]
+        return told if isinstance(told, list) else told.split("\n")
 
     def daemon(self, word):
         if not 1 <= int(word) <= len(self.daemons):

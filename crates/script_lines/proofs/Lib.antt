@@ -1,6 +1,7 @@
 pub mod DigitLemmas
 pub mod GatherLemmas
 pub mod LineLaws
+pub mod ListedLemmas
 pub mod NumberLemmas
 pub mod OctalLemmas
 pub mod PrintLemmas

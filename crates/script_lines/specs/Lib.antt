@@ -3,6 +3,7 @@ pub mod BrokerLine
 pub mod EventLine
 pub mod Gathered
 pub mod Lines
+pub mod Listed
 pub mod Number
 pub mod Printed
 pub mod Words

@@ -17,11 +17,13 @@ use Rattle.fuse_wire.specs.declared.request.Ask.{Ask}
 use Rattle.fuse_wire.specs.declared.reply.Answer.{Answer}
 use Rattle.fuse_wire.specs.declared.reply.Answer.TheVariants.{Entry, Opened, Attrs, Done, Buffer, Error}
 use Rattle.fuse_wire.specs.declared.reply.Reply.{Reply}
+use Rattle.fuse_wire.specs.DirectoryEntries.{Dirent}
 use Rattle.map_image.specs.Versions.{part_len}
 use Rattle.takeover_core.specs.declared.message.Message.{Message}
 use Rattle.takeover_core.specs.declared.message.Message.TheVariants.{Offer, Choice, NoCommon, Busy, Ready, Pong, Data, Part, Failed}
 use Rattle.daemon.specs.Server.{at_position}
 use Rattle.daemon.specs.Talking.{bytes_of}
+use Rattle.script_lines.specs.Listed.{listing_of}
 use Rattle.world.specs.State.{State, served_of, hand_of, unposted_of}
 use Rattle.inode_map.specs.Words.{forgot_name}
 use Rattle.daemon.specs.Refusals.{refusal_name}
@@ -57,18 +59,33 @@ abbrev pub file_words : List ℕ → Number → Attr → List (List ℕ)
 file_words word number attr =
     word ∷ decimal number.0 ∷ kind_name attr.kind ∷ octal attr.perm.bits ∷ decimal attr.size ∷ decimal attr.nlink ∷ []
 
--- the words of an answer; of a buffer only how many bytes it has
-abbrev pub answer_words : Answer → List (List ℕ)
-answer_words (Entry number attr) = file_words (codes "entry") number attr
-answer_words (Opened number attr) = file_words (codes "opened") number attr
-answer_words (Attrs number attr) = file_words (codes "attr") number attr
-answer_words Done = codes "done" ∷ []
-answer_words (Buffer bytes) = codes "buffer" ∷ decimal (length bytes) ∷ []
-answer_words (Error errno) = codes "error" ∷ errno_name errno ∷ []
+-- the line of an entry of a directory: `listed NUMBER NEXT KIND NAME`, with the name byte for byte
+abbrev pub entry_line : Dirent → List ℕ
+entry_line entry =
+    line (codes "listed" ∷ decimal entry.number ∷ decimal entry.next ∷ kind_name entry.kind ∷ entry.name ∷ [])
 
--- the line of a reply: `WORD U`, and the words of its answer
+-- the lines of entries
+abbrev pub entry_lines : List Dirent → List ℕ
+entry_lines [] = []
+entry_lines (entry ∷ more) = entry_line entry ++ entry_lines more
+
+-- the lines of a buffer: `listing COUNT` and its entries, or `buffer LENGTH` if its bytes are no entries
+abbrev pub buffer_lines : List ℕ → Option (List Dirent) → List ℕ
+buffer_lines bytes (Some entries) = line (codes "listing" ∷ decimal (length entries) ∷ []) ++ entry_lines entries
+buffer_lines bytes None = line (codes "buffer" ∷ decimal (length bytes) ∷ [])
+
+-- the line of an answer, and the entries of a listing behind it
+abbrev pub answer_lines : Answer → List ℕ
+answer_lines (Entry number attr) = line (file_words (codes "entry") number attr)
+answer_lines (Opened number attr) = line (file_words (codes "opened") number attr)
+answer_lines (Attrs number attr) = line (file_words (codes "attr") number attr)
+answer_lines Done = line (codes "done" ∷ [])
+answer_lines (Buffer bytes) = buffer_lines bytes (listing_of bytes)
+answer_lines (Error errno) = line (codes "error" ∷ errno_name errno ∷ [])
+
+-- the line of a reply: `WORD U`, and its answer; the entries of a listing stand behind it
 abbrev pub reply_line : List ℕ → Reply → List ℕ
-reply_line word reply = spaced (word ∷ decimal reply.unique ∷ []) ++ line (answer_words reply.answer)
+reply_line word reply = spaced (word ∷ decimal reply.unique ∷ []) ++ answer_lines reply.answer
 
 -- the words of a request that waits: an ask's with its unique, a forget's without
 abbrev pub asked_words : Option ℕ → List (List ℕ)

@@ -5,6 +5,7 @@ mod broker_line;
 mod decimal;
 mod event_line;
 mod lines;
+mod listing;
 mod print;
 mod sums;
 mod under_way;

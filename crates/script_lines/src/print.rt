@@ -7,8 +7,9 @@ ghost use Rattle.entry_table.specs.declared.kept.Kept.{Kept};
 ghost use Rattle.daemon.specs.Server.{at_position};
 ghost use Rattle.inode_map.specs.Words.{forgot_name};
 ghost use Rattle.script_lines.specs.Gathered.{AreUnderWay};
-ghost use Rattle.script_lines.specs.Printed.{printed, line, line_of, said_line, message_words, total_length, length_at, refusal_line, asked_words, spaced, reply_line, answer_words, file_words, octal, world_lines, served_lines, kept_lines, kept_line, count_words, place_line};
+ghost use Rattle.script_lines.specs.Printed.{printed, line, line_of, said_line, message_words, total_length, length_at, refusal_line, asked_words, spaced, reply_line, answer_lines, file_words, octal, world_lines, served_lines, kept_lines, kept_line, count_words, place_line};
 
+use crate::listing::print_buffer;
 use crate::under_way::{Counts, UnderWay};
 use broker_core::Seat;
 use eden_base::{Attr, DaemonId, Number, Perm, Place};
@@ -212,17 +213,14 @@ pub fn print_reply<W: Write>(out: &mut W, word: &str, reply: &Reply) -> io::Resu
 /// Prints an answer, by its kind.
 fn print_answer<W: Write>(out: &mut W, answer: &Answer) -> io::Result<()>
     ensures { OnOk result (Appends (W.contents out.old) (W.contents out.new)
-        (line (answer_words answer.now))) }
+        (answer_lines answer.now)) }
 {
     match answer {
         Answer::Entry { number, attr } => print_file(out, "entry", *number, attr),
         Answer::Opened { number, attr } => print_file(out, "opened", *number, attr),
         Answer::Attrs { number, attr } => print_file(out, "attr", *number, attr),
         Answer::Done => writeln!(out, "done"),
-        Answer::Buffer(buffer) => {
-            let len = buffer.as_slice().len();
-            writeln!(out, "buffer {len}")
-        }
+        Answer::Buffer(buffer) => print_buffer(out, buffer.as_slice()),
         Answer::Error(errno) => {
             let name = errno.name();
             writeln!(out, "error {name}")

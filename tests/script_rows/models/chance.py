@@ -62,7 +62,9 @@ class Chooser:
             return f"rename {directory} {to_directory} {name}/{to_name}"
         if kind <= 14:
             return self.forget(node, dice // 262144)
-        return f"getattr {self.number(node)}"
+        if dice // 262144 % 2 == 0:
+            return f"getattr {self.number(node)}"
+        return f"readdir {directory} {dice // 524288 % len(self.served.files)} {dice % 256}"
 
 
 def hand_on(script, versions):
