@@ -1,10 +1,11 @@
 """Makes calls of the system below a folder, one for each line of standard input, and prints what each comes to.
 
   caller.py FOLDER     a line is `create PATH MODE`, `mkdir PATH MODE`, `unlink PATH`, `rmdir PATH`, `rename PATH PATH`,
-                       `stat PATH`, `hold SLOT PATH`, `fstat SLOT` or `drop SLOT`; modes are octal
+                       `stat PATH`, `list PATH`, `hold SLOT PATH`, `fstat SLOT` or `drop SLOT`; modes are octal
 
 A slot is a file that is held open (`O_PATH`). Of a file are printed: whether it is a directory, its permissions, whether it
-has a link, and the size of what is no directory; of a call that fails its error's number.
+has a link, and the size of what is no directory; of a directory that is listed its names in their order by bytes, with a
+slash behind those of directories; of a call that fails its error's number.
 """
 import os
 import stat
@@ -36,6 +37,10 @@ class Caller:
 
     def stat(self, path):
         return told(os.stat(self.at(path)))
+
+    def list(self, path):
+        with os.scandir(self.at(path)) as found:
+            return " ".join(sorted(f"{it.name}/" if it.is_dir(follow_symlinks=False) else it.name for it in found))
 
     def hold(self, slot, path):
         self.drop(slot)

@@ -15,7 +15,10 @@ TMPFS = next(filter(os.path.isdir, ["/dev/shm"]), None)
 # How many calls are made, after how many of them a daemon takes over, and after how many takeovers caches are dropped.
 CALLS, CALLS_OF_UNPROVED, BETWEEN, DROPS = 6000, 2000, 200, 3
 NAMES, SLOTS = "abcd", "012345"
-CALL_WORDS = ("create", "mkdir", "unlink", "rmdir", "rename", "rename", "stat", "stat", "stat", "hold", "fstat", "fstat", "drop")
+CALL_WORDS = (
+    "create", "mkdir", "unlink", "rmdir", "rename", "rename", "stat", "stat", "stat", "list", "list", "list", "hold", "fstat",
+    "fstat", "drop",
+)
 
 
 class Pair:
@@ -72,7 +75,7 @@ def calls_are_those_of_tmpfs(mount, pairs, count):
 
 @row
 def programs_see_what_they_would_on_tmpfs(room):
-    """Two programs make, move, remove, hold and look at files by turns, as dice choose, while daemons take over and the
+    """Two programs make, move, remove, list, hold and look at files by turns, as dice choose, while daemons take over and the
     kernel drops its caches: in a mount whose kernel keeps what it is told, each call comes to what it does on tmpfs."""
     mount = Mount(room, valid=())
     with tempfile.TemporaryDirectory(dir=TMPFS) as folder:

@@ -1,0 +1,368 @@
+"""Rows: programs list what stands in the directories of a mount."""
+import errno
+import os
+import subprocess
+import tempfile
+
+from process_rows.checks import row, same
+from process_rows.getdents import DT_DIR, DT_REG, UNKNOWN_INODE, entries_of, names_of, some_entries, steps
+from process_rows.mounted_beside_tmpfs import TMPFS
+from process_rows.mounts import ASKS_AGAIN, CACHES, DIRECTORIES, FILES, WORK, Mount, drop_caches, size_of, until
+from process_rows.rooms import run_to_end
+
+COMMIT = f"commit {'01' * 20}"
+# Names of each permission, and a chain of directories, beside those of the usual checkout.
+DEEP = "e/e/e/e/e/e/e"
+MODES = (0o644, 0o755)
+# What is run in the mount and on tmpfs. Without times, which differ. The order of names is free where no program sorts.
+LISTS = (
+    "ls -la --time-style=+ d7", "ls -lAR --time-style=+", "ls -p . e e/e m", "ls -d d?/f1* */e",
+    "find . -printf '%y %m %p\\n' | sort", "find . -type d | sort", "find . -type f -perm 0755 -size +0 | sort", "find e -depth",
+)
+# The longest name, and the least room for a step: an entry of 255 bytes takes 280 of getdents64.
+LONGEST = 255
+LEAST = 280
+# How many names stay in a directory that is listed by small steps, and how many takeovers there are meanwhile at least.
+STAY, STAY_OF_UNPROVED, TAKEOVERS = 2000, 600, 4
+# Makes, moves and removes names beside those that stay.
+COME_AND_GO = "mkdir x y; : >z; mv z w; mv x v; rmdir y v; rm w"
+LIST = "set -- s*; [ -d . ] && echo $# >/dev/null"
+
+
+def lines_of(lines):
+    """Returns a manifest's text."""
+    return "".join(f"{line}\n" for line in (COMMIT, *lines)).encode()
+
+
+def usual():
+    """Returns the directories of a checkout, and its files with their permissions and sizes, by their paths."""
+    directories = [WORK, "m", *(f"d{it}" for it in range(DIRECTORIES)), *(DEEP[: 2 * it + 1] for it in range(7))]
+    files = {f"d{at}/f{file}": (0o644, size_of(at, file)) for at in range(DIRECTORIES) for file in range(FILES)}
+    files |= {f"m/{mode:o}-{size}": (mode, size) for mode in MODES for size in (0, 1, 512, 2**31)}
+    files[f"{DEEP}/f"] = (0o755, 7)
+    return directories, files
+
+
+def write_usual(room):
+    """Writes the manifest of such a checkout."""
+    directories, files = usual()
+    room.write("m", lines_of([*(f"dir {it}" for it in directories), *(f"file {mode:04o} {size} {it}" for it, (mode, size) in files.items())]))
+
+
+def make_usual(folder):
+    """Makes the same files in a folder."""
+    directories, files = usual()
+    os.chmod(folder, 0o755)
+    for it in directories:
+        os.mkdir(f"{folder}/{it}", 0o755)
+    for it, (mode, size) in files.items():
+        with open(f"{folder}/{it}", "wb") as file:
+            file.truncate(size)
+            os.fchmod(file.fileno(), mode)
+
+
+def printed_in(folder, script):
+    """Returns the lines that a script prints in a folder, without the totals of `ls`, nor what a directory here has no count
+    for: its links and its size."""
+    child = subprocess.run(["sh", "-c", script], cwd=folder, capture_output=True, check=False, text=True)
+    same((child.returncode, child.stderr), (0, ""))
+    lines = [it.split() for it in child.stdout.splitlines() if not it.startswith("total ")]
+    return [[it[0], it[-1]] if it and it[0].startswith("drwx") else it for it in lines]
+
+
+def walked(folder):
+    """Returns what `os.walk` finds below a folder."""
+    return sorted((os.path.relpath(at, folder), sorted(inner), sorted(files)) for at, inner, files in os.walk(folder))
+
+
+def used_in(folder):
+    """Returns the bytes that `du` counts for each path below a folder."""
+    child = subprocess.run(["du", "-ab"], cwd=folder, capture_output=True, check=True, text=True)
+    return {path: int(size) for size, path in map(str.split, child.stdout.splitlines())}
+
+
+def usual_sizes():
+    """Returns the bytes that stand at each path of the checkout and below it: directories have none themselves."""
+    directories, files = usual()
+    sizes = {".": 0} | {f"./{it}": 0 for it in directories}
+    for path, (_, size) in files.items():
+        at = f"./{path}"
+        sizes[at] = size
+        while at := os.path.dirname(at):
+            sizes[at] += size
+    return sizes
+
+
+@row
+def programs_list_what_the_manifest_has(room):
+    """`ls`, `find`, `du`, a shell's words and `os.walk` tell of a mount what they tell of the same files on tmpfs, before a
+    takeover and behind it."""
+    write_usual(room)
+    with tempfile.TemporaryDirectory(dir=TMPFS) as folder:
+        make_usual(folder)
+        mount = Mount(room, valid=())
+        for _ in range(2):
+            for script in LISTS:
+                same((script, printed_in(mount.path, script)), (script, printed_in(folder, script)))
+            same(walked(mount.path), walked(folder))
+            same(used_in(mount.path), usual_sizes())
+            mount.take_over_at_rest()
+    mount.unmount()
+
+
+def sized(count):
+    """Returns so many names, the last of them as long as a name may be."""
+    return [*(f"n{it}" for it in range(count - 1)), "l" * LONGEST] if count else []
+
+
+def lists_all(directory, names, room=32768):
+    """Shows that a listing has each of these names once and nothing else, each behind the one before, after `.` and `..`."""
+    entries = entries_of(directory, room)
+    same(sorted(names_of(entries)), sorted(names))
+    offsets = [it.offset for it in entries]
+    same(offsets, sorted(set(offsets)))
+
+
+def changes_some(directory, names):
+    """Makes, moves and removes names in a directory, and returns which it has then."""
+    for number in range(100):
+        os.mkdir(f"{directory}/made{number}")
+    for number in range(0, 100, 3):
+        os.rmdir(f"{directory}/made{number}")
+    for number in range(1, 100, 3):
+        os.rename(f"{directory}/made{number}", f"{directory}/moved{number}")
+    for name in names[::7]:
+        os.unlink(f"{directory}/{name}")
+    made = [f"moved{it}" if it % 3 == 1 else f"made{it}" for it in range(100) if it % 3]
+    return made + [it for number, it in enumerate(names) if number % 7]
+
+
+@row
+def each_name_is_listed_once(room):
+    """Directories of up to 50,000 names list each once, in steps of any length; so they do once names were made, moved and
+    removed, and behind a takeover."""
+    counts = (0, 1, 2, 64, 1000, 10_000, 50_000) if room.is_proved else (0, 1, 2, 64, 1000, 10_000)
+    room.write("m", lines_of(line for it in counts for line in (f"dir c{it}", *(f"file 0644 0 c{it}/{name}" for name in sized(it)))))
+    mount = Mount(room)
+    for count in counts:
+        directory, names = mount.at(f"c{count}"), sized(count)
+        lists_all(directory, names)
+        if count <= 1000:
+            for step in (LEAST, LEAST + 1, 511, 4096, 65_512, 65_536, 1 << 20):
+                lists_all(directory, names, step)
+            names = changes_some(directory, names)
+            lists_all(directory, names)
+        mount.take_over()
+        lists_all(directory, names)
+    mount.counts_what_is_held()
+    mount.unmount()
+
+
+def stays_of(room):
+    return [f"s{it}" for it in range(STAY if room.is_proved else STAY_OF_UNPROVED)]
+
+
+def mounted_beside(room, *options, valid):
+    """Mounts a directory whose names stay while others come and go."""
+    room.write("m", lines_of(["dir a", *(f"file 0644 0 a/{it}" for it in stays_of(room))]))
+    return Mount(room, *options, valid=valid)
+
+
+def listed_over_takeovers(mount, step):
+    """Lists a directory by steps of so many bytes, while daemons take over, and returns its entries."""
+    entries, due = [], STAY_OF_UNPROVED // TAKEOVERS
+    directory = os.open(mount.at("a"), os.O_RDONLY)
+    for more in steps(directory, step):
+        entries += more
+        if len(entries) > due:
+            mount.take_over()
+            due += STAY_OF_UNPROVED // TAKEOVERS
+    os.close(directory)
+    return entries
+
+
+def stays_while_others_come_and_go(room, workers, valid):
+    """Lists a directory by small steps while other programs change and list it and daemons take over. Each name that stays
+    is listed once. One that was made anew may come again, since that is another file: it has another position."""
+    mount = mounted_beside(room, "--workers", str(workers), valid=valid)
+    programs = [room.program_in(it, directory="a") for it in (COME_AND_GO, LIST)]
+    for step in (LEAST, 1024):
+        for it in programs:
+            it.works_on()
+        generation = mount.generation
+        entries = listed_over_takeovers(mount, step)
+        same(mount.generation >= generation + TAKEOVERS - 1, True)
+        same([it for it in names_of(entries) if it.startswith("s")], stays_of(room))
+        same([it.offset for it in entries], sorted({it.offset for it in entries}))
+    for it in programs:
+        it.works_on()
+        it.ends()
+    mount.counts_what_is_held()
+    mount.unmount()
+
+
+@row
+def names_that_stay_are_listed_once_with_1_worker(room):
+    """A directory is listed by small steps while another program makes, moves and removes names in it and daemons with one
+    worker take over: each name that stays is listed once, in order, and none twice."""
+    stays_while_others_come_and_go(room, 1, ASKS_AGAIN)
+
+
+@row
+def names_that_stay_are_listed_once_with_4_workers(room):
+    """The same with four workers, and a kernel that keeps names and attributes."""
+    stays_while_others_come_and_go(room, 4, ())
+
+
+@row
+def a_listing_goes_on_from_each_of_its_positions(room):
+    """A program goes back to a position that an entry had (`seekdir`): the listing goes on with the name that followed, also
+    behind a takeover, and where the entry itself is gone."""
+    mount = mounted_beside(room, valid=ASKS_AGAIN)
+    directory = os.open(mount.at("a"), os.O_RDONLY)
+    entries = [it for step in steps(directory, 4096) for it in step]
+    for turn in range(2):
+        for at in range(len(entries) - 2, -1, -37):
+            os.lseek(directory, entries[at].offset, os.SEEK_SET)
+            same(some_entries(directory, LEAST)[0], entries[at + 1])
+            if turn and at > 1:
+                os.unlink(mount.at(f"a/{entries[at].name}"))
+                os.lseek(directory, entries[at].offset, os.SEEK_SET)
+                same(some_entries(directory, LEAST)[0], entries[at + 1])
+        os.lseek(directory, entries[-1].offset, os.SEEK_SET)
+        same(some_entries(directory, LEAST), [])
+        mount.take_over()
+    os.close(directory)
+    mount.unmount()
+
+
+@row
+def names_that_are_moved_while_they_are_listed_come_once(room):
+    """A program moves each name that it lists to another one in the same directory, and removes each third. It gets each of
+    them once, since a file keeps its position when it moves there; so the listing ends."""
+    mount = mounted_beside(room, valid=())
+    directory = os.open(mount.at("a"), os.O_RDONLY)
+    found = []
+    for entries in steps(directory, 1024):
+        for it in (it.name for it in entries if it.kind == DT_REG):
+            found.append(it)
+            os.rename(mount.at(f"a/{it}"), mount.at(f"a/moved-{it}"))
+            if len(found) % 3 == 0:
+                os.unlink(mount.at(f"a/moved-{it}"))
+        if len(found) % 50 == 0:
+            mount.take_over()
+    os.close(directory)
+    same(found, stays_of(room))
+    same(os.listdir(mount.at("a")), [f"moved-{it}" for number, it in enumerate(found, 1) if number % 3])
+    mount.counts_what_is_held()
+    mount.unmount()
+
+
+@row
+def a_tree_that_is_listed_is_removed(room):
+    """`rm -r` removes a tree, also where a daemon takes over meanwhile. A directory that has a name isn't removed by
+    `rmdir`."""
+    write_usual(room)
+    mount = Mount(room, valid=())
+    same([error_of_rmdir(mount.at(it)) for it in ("d7", "e", "e/e/e")], [errno.ENOTEMPTY] * 3)
+    child = subprocess.Popen(["rm", "-r", *(mount.at(f"d{it}") for it in range(DIRECTORIES))], stderr=subprocess.PIPE)
+    for _ in range(3):
+        mount.take_over()
+    same((child.communicate()[1], child.returncode), (b"", 0))
+    same(run_to_end(["rm", "-r", mount.at("e"), mount.at("m")])[0], 0)
+    same(os.listdir(mount.path), [WORK])
+    mount.counts_what_is_held()
+    mount.unmount()
+
+
+def error_of_rmdir(path):
+    """Returns the number of the error that `rmdir` ends by, or 0."""
+    try:
+        os.rmdir(path)
+    except OSError as error:
+        return error.errno
+    return 0
+
+
+@row
+def a_directory_that_was_removed_lists_nothing(room):
+    """A directory that is removed while a shell works in it lists nothing, not even itself, before a takeover and behind
+    it."""
+    mount = Mount(room)
+    for name in ("looked at before", "never listed"):
+        directory = mount.at(f"{WORK}/{name}")
+        os.mkdir(directory)
+        if name.startswith("looked"):
+            same(names_of(entries_of(directory)), [])
+        held = os.open(directory, os.O_RDONLY)
+        os.rmdir(directory)
+        for _ in range(2):
+            child = subprocess.run(["ls", "-a"], preexec_fn=lambda: os.fchdir(held), capture_output=True, check=False)
+            same((child.stdout, child.stderr, child.returncode), (b"", b"", 0))
+            mount.take_over()
+        os.close(held)
+    mount.unmount()
+
+
+def numbers_told(directory):
+    """Returns the numbers that a listing tells of names that were looked at. The directory is changed first, since the kernel
+    keeps a listing with its numbers for as long as nothing changes there."""
+    os.mkdir(f"{directory}/new")
+    os.rmdir(f"{directory}/new")
+    return {it.name: it.number for it in entries_of(directory) if it.number != UNKNOWN_INODE}
+
+
+@row
+def entries_tell_the_numbers_that_the_kernel_holds(room):
+    """An entry tells the number of a file that a program looked at, as `stat` does, before a takeover and behind it. Of any
+    other file it tells that it has none."""
+    mount = Mount(room)
+    directory = mount.at("d5")
+    with CACHES:
+        wanted = {".": os.stat(directory).st_ino, "..": 1}
+        same(numbers_told(directory), wanted)
+        for number in range(0, FILES, 7):
+            wanted[f"f{number}"] = os.stat(f"{directory}/f{number}").st_ino
+            same(numbers_told(directory), wanted)
+            mount.take_over()
+            same(numbers_told(directory), wanted)
+    until(lambda: drop_caches() or len(numbers_told(directory)) == 2, "files that the kernel let go")
+    mount.counts_what_is_held()
+    mount.unmount()
+
+
+@row
+def entries_tell_kinds_without_a_look(room):
+    """A listing tells which names are directories and which are files, and no number is given out for that. `ls -i` tells the
+    numbers of `stat`."""
+    mount = Mount(room, valid=())
+    with os.scandir(mount.path) as found:
+        same({it.name for it in found if it.is_dir(follow_symlinks=False)}, {WORK, *(f"d{it}" for it in range(DIRECTORIES))})
+    kinds = {it.name: it.kind for it in entries_of(mount.at("d5"))}
+    same(kinds, {".": DT_DIR, "..": DT_DIR} | {f"f{it}": DT_REG for it in range(FILES)})
+    same(len(mount.counts_what_is_held()), 1)
+    child = run_to_end(["ls", "-i", mount.at("d5")], stdout=subprocess.PIPE)
+    for number, name in map(str.split, child[1].decode().splitlines()):
+        same(int(number), os.stat(mount.at(f"d5/{name}")).st_ino)
+    mount.unmount()
+
+
+@row
+def a_listing_is_right_once_caches_are_dropped(room):
+    """Once the kernel dropped what it kept, and behind a takeover by a daemon that never looked at a directory, its listing
+    has what stands there."""
+    write_usual(room)
+    wanted = [f"f{it}" for it in range(FILES)]
+    mount = Mount(room, valid=())
+    for turn in range(6):
+        for directory in range(turn % 2, DIRECTORIES, 2):
+            lists_all(mount.at(f"d{directory}"), wanted)
+        if turn % 2:
+            drop_caches()
+        else:
+            mount.take_over()
+        os.mkdir(mount.at(f"d{turn}/made"))
+        lists_all(mount.at(f"d{turn}"), [*wanted, "made"])
+        os.rmdir(mount.at(f"d{turn}/made"))
+    mount.counts_what_is_held()
+    mount.unmount()
