@@ -1,11 +1,14 @@
 // Makes a call of the system over and over, and prints the middle of what it took, in nanoseconds, for
 // bench/beside_libfuse.
 //
-//   looks CALL FOLDER COUNT     CALL is stat, deep, open, miss, directory, create, rename or cold
+//   looks CALL FOLDER COUNT     CALL is stat, deep, open, miss, directory, create, rename, cold, list or anew
 //
 // `deep` looks at a file below seven directories, `miss` at a name that is not there. `directory` makes and removes one,
 // `create` makes and removes a file, `rename` moves one there and back. `cold` looks once at each of so many files, which
-// nobody looked at before.
+// nobody looked at before. `list` lists a directory, and `anew` one that was changed just before, which the kernel has to
+// ask for.
+#define _GNU_SOURCE
+#include <dirent.h>
 #include <fcntl.h>
 #include <stdio.h>
 #include <stdlib.h>
@@ -40,6 +43,20 @@ static int opens(const char *path) {
   return file < 0 || close(file);
 }
 
+static int lists(void) {
+  DIR *directory = opendir("l");
+  if (!directory)
+    return 1;
+  while (readdir(directory))
+    ;
+  return closedir(directory);
+}
+
+// Does what a call needs beforehand, and returns whether that failed.
+static int prepare(const char *word) {
+  return !strcmp(word, "anew") && (mkdir("l/made", 0755) || rmdir("l/made"));
+}
+
 // Makes the call once, and returns whether it failed.
 static int call(const char *word, long number) {
   char path[64];
@@ -57,6 +74,8 @@ static int call(const char *word, long number) {
     return makes_file("work/made");
   if (!strcmp(word, "rename"))
     return rename("d5/f6", "d5/moved") || rename("d5/moved", "d5/f6");
+  if (!strcmp(word, "list") || !strcmp(word, "anew"))
+    return lists();
   snprintf(path, sizeof path, "d%ld/f%ld", number / 50, number % 50);
   return looks_at(path);
 }
@@ -67,6 +86,8 @@ int main(int count, char **words) {
   if (!times || chdir(words[2]) || !took)
     return 2;
   for (long number = 0; number < times; number++) {
+    if (prepare(words[1]))
+      return 1;
     long began = now();
     if (call(words[1], number)) {
       perror(words[1]);

@@ -13,9 +13,11 @@
 
 #define BUCKETS 65536
 
-// A file, which its number leads to: its name in the directory above, and how often the kernel holds the number.
+// A file, which its number leads to: its name in the directory above, and how often the kernel holds the number. A directory
+// has its children in the order in which they came.
 struct node {
   struct node *above, *next;
+  struct node *first, *last, *before, *after;
   char *name;
   mode_t mode;
   uint64_t held;
@@ -66,10 +68,24 @@ static void drop_if_unused(struct node *node) {
   }
 }
 
+static void append(struct node *above, struct node *node) {
+  node->before = above->last;
+  node->after = NULL;
+  *(above->last ? &above->last->after : &above->first) = node;
+  above->last = node;
+  above->children++;
+}
+
+static void take_out(struct node *above, struct node *node) {
+  *(node->before ? &node->before->after : &above->first) = node->after;
+  *(node->after ? &node->after->before : &above->last) = node->before;
+  above->children--;
+}
+
 static void unlink_at(struct node **place) {
   struct node *node = *place;
   *place = node->next;
-  node->above->children--;
+  take_out(node->above, node);
   node->above = NULL;
   drop_if_unused(node);
 }
@@ -81,7 +97,7 @@ static void link_at(struct node *node, struct node *above, const char *name) {
   node->above = above;
   node->next = *place;
   *place = node;
-  above->children++;
+  append(above, node);
 }
 
 static struct node *made(struct node *above, const char *name, mode_t mode) {
@@ -148,6 +164,26 @@ static void move(fuse_req_t request, fuse_ino_t above, const char *name, fuse_in
   fuse_reply_err(request, 0);
 }
 
+// Lists a directory. An offset is the address of the child that was told last, so no child may go while it is listed.
+static void list(fuse_req_t request, fuse_ino_t number, size_t size, off_t offset, struct fuse_file_info *file) {
+  (void)file;
+  struct node *above = node_of(number), *node = offset > 2 ? ((struct node *)(uintptr_t)offset)->after : above->first;
+  char *text = malloc(size);
+  size_t used = 0, len;
+  for (off_t dots = offset; dots < 2; dots++) {
+    struct stat found = stat_of(dots && above->above ? above->above : above);
+    used += fuse_add_direntry(request, text + used, size - used, dots ? ".." : ".", &found, dots + 1);
+  }
+  for (; node; node = node->after, used += len) {
+    struct stat found = stat_of(node);
+    len = fuse_add_direntry(request, text + used, size - used, node->name, &found, (off_t)(uintptr_t)node);
+    if (len > size - used)
+      break;
+  }
+  fuse_reply_buf(request, text, used);
+  free(text);
+}
+
 static void not_served(fuse_req_t request, fuse_ino_t number, struct fuse_file_info *file) {
   (void)number, (void)file;
   fuse_reply_err(request, ENOSYS);
@@ -162,6 +198,7 @@ static const struct fuse_lowlevel_ops calls = {
     .unlink = remove_name,
     .rmdir = remove_name,
     .rename = move,
+    .readdir = list,
     .open = not_served,
     .opendir = not_served,
     .flush = not_served,

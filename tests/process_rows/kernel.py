@@ -67,8 +67,8 @@ class Kernel:
         if unique not in self.owed:
             return ("NotAsked",)
         self.owed.remove(unique)
-        same((length, error), (len(reply), 0))
-        self.replies[unique] = self.generation, reply[16:]
+        same(length, len(reply))
+        self.replies[unique] = self.generation, error, reply[16:]
         return ("Posted",)
 
     def claim(self, _nothing):
@@ -78,7 +78,13 @@ class Kernel:
         return "Claimed", u64(self.generation)
 
     def ask(self, opcode, number, body):
-        """Asks, and returns the generation at which the answer was accepted, and its body."""
+        """Asks what succeeds, and returns the generation at which the answer was accepted, and its body."""
+        generation, error, answer = self.reply_to(opcode, number, body)
+        same(error, 0)
+        return generation, answer
+
+    def reply_to(self, opcode, number, body):
+        """Asks, and returns the generation at which the answer was accepted, its error and its body."""
         with self.lock:
             self.unique += 1
             unique = self.unique

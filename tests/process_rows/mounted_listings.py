@@ -158,6 +158,21 @@ def each_name_is_listed_once(room):
     mount.unmount()
 
 
+@row
+def the_longest_answer_reaches_a_program(room):
+    """A directory is listed whole whose first answer has 65,512 bytes where a kernel asks for so many: 2,046 entries of 32
+    bytes, and one of 40. So is one that is a byte too long for that."""
+    names = [f"n{it:04}" for it in range(3000)]
+    for last in ("l" * 16, "l" * 17):
+        names[2044] = last
+        inner = room.inner()
+        inner.write("m", lines_of(f"file 0644 0 {it}" for it in names))
+        mount = Mount(inner)
+        for step in (4096, 32_768, 65_512, 1 << 20):
+            lists_all(mount.path, names, step)
+        mount.unmount()
+
+
 def stays_of(room):
     return [f"s{it}" for it in range(STAY if room.is_proved else STAY_OF_UNPROVED)]
 
