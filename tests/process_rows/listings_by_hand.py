@@ -123,6 +123,7 @@ def the_longest_answer_is_full(room):
         daemon.printed("serving 1")
         entries = entries_of(1, 1, *((it, UNKNOWN_INODE, DT_REG, name) for it, name in enumerate(names, 2)))
         same(len(readdir(kernel, 1, 0, MOST)[2]), length)
-        lists(kernel, 1, entries, (0, 1, 1000, 2046, 2047, 3001, 3002), (LONGEST - 41, LONGEST - 1, LONGEST, LONGEST + 1, MOST))
+        sizes = (LONGEST - 41, LONGEST - 1, LONGEST, LONGEST + 1, MOST)
+        lists(kernel, 1, entries, (0, 1, 1000, 2046, 2047, 3001, 3002), sizes)
         ends(kernel, daemon, ["serving 1"])
         kernel.is_over = False

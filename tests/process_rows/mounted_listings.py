@@ -16,8 +16,8 @@ DEEP = "e/e/e/e/e/e/e"
 MODES = (0o644, 0o755)
 # What is run in the mount and on tmpfs. Without times, which differ. The order of names is free where no program sorts.
 LISTS = (
-    "ls -la --time-style=+ d7", "ls -lAR --time-style=+", "ls -p . e e/e m", "ls -d d?/f1* */e",
-    "find . -printf '%y %m %p\\n' | sort", "find . -type d | sort", "find . -type f -perm 0755 -size +0 | sort", "find e -depth",
+    "ls -la --time-style=+ d7", "ls -lAR --time-style=+", "ls -p . e e/e m", "ls -d d?/f1* */e", "find e -depth",
+    "find . -printf '%y %m %p\\n' | sort", "find . -type d | sort", "find . -type f -perm 0755 -size +0 | sort",
 )
 # The longest name, and the least room for a step: an entry of 255 bytes takes 280 of getdents64.
 LONGEST = 255
@@ -46,7 +46,9 @@ def usual():
 def write_usual(room):
     """Writes the manifest of such a checkout."""
     directories, files = usual()
-    room.write("m", lines_of([*(f"dir {it}" for it in directories), *(f"file {mode:04o} {size} {it}" for it, (mode, size) in files.items())]))
+    lines = [f"dir {it}" for it in directories]
+    lines += [f"file {mode:04o} {size} {path}" for path, (mode, size) in files.items()]
+    room.write("m", lines_of(lines))
 
 
 def make_usual(folder):
@@ -142,7 +144,8 @@ def each_name_is_listed_once(room):
     """Directories of up to 50,000 names list each once, in steps of any length; so they do once names were made, moved and
     removed, and behind a takeover."""
     counts = (0, 1, 2, 64, 1000, 10_000, 50_000) if room.is_proved else (0, 1, 2, 64, 1000, 10_000)
-    room.write("m", lines_of(line for it in counts for line in (f"dir c{it}", *(f"file 0644 0 c{it}/{name}" for name in sized(it)))))
+    lines = [f"dir c{it}" for it in counts] + [f"file 0644 0 c{it}/{name}" for it in counts for name in sized(it)]
+    room.write("m", lines_of(lines))
     mount = Mount(room)
     for count in counts:
         directory, names = mount.at(f"c{count}"), sized(count)

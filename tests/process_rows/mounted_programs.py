@@ -9,12 +9,14 @@ from process_rows.mounts import DIRECTORIES, FILES, WORK, Mount, drop_caches, si
 ROUNDS, ROUNDS_OF_UNPROVED = 20, 4
 STEP, STEP_OF_UNPROVED = 1, 20
 
-# Finds each file by its name: a list of what is in a directory is not served.
+# Finds each file by its name.
 FIND = """xargs -a "$1" sh -c 'exec find "$@" -maxdepth 0 -printf "%y %m %s %p\\n"' sh >"$2"
 cmp "$2" "$3" >&2"""
 STAT = """while read -r file shown; do
   [ "$(stat -c '%A %h %s' "$file")" = "$shown" ] || { echo "$file is not $shown" >&2; exit 1; }
 done <"$1" """
+# Lists all directories of the manifest.
+LIST = """LC_ALL=C ls -R d* | cmp - "$1" >&2"""
 # Makes, moves and removes files and directories, each in a directory of its own.
 MAKE = f"""mkdir {WORK}/$1; cd {WORK}/$1
 mkdir a a/b; mv a c; mv c/b b; stat -c %i c b >/dev/null; rmdir c b
@@ -28,6 +30,12 @@ def rounds_of(room):
     return ROUNDS if room.is_proved else ROUNDS_OF_UNPROVED
 
 
+def listed():
+    """Returns what `ls -R` prints of the directories of the manifest."""
+    names = "".join(f"{it}\n" for it in sorted(f"f{it}" for it in range(FILES)))
+    return "\n".join(f"{it}:\n{names}" for it in sorted(f"d{it}" for it in range(DIRECTORIES)))
+
+
 def programs_of(room):
     """Starts the programs that work in a mount."""
     every = [(directory, file) for directory in range(DIRECTORIES) for file in range(FILES)]
@@ -36,10 +44,11 @@ def programs_of(room):
     room.write("wanted", "".join(f"f 644 {size_of(*it)} d{it[0]}/f{it[1]}\n" for it in every).encode())
     some = random.Random(1).sample(every, 40)
     room.write("stats", "".join(f"d{it[0]}/f{it[1]} -rw-r--r-- 1 {size_of(*it)}\n" for it in some).encode())
+    room.write("listed", listed().encode())
     at = room.path
     return [
         room.program_in(FIND, f"{at}/names", f"{at}/found", f"{at}/wanted"), room.program_in(STAT, f"{at}/stats"),
-        room.program_in(MAKE, "one"), room.program_in(MAKE, "two"),
+        room.program_in(LIST, f"{at}/listed"), room.program_in(MAKE, "one"), room.program_in(MAKE, "two"),
     ]
 
 
@@ -74,17 +83,17 @@ def taken_over_below_programs(room, workers):
 
 @row
 def programs_work_on_with_1_worker(room):
-    """Programs find, stat, make, move and remove files while daemons with one worker take over; nothing fails."""
+    """Programs find, list, stat, make, move and remove files while daemons with one worker take over; nothing fails."""
     taken_over_below_programs(room, 1)
 
 
 @row
 def programs_work_on_with_2_workers(room):
-    """Programs find, stat, make, move and remove files while daemons with two workers take over; nothing fails."""
+    """Programs find, list, stat, make, move and remove files while daemons with two workers take over; nothing fails."""
     taken_over_below_programs(room, 2)
 
 
 @row
 def programs_work_on_with_16_workers(room):
-    """Programs find, stat, make, move and remove files while daemons with sixteen workers take over; nothing fails."""
+    """Programs find, list, stat, make, move and remove files while daemons with sixteen workers take over; nothing fails."""
     taken_over_below_programs(room, 16)
