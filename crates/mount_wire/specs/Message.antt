@@ -17,11 +17,12 @@ use Rattle.mount_wire.specs.declared.message.KernelMessage.{KernelMessage}
 use Rattle.mount_wire.specs.declared.message.KernelMessage.TheVariants.{Answered, Asked, Forgot, ForgotMany, Ignored}
 use Rattle.mount_wire.specs.declared.offer.Offer.{Offer}
 use Rattle.mount_wire.specs.declared.responder.Responder.{Responder}
-use Rattle.mount_wire.specs.declared.responder.Responder.TheVariants.{Init, Statfs, Allowed, Refused, Nobody, Daemon}
+use Rattle.mount_wire.specs.declared.responder.Responder.TheVariants.{Init, Statfs, Opendir, Releasedir, Allowed, Refused, Nobody, Daemon}
 use Rattle.mount_wire.specs.Batches.{forgotten_of}
 use Rattle.mount_wire.specs.Header.{header_of}
 use Rattle.mount_wire.specs.Init.{agreement_of, init_reply_text, offer_of}
 use Rattle.mount_wire.specs.Responder.{responder_of}
+use Rattle.mount_wire.specs.Opendir.{opendir_reply_text, releasedir_reply_text}
 use Rattle.mount_wire.specs.Statfs.{statfs_reply_text}
 use Rattle.mount_wire.specs.Told.{error_text}
 
@@ -64,6 +65,8 @@ daemon_message bytes (Err fault) = refused_message (fault_reply_of bytes fault)
 abbrev pub message_by : Responder → RequestHeader → List ℕ → KernelMessage
 message_by Init header bytes = init_message header.unique (offer_of bytes)
 message_by Statfs header bytes = Answered (statfs_reply_text header.unique)
+message_by Opendir header bytes = Answered (opendir_reply_text header.unique)
+message_by Releasedir header bytes = Answered (releasedir_reply_text header.unique)
 message_by Allowed header bytes = Answered (error_text header.unique ENOSYS)
 message_by Refused header bytes = Answered (error_text header.unique ENOSYS)
 message_by Nobody header bytes = Ignored

@@ -9,8 +9,8 @@ ghost use Rattle.mount_wire.specs.Message.{init_message, many_message, read_mess
 use crate::opcode::BATCH_FORGET;
 use crate::told_answer::tell_reply;
 use crate::{
-    BatchReader, ReplyBytes, Responder, answer_init, answer_statfs, read_header, read_offer,
-    responder_of, tell_error,
+    BatchReader, ReplyBytes, Responder, answer_init, answer_opendir, answer_releasedir,
+    answer_statfs, read_header, read_offer, responder_of, tell_error,
 };
 use eden_base::Errno;
 use fuse_wire::{Ask, Item, WireFault, fault_reply, read_request};
@@ -43,6 +43,8 @@ pub fn read_message(alloc: Global, bytes: &[u8]) -> KernelMessage<'_>
     match responder_of(header.opcode) {
         Responder::Init => init_message(header.unique, bytes),
         Responder::Statfs => KernelMessage::Answered(answer_statfs(header.unique)),
+        Responder::Opendir => KernelMessage::Answered(answer_opendir(header.unique)),
+        Responder::Releasedir => KernelMessage::Answered(answer_releasedir(header.unique)),
         Responder::Allowed | Responder::Refused => KernelMessage::Answered(tell_error(
             header.unique,
             Errno::ENOSYS,

@@ -16,6 +16,10 @@ pub enum Responder {
     Init,
     /// The program, by `answer_statfs`.
     Statfs,
+    /// The program, by `answer_opendir`.
+    Opendir,
+    /// The program, by `answer_releasedir`.
+    Releasedir,
     /// The program, with ENOSYS, which the kernel counts as success.
     Allowed,
     /// The program, with ENOSYS, which the kernel counts as a failure.
@@ -42,8 +46,9 @@ pub fn responder_of(opcode: u32) -> Responder
         _ if is_kind(opcode) => Responder::Daemon,
         INIT => Responder::Init,
         STATFS => Responder::Statfs,
-        OPEN | RELEASE | FSYNC | FLUSH | OPENDIR | RELEASEDIR | FSYNCDIR | ACCESS =>
-            Responder::Allowed,
+        OPENDIR => Responder::Opendir,
+        RELEASEDIR => Responder::Releasedir,
+        OPEN | RELEASE | FSYNC | FLUSH | FSYNCDIR | ACCESS => Responder::Allowed,
         INTERRUPT | DESTROY => Responder::Nobody,
         _ => Responder::Refused,
     }
