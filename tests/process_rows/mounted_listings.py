@@ -325,10 +325,7 @@ def a_directory_that_was_removed_lists_nothing(room):
 
 
 def numbers_told(directory):
-    """Returns the numbers that a listing tells of names that were looked at. The directory is changed first, since the kernel
-    keeps a listing with its numbers for as long as nothing changes there."""
-    os.mkdir(f"{directory}/new")
-    os.rmdir(f"{directory}/new")
+    """Returns the numbers that a listing tells of names that were looked at."""
     return {it.name: it.number for it in entries_of(directory) if it.number != UNKNOWN_INODE}
 
 
@@ -352,6 +349,27 @@ def entries_tell_the_numbers_that_the_kernel_holds(room):
     until(lambda: drop_caches() or len(numbers_told(directory)) == 2, "files that the kernel let go")
     mount.counts_what_is_held()
     mount.unmount()
+
+
+@row
+def a_listing_goes_on_behind_a_name_that_is_gone(room):
+    """A program lists a part of a directory, the last name that it got is removed, and another program lists the whole. The
+    first one goes on, and gets each name that stays. (Where a kernel keeps listings, it may take the position of a name that
+    is gone for the end, if what it keeps fills its last page, as 128 entries of 32 bytes do.)"""
+    for count in (126, 127, 128, 255):
+        names = [f"f{it}" for it in range(count)]
+        inner = room.inner()
+        inner.write("m", lines_of(["dir a", *(f"file 0644 0 a/{it}" for it in names)]))
+        mount = Mount(inner)
+        lists_all(mount.at("a"), names)
+        directory = os.open(mount.at("a"), os.O_RDONLY)
+        entries = some_entries(directory, 256)
+        os.unlink(mount.at(f"a/{entries[-1].name}"))
+        os.listdir(mount.at("a"))
+        entries += [it for step in steps(directory, 256) for it in step]
+        os.close(directory)
+        same((count, names_of(entries)), (count, names))
+        mount.unmount()
 
 
 @row

@@ -56,6 +56,8 @@ fn responder_name(responder: Responder) -> &'static str {
     match responder {
         Responder::Init => "Init",
         Responder::Statfs => "Statfs",
+        Responder::Opendir => "Opendir",
+        Responder::Releasedir => "Releasedir",
         Responder::Allowed => "Allowed",
         Responder::Refused => "Refused",
         Responder::Nobody => "Nobody",
