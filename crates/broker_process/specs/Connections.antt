@@ -93,6 +93,16 @@ has_room connections = are_few connections || is_some (place_to_give connections
 abbrev pub with_room : List OpenConnection → List OpenConnection
 with_room connections = if are_few connections then connections else without_at connections (place_to_give connections)
 
+-- the connection, by which this came if it has this number
+abbrev pub noted : ℕ → Heard → OpenConnection → OpenConnection
+noted number heard connection =
+    if has_number number connection then record connection { heard = heard } else connection
+
+-- the connection, of which the first frame is answered if it has this number, so that it is one of this peer
+abbrev pub named : ℕ → Peer → OpenConnection → OpenConnection
+named number peer connection =
+    if has_number number connection then record connection { peer = peer; heard = Something } else connection
+
 -- a connection that just came: it is unattached
 abbrev pub entered : ℕ → UnixStream → OpenConnection
 entered number stream = record { number = number; peer = Unattached; heard = Unknown; stream = stream }

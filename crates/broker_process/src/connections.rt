@@ -1,7 +1,7 @@
 //! The connections that are open.
-ghost use Rattle.std.specs.Prelude.{◌≡◌, ◌<◌, [], ◌∷◌, ◌++◌, None, true, count_by, is_some, length, nat_lt, position, vec_capacity, vec_len};
+ghost use Rattle.std.specs.Prelude.{◌≡◌, ◌<◌, [], ◌∷◌, ◌++◌, None, true, count_by, is_some, length, map, nat_lt, position, vec_capacity, vec_len};
 ghost use Rattle.std.specs.Option.{IfSome};
-ghost use Rattle.broker_process.specs.Connections.{entered, has_number, has_room, heard_of, is_unattached, is_silent, has_begun, place_to_give, with_room, without_at, works_for};
+ghost use Rattle.broker_process.specs.Connections.{entered, has_number, has_room, heard_of, is_unattached, is_silent, has_begun, named, noted, place_to_give, with_room, without_at, works_for};
 
 use broker_desk::Peer;
 use eden_base::DaemonId;
@@ -70,6 +70,25 @@ impl OpenConnection {
         ensures begun { result ≡ has_begun self.now }
     {
         self.is_unattached() && matches!(self.heard, Heard::Something)
+    }
+
+    /// Notes what came by the connection, if it has this `number`.
+    fn note(&mut self, number: u64, heard: Heard)
+        ensures noted { self.new ≡ noted number heard self.old }
+    {
+        if self.number == number {
+            self.heard = heard;
+        }
+    }
+
+    /// Notes that the first frame of the connection is answered, and made it one of `peer`, if it has this `number`.
+    fn name(&mut self, number: u64, peer: Peer)
+        ensures named { self.new ≡ named number peer self.old }
+    {
+        if self.number == number {
+            self.peer = peer;
+            self.heard = Heard::Something;
+        }
     }
 
     /// Returns whether this is the connection of a worker of `daemon`.
@@ -179,11 +198,12 @@ impl Connections {
     }
 
     /// Notes what came by connection `number`.
-    pub(crate) fn note(&mut self, number: u64, heard: Heard) {
+    pub(crate) fn note(&mut self, number: u64, heard: Heard)
+        ensures noted { self.new.list.items ≡ map (noted number heard) self.old.list.items }
+        ensures next { self.new.next ≡ self.old.next }
+    {
         for connection in self.list.iter_mut() {
-            if connection.number == number {
-                connection.heard = heard;
-            }
+            connection.note(number, heard);
         }
     }
 
@@ -227,12 +247,12 @@ impl Connections {
     }
 
     /// Notes that the first frame of connection `number` is answered, and made it one of `peer`.
-    pub(crate) fn name(&mut self, number: u64, peer: Peer) {
+    pub(crate) fn name(&mut self, number: u64, peer: Peer)
+        ensures named { self.new.list.items ≡ map (named number peer) self.old.list.items }
+        ensures next { self.new.next ≡ self.old.next }
+    {
         for connection in self.list.iter_mut() {
-            if connection.number == number {
-                connection.peer = peer;
-                connection.heard = Heard::Something;
-            }
+            connection.name(number, peer);
         }
     }
 
