@@ -5,6 +5,7 @@
 //!   calls queue COUNT                     rounds of calls on a queue
 //!   calls requests LINES DEPTH|random     requests to what a daemon serves
 //!   calls messages LINES                  messages read, answered and written
+//!   calls listing FILES OTHERS [changed|gone]  a directory listed
 //!   calls checkout LINES                  calls on a manifest's tree
 //!   calls map ENTRIES [random]            calls on the numbers that a daemon gave
 //!   calls image ENTRIES 0                 an image read, restored, made again and written
@@ -17,6 +18,7 @@ mod frames;
 mod hashing;
 mod image;
 mod journal;
+mod listing;
 mod loaded;
 mod map;
 mod messages;
@@ -33,6 +35,7 @@ fn main() {
         "queue" => queue::measure(&words[1..]),
         "requests" => requests::measure(&words[1..]),
         "messages" => messages::measure(&words[1..]),
+        "listing" => listing::measure(&words[1..]),
         "checkout" => checkout::measure(&words[1..]),
         "map" => map::measure(&words[1..]),
         "image" => image::measure(&words[1..]),

@@ -8,6 +8,7 @@ mod clock;
 mod figures;
 mod image;
 mod lines;
+mod listing;
 mod map;
 mod messages;
 mod names;
@@ -31,7 +32,7 @@ use std::thread::Threads;
 use words::refuse;
 
 /// The small runs: each is the words with which the program could be started.
-static RUNS: [&str; 51] = [
+static RUNS: [&str; 57] = [
     "arena 1",
     "arena 1024",
     "arena 65536",
@@ -61,6 +62,12 @@ static RUNS: [&str; 51] = [
     "requests 64000 random",
     "messages 1000",
     "messages 64000",
+    "listing 1000 1000",
+    "listing 64000 1000",
+    "listing 1000 64000",
+    "listing 8000 1000 changed",
+    "listing 64000 1000 changed",
+    "listing 64000 1000 gone",
     "wire lookup 10",
     "wire getattr 10",
     "wire forget 10",
@@ -100,6 +107,7 @@ fn figures_of<R: Threads + Wait + Clock + Sync>(
         "image" => image::measure(rt, words),
         "map" => map::measure(rt.alloc(), words),
         "messages" => messages::measure(rt.alloc(), words),
+        "listing" => listing::measure(rt.alloc(), words),
         "requests" => requests::measure(rt.alloc(), words),
         "wire" => wire::measure(rt.alloc(), words),
         "frames" => stream::measure(rt.alloc(), words),

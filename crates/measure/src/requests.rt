@@ -44,7 +44,7 @@ impl Model for Hosted {
 
 impl Hosted {
     /// Begins to serve a manifest, with at most `limit` attributes loaded.
-    fn of(alloc: Global, manifest: Manifest, limit: usize) -> Result<Hosted, NoMemory> {
+    pub(crate) fn of(alloc: Global, manifest: Manifest, limit: usize) -> Result<Hosted, NoMemory> {
         let served = Served::new(alloc, &manifest, limit)?;
         Ok(Hosted { served, manifest })
     }
@@ -82,7 +82,7 @@ pub(crate) fn name_of(alloc: Global, i: u64) -> Result<Name, NoMemory> {
 }
 
 /// Returns the number of an entry, and the root's for any other answer.
-fn number_told(answer: Option<Answer>) -> Number {
+pub(crate) fn number_told(answer: Option<Answer>) -> Number {
     match answer {
         Some(Answer::Entry { number, .. }) => number,
         _ => Number::ROOT,

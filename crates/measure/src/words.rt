@@ -9,6 +9,7 @@ const USAGE: &str = "usage: measure [SUBJECT WORD..]
   map ENTRIES [holes | given | random]
   requests LINES DEPTH | random
   messages LINES
+  listing FILES OTHERS [changed | gone]
   wire FORM ROUNDS
   frames FORM ROUNDS
   journal RECORDS WORKERS ROUNDS
