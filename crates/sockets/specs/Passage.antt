@@ -1,5 +1,5 @@
 -- How far a stream of bytes is into a frame. (This project's own.)
-use Rattle.std.specs.Prelude.{ℕ, ◌+◌, ◌*◌, ◌-◌, ◌^◌, min, Bool, ◌&&◌, ◌==◌, nat_le, nat_lt, if◌then◌else◌}
+use Rattle.std.specs.Prelude.{◌≡◌, ℕ, ◌+◌, ◌*◌, ◌-◌, ◌<◌, ◌^◌, min, Bool, false, ◌&&◌, ◌||◌, ◌==◌, nat_le, nat_lt, List, [], ◌∷◌, ◌++◌, length, if◌then◌else◌}
 use Rattle.sockets.specs.declared.passage.Passage.{Passage}
 
 -- whether the next byte begins a frame
@@ -22,3 +22,21 @@ abbrev pub passed : Passage → ℕ → Passage
 passed passage byte =
     if nat_lt 0 passage.left then record passage { left = passage.left - 1 }
     else lengthened (capped (passage.came + 1)) (capped (capped (passage.len * 256) + byte))
+
+-- the passage after these bytes
+abbrev pub passed_all : Passage → List ℕ → Passage
+passed_all passage [] = passage
+passed_all passage (byte ∷ bytes) = passed_all (passed passage byte) bytes
+
+-- whether a frame ends in these bytes: behind one of them the next byte begins a frame
+abbrev pub ends_in : Passage → List ℕ → Bool
+ends_in passage [] = false
+ends_in passage (byte ∷ bytes) = is_between (passed passage byte) || ends_in (passed passage byte) bytes
+
+-- the first of these bytes were taken in, and these are left; a frame ended behind the last of them, or in none
+pub record PassesSome (old : Passage) (bytes : List ℕ) (new : Passage) (left : List ℕ) : Type 0 where
+  pub taken : List ℕ
+  pub some : 0 < length taken
+  pub parts : bytes ≡ taken ++ left
+  pub passes : new ≡ passed_all old taken
+  pub ends : ends_in old taken ≡ is_between new

@@ -1,6 +1,6 @@
 //! How far a stream of bytes is into a frame.
-ghost use Rattle.std.specs.Prelude.{◌≡◌};
-ghost use Rattle.sockets.specs.Passage.{is_between, passed};
+ghost use Rattle.std.specs.Prelude.{◌≡◌, ◌<◌, length};
+ghost use Rattle.sockets.specs.Passage.{ends_in, is_between, passed, passed_all, PassesSome};
 
 /// How far a stream of bytes is into a frame. Bytes that are no frame, for example too great a length, are for the
 /// reader to find.
@@ -50,14 +50,32 @@ impl Passage {
         }
     }
 
+    /// Takes in the first of `bytes`, or as many as are still to come after a length, and returns those that are left.
+    fn pass_some<'a>(&mut self, bytes: &'a [u8]) -> &'a [u8]
+        requires some { 0 < length bytes.now }
+        ensures passes { PassesSome self.old bytes.now self.new result.now }
+    {
+        let count = (self.left as usize).min(bytes.len());
+        if count == 0 {
+            self.pass(bytes[0]);
+            let (_, left) = bytes.split_at(1);
+            return left;
+        }
+        self.left -= count as u32;
+        let (_, left) = bytes.split_at(count);
+        left
+    }
+
     /// Takes in the next bytes, and returns whether a frame ends in them.
-    pub(crate) fn pass_all(&mut self, bytes: &[u8]) -> bool {
+    pub(crate) fn pass_all(&mut self, bytes: &[u8]) -> bool
+        ensures passed { self.new ≡ passed_all self.old bytes.now }
+        ensures ended { result ≡ ends_in self.old bytes.now }
+    {
         let mut ended = false;
-        for byte in bytes {
-            self.pass(*byte);
-            if self.is_between() {
-                ended = true;
-            }
+        let mut left = bytes;
+        while !left.is_empty() {
+            left = self.pass_some(left);
+            ended = ended || self.is_between();
         }
         ended
     }
