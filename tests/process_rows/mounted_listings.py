@@ -335,10 +335,10 @@ def entries_tell_the_numbers_that_the_kernel_holds(room):
     other file it tells that it has none."""
     mount = Mount(room)
     directory = mount.at("d5")
-    wanted = {".": os.stat(directory).st_ino, "..": 1}
-    held = []
+    # The kernel drops nothing that a program holds.
+    held = [os.open(directory, os.O_PATH)]
+    wanted = {".": os.fstat(held[0]).st_ino, "..": 1}
     for number in range(0, FILES, 7):
-        # The kernel drops nothing that a program holds.
         held.append(os.open(f"{directory}/f{number}", os.O_PATH))
         wanted[f"f{number}"] = os.fstat(held[-1]).st_ino
         same(numbers_told(directory), wanted)
@@ -375,16 +375,20 @@ def a_listing_goes_on_behind_a_name_that_is_gone(room):
 @row
 def entries_tell_kinds_without_a_look(room):
     """A listing tells which names are directories and which are files, and no number is given out for that. `ls -i` tells the
-    numbers of `stat`."""
+    numbers of `stat`. (What is counted on is held open, since another row may let the kernel drop what it keeps.)"""
     mount = Mount(room, valid=())
     with os.scandir(mount.path) as found:
         same({it.name for it in found if it.is_dir(follow_symlinks=False)}, {WORK, *(f"d{it}" for it in range(DIRECTORIES))})
+    held = {"d5": os.open(mount.at("d5"), os.O_PATH)}
     kinds = {it.name: it.kind for it in entries_of(mount.at("d5"))}
     same(kinds, {".": DT_DIR, "..": DT_DIR} | {f"f{it}": DT_REG for it in range(FILES)})
     same(len(mount.counts_what_is_held()), 1)
+    held |= {f"f{it}": os.open(mount.at(f"d5/f{it}"), os.O_PATH) for it in range(FILES)}
     child = run_to_end(["ls", "-i", mount.at("d5")], stdout=subprocess.PIPE)
     for number, name in map(str.split, child[1].decode().splitlines()):
-        same(int(number), os.stat(mount.at(f"d5/{name}")).st_ino)
+        same(int(number), os.fstat(held[name]).st_ino)
+    for it in held.values():
+        os.close(it)
     mount.unmount()
 
 
