@@ -1,12 +1,15 @@
 """Rows: programs list what stands in the directories of a mount."""
 import errno
 import os
+import signal
 import subprocess
 import tempfile
+import threading
 
-from process_rows.checks import row, same
+from process_rows.checks import WAIT, row, same
 from process_rows.getdents import DT_DIR, DT_REG, UNKNOWN_INODE, entries_of, names_of, some_entries, steps
 from process_rows.mounted_beside_tmpfs import TMPFS
+from process_rows.mounted_ends import mounts_anew
 from process_rows.mounts import ASKS_AGAIN, DIRECTORIES, FILES, WORK, Mount, drop_caches, size_of, until
 from process_rows.rooms import run_to_end
 
@@ -410,4 +413,39 @@ def a_listing_is_right_once_caches_are_dropped(room):
         lists_all(mount.at(f"d{turn}"), [*wanted, "made"])
         os.rmdir(mount.at(f"d{turn}/made"))
     mount.counts_what_is_held()
+    mount.unmount()
+
+
+@row
+def a_listing_fails_where_the_daemon_is_killed(room):
+    """A daemon is killed while a directory is listed: the listing ends with an error, and not as if nothing were left. The next
+    mount lists the whole."""
+    mount = Mount(room)
+    directory = os.open(mount.at("d5"), os.O_RDONLY)
+    same(len(some_entries(directory, LEAST)) < FILES, True)
+    mount.daemon.kill()
+    mount.broker.printed("dead")
+    try:
+        same(some_entries(directory, LEAST), "an error")
+    except OSError as error:
+        same(error.errno in (errno.ENOTCONN, errno.ECONNABORTED), True)
+    os.close(directory)
+    mounts_anew(room, mount)
+    lists_all(mount.at("d5"), [f"f{it}" for it in range(FILES)])
+    mount.unmount()
+
+
+@row
+def a_listing_waits_for_a_stopped_daemon(room):
+    """A daemon is stopped: a listing waits for it, and is whole once the daemon goes on."""
+    mount = Mount(room)
+    os.kill(mount.daemon.pid, signal.SIGSTOP)
+    listed = []
+    lister = threading.Thread(target=lambda: listed.extend(os.listdir(mount.path)))
+    lister.start()
+    lister.join(0.5)
+    same((lister.is_alive(), listed), (True, []))
+    os.kill(mount.daemon.pid, signal.SIGCONT)
+    lister.join(WAIT)
+    same(sorted(listed), sorted([WORK, *(f"d{it}" for it in range(DIRECTORIES))]))
     mount.unmount()
