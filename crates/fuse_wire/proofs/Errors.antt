@@ -5,7 +5,7 @@ use Rattle.std.proofs.lemmas.Int.{ints}
 use Rattle.eden_base.specs.declared.errno.Errno.{Errno}
 use Rattle.eden_base.specs.declared.errno.Errno.TheVariants.{ENOENT, EIO, ENOMEM, EEXIST, ENOTDIR, EISDIR, EINVAL, ENOSPC, ENAMETOOLONG, ENOSYS, ENOTEMPTY, EOVERFLOW, ESTALE}
 use Rattle.fuse_wire.specs.declared.reply.Answer.{Answer}
-use Rattle.fuse_wire.specs.declared.reply.Answer.TheVariants.{Entry, Opened, Attrs, Done, Buffer, Error}
+use Rattle.fuse_wire.specs.declared.reply.Answer.TheVariants.{Entry, Opened, Attrs, Done, Buffer, Extent, Error}
 use Rattle.fuse_wire.specs.ReplyReading.{answer_at}
 use Rattle.fuse_wire.specs.ReplyText.{errno_number, error_field}
 
@@ -33,6 +33,7 @@ error_fits (Opened number attr) = negative_fits 0 (omega arith)
 error_fits (Attrs number attr) = negative_fits 0 (omega arith)
 error_fits Done = negative_fits 0 (omega arith)
 error_fits (Buffer bytes) = negative_fits 0 (omega arith)
+error_fits (Extent extent) = negative_fits 5 (omega arith)
 error_fits (Error errno) = negative_fits (errno_number errno) (errno_at_most errno)
 
 pub failure_is : (errno : Errno) (bytes : List ℕ) → answer_at (error_field (Error errno)) bytes ≡ Some (Error errno)

@@ -1,4 +1,4 @@
--- The body of a READDIR: what is read has these bytes as its body, and each body is read.
+-- The body of a READ or a READDIR: what is read has these bytes as its body, and each body is read.
 use Rattle.std.proofs.Common.{◌≡◌, ℕ, ◌<◌, ◌^◌, true, eqb, List, ◌++◌, length, take, drop, Ok, refl, sym, ap, subst, ◌∙◌, append_assoc, length-append, length-take, length-drop, arith}
 use Rattle.std.proofs.lemmas.Bool.{eqb-true}
 use Rattle.std.proofs.lemmas.List.{take-append-drop, drop-drop}

@@ -12,12 +12,12 @@ use Rattle.fuse_wire.specs.declared.fault.WireFault.{WireFault}
 use Rattle.fuse_wire.specs.declared.fault.WireFault.TheVariants.{Short, BadLength, BadBody}
 use Rattle.fuse_wire.specs.declared.form.Form.TheVariants.{ABuffer}
 use Rattle.fuse_wire.specs.declared.reply.Answer.{Answer}
-use Rattle.fuse_wire.specs.declared.reply.Answer.TheVariants.{Entry, Opened, Attrs, Done, Buffer, Error}
+use Rattle.fuse_wire.specs.declared.reply.Answer.TheVariants.{Entry, Opened, Attrs, Done, Buffer, Extent, Error}
 use Rattle.fuse_wire.specs.declared.reply.Reply.{Reply}
 use Rattle.fuse_wire.specs.Field.{i32_at, u32_at, u64_at}
 use Rattle.fuse_wire.specs.Form.{belongs}
 use Rattle.fuse_wire.specs.ReplyReading.{answer_at, buffer_reply_of, if_spelled, is_success, reply_with, reply_of, IsReplyFault}
-use Rattle.fuse_wire.specs.ReplyText.{error_field, is_buffer, reply_text, FitsReply}
+use Rattle.fuse_wire.specs.ReplyText.{error_field, is_fixed, reply_text, FitsReply}
 use Rattle.fuse_wire.proofs.Bodies.{yes_eq}
 use Rattle.fuse_wire.proofs.ReplyLaws.{header_again, length-reply_text, reply_again, HeaderIs}
 
@@ -31,7 +31,7 @@ answered bytes unique error answer long len is_error is_unique found =
     rw (whole, same, is_error, is_unique, found) refl
 
 -- a text is read as its reply
-pub text_again : (reply : Reply) (bytes : List ℕ) → is_buffer reply.answer ≡ false → FitsReply reply → bytes ≡ reply_text reply → reply_of bytes ≡ Ok reply
+pub text_again : (reply : Reply) (bytes : List ℕ) → is_fixed reply.answer ≡ true → FitsReply reply → bytes ≡ reply_text reply → reply_of bytes ≡ Ok reply
 text_again reply bytes fixed fits is =
     let read = reply_again reply bytes fixed fits is in
     let same : bytes_eq bytes (reply_text reply) ≡ true = grind (arith, bytes_eq-Decides) in
@@ -81,6 +81,7 @@ buffer_of_text unique (Entry number attr) bytes may fits is = absurd cc
 buffer_of_text unique (Opened number attr) bytes may fits is = absurd cc
 buffer_of_text unique (Attrs number attr) bytes may fits is = absurd cc
 buffer_of_text unique Done bytes may fits is = absurd cc
+buffer_of_text unique (Extent extent) bytes may fits is = absurd cc
 
 -- the text of a reply with a buffer, or an error in its place, is read as its reply
 pub buffer_again : (reply : Reply) (bytes : List ℕ) → belongs ABuffer reply.answer ≡ true → FitsReply reply → bytes ≡ reply_text reply → buffer_reply_of bytes ≡ Ok reply

@@ -1,5 +1,5 @@
 -- A reply that was written is read again as itself.
-use Rattle.std.proofs.Common.{◌≡◌, ℕ, ◌+◌, ◌%◌, ◌^◌, ◌<◌, ◌≤◌, ℤ, false, List, [], ◌++◌, length, drop, Some, refl, sym, ap, subst, ◌∙◌, append_assoc, length-append, arith}
+use Rattle.std.proofs.Common.{◌≡◌, ℕ, ◌+◌, ◌%◌, ◌^◌, ◌<◌, ◌≤◌, ℤ, true, false, List, [], ◌++◌, length, drop, Some, refl, sym, ap, subst, ◌∙◌, append_assoc, length-append, arith}
 use Rattle.std.specs.Int.{w32, cast_unsigned}
 use Rattle.std.proofs.lemmas.Bool.Decides.{nat_tests}
 use Rattle.std.proofs.lemmas.List.{append-nil, drop_at, drop-drop}
@@ -9,12 +9,12 @@ use Rattle.eden_base.specs.declared.attr.Kind.TheVariants.{File, Dir}
 use Rattle.eden_base.specs.declared.attr.Perm.{Perm}
 use Rattle.eden_base.specs.declared.number.Number.{Number}
 use Rattle.fuse_wire.specs.declared.reply.Answer.{Answer}
-use Rattle.fuse_wire.specs.declared.reply.Answer.TheVariants.{Entry, Opened, Attrs, Done, Buffer, Error}
+use Rattle.fuse_wire.specs.declared.reply.Answer.TheVariants.{Entry, Opened, Attrs, Done, Buffer, Extent, Error}
 use Rattle.fuse_wire.specs.declared.reply.Reply.{Reply}
 use Rattle.fuse_wire.specs.Field.{i32_bytes, u32_bytes, u64_bytes, i32_at, u32_at, u64_at, zeros}
 use Rattle.fuse_wire.specs.Mode.{perm_of, type_bits}
 use Rattle.fuse_wire.specs.ReplyReading.{kind_of, number_at, attr_at, answer_at}
-use Rattle.fuse_wire.specs.ReplyText.{error_field, buffer_of, head_payload, is_buffer, mode, attributes, entry, payload, reply_head, reply_header, reply_text, FitsAttr, FitsAnswer, FitsReply}
+use Rattle.fuse_wire.specs.ReplyText.{error_field, buffer_of, head_payload, is_buffer, is_fixed, mode, attributes, entry, payload, reply_head, reply_header, reply_text, FitsAttr, FitsAnswer, FitsReply}
 use Rattle.fuse_wire.proofs.Errors.{error_fits, failure_is}
 use Rattle.eden_base.proofs.PermLemmas.{same_perm}
 use Rattle.fuse_wire.proofs.Fields.{i32_again, i32_word, u32_again, u64_again}
@@ -98,6 +98,7 @@ payload_fits (Opened number attr) fits = grind (arith, lengths)
 payload_fits (Attrs number attr) fits = grind (arith, lengths)
 payload_fits Done fits = grind (arith, lengths)
 payload_fits (Buffer bytes) fits = fits
+payload_fits (Extent extent) fits = grind (arith, lengths)
 payload_fits (Error errno) fits = grind (arith, lengths)
 
 pub length-reply_text : (reply : Reply) → length (reply_text reply) ≡ 16 + length (payload reply.answer)
@@ -114,7 +115,17 @@ head_is_whole reply fixed =
       same (Attrs number attr) none = refl
       same Done none = refl
       same (Buffer bytes) none = absurd cc
+      same (Extent extent) none = refl
       same (Error errno) none = refl
+
+pub no_buffer : (answer : Answer) → is_fixed answer ≡ true → is_buffer answer ≡ false
+no_buffer (Entry number attr) fixed = refl
+no_buffer (Opened number attr) fixed = refl
+no_buffer (Attrs number attr) fixed = refl
+no_buffer Done fixed = refl
+no_buffer (Buffer bytes) fixed = absurd cc
+no_buffer (Extent extent) fixed = refl
+no_buffer (Error errno) fixed = refl
 
 -- what follows the head of a reply is its buffer
 pub head_and_buffer : (reply : Reply) → reply_text reply ≡ reply_head reply ++ buffer_of reply.answer
@@ -127,6 +138,7 @@ head_and_buffer reply =
       parts (Attrs number attr) = sym (append-nil (zeros 16 ++ attributes number attr))
       parts Done = refl
       parts (Buffer bytes) = refl
+      parts (Extent extent) = refl
       parts (Error errno) = refl
 
 -- the fields of the header
@@ -165,7 +177,7 @@ attributes_at bytes before number attr after n k rest len is fits =
     let there : drop k bytes ≡ attributes number attr ++ after = behind bytes before (attributes number attr ++ after) 16 n k rest len is in
     rw there (attributes_again number attr after fits)
 
-answer_is : (answer : Answer) (bytes : List ℕ) → is_buffer answer ≡ false → FitsAnswer answer → length bytes ≡ 16 + length (payload answer) → drop 16 bytes ≡ payload answer → answer_at (error_field answer) bytes ≡ Some answer
+answer_is : (answer : Answer) (bytes : List ℕ) → is_fixed answer ≡ true → FitsAnswer answer → length bytes ≡ 16 + length (payload answer) → drop 16 bytes ≡ payload answer → answer_at (error_field answer) bytes ≡ Some answer
 unfolding answer_at
 answer_is (Entry number attr) bytes fixed fits len rest =
     let regrouped : entry number attr ≡ (u64_bytes number.0 ++ zeros 32) ++ (attributes number attr ++ []) = ap (λ (t : List ℕ). (u64_bytes number.0 ++ zeros 32) ++ t) (sym (append-nil (attributes number attr))) in
@@ -186,6 +198,7 @@ answer_is (Attrs number attr) bytes fixed fits len rest =
     rw (long, there.0, there.1) refl
 answer_is Done bytes fixed fits len rest = let long : length bytes ≡ 16 = omega arith in rw long refl
 answer_is (Buffer buffer) bytes fixed fits len rest = absurd cc
+answer_is (Extent extent) bytes fixed fits len rest = absurd cc
 answer_is (Error errno) bytes fixed fits len rest = failure_is errno bytes
 
 -- what is read of the text of a reply
@@ -195,7 +208,7 @@ pub record ReadAs (reply : Reply) (bytes : List ℕ) : Type 0 where
   pub unique : u64_at (drop 8 bytes) ≡ reply.unique
   pub answer : answer_at (i32_at (drop 4 bytes)) bytes ≡ Some reply.answer
 
-pub reply_again : (reply : Reply) (bytes : List ℕ) → is_buffer reply.answer ≡ false → FitsReply reply → bytes ≡ reply_text reply → ReadAs reply bytes
+pub reply_again : (reply : Reply) (bytes : List ℕ) → is_fixed reply.answer ≡ true → FitsReply reply → bytes ≡ reply_text reply → ReadAs reply bytes
 reply_again reply bytes fixed fits is =
     let header : HeaderIs reply bytes = subst (HeaderIs reply) (sym is) (header_again reply fits) in
     let len : length bytes ≡ 16 + length (payload reply.answer) = ap length is ∙ length-reply_text reply in

@@ -9,7 +9,7 @@ use Rattle.fuse_wire.specs.declared.request.Request.{Request}
 use Rattle.fuse_wire.specs.declared.request.Request.TheVariants as requests
 use Rattle.fuse_wire.specs.declared.fault.WireFault.TheVariants.{BadBody}
 use Rattle.fuse_wire.specs.declared.request.Opcode.{Opcode}
-use Rattle.fuse_wire.specs.declared.request.Opcode.TheVariants.{Lookup, Forget, Getattr, Mkdir, Unlink, Rmdir, Rename, Readdir, Create, BatchForget, Other}
+use Rattle.fuse_wire.specs.declared.request.Opcode.TheVariants.{Lookup, Forget, Getattr, Mkdir, Unlink, Rmdir, Rename, Read, Readdir, Create, BatchForget, Other}
 use Rattle.fuse_wire.specs.Field.{u64_bytes, u64_at}
 use Rattle.byte_codec.specs.Reading.{◌>>=◌}
 use Rattle.fuse_wire.specs.Request.{code, opcode_of, opcode, nodeid, IsNodeid, IsSendable}
@@ -70,6 +70,10 @@ what_found Rename node body what are known e =
     let make : Number × List ℕ × List ℕ → Request = λ move. requests.Rename node move.1 move.0 move.2 in
     let b = bind_ok (move_of body) (λ move. Ok (make move)) what e in
     subst (WhatIs Rename node body) (ok_is (make b.0) what b.2) (record { opcode_is = refl; nodeid_is = refl; body_is = move_found body b.0.0 b.0.1 b.0.2 are b.1 })
+what_found Read node body what are known e =
+    let make : ℕ × ℕ → Request = λ range. requests.Read node range.0 range.1 in
+    let b = bind_ok (range_of body) (λ range. Ok (make range)) what e in
+    subst (WhatIs Read node body) (ok_is (make b.0) what b.2) (record { opcode_is = refl; nodeid_is = refl; body_is = range_found body b.0.0 b.0.1 are b.1 })
 what_found Readdir node body what are known e =
     let make : ℕ × ℕ → Request = λ range. requests.Readdir node range.0 range.1 in
     let b = bind_ok (range_of body) (λ range. Ok (make range)) what e in
@@ -99,6 +103,7 @@ what_again (requests.Rmdir dir name) node body fits n is = rw (number_is node di
 what_again (requests.Create dir name perm) node body fits n is = rw (number_is node dir n, made_again 4 8 body name perm is) refl
 what_again (requests.Mkdir dir name perm) node body fits n is = rw (number_is node dir n, made_again 0 4 body name perm is) refl
 what_again (requests.Rename dir name to_dir to_name) node body fits n is = rw (number_is node dir n, move_again body to_dir name to_name fits is) refl
+what_again (requests.Read m offset size) node body fits n is = rw (number_is node m n, range_again body offset size fits is) refl
 what_again (requests.Readdir dir offset size) node body fits n is = rw (number_is node dir n, range_again body offset size fits is) refl
 what_again (requests.Getattr m) node body fits n is = rw (number_is node m n, is) refl
 what_again (requests.Forget item) node body fits n is = rw (number_is node item.node n, is, forget_again item fits) refl

@@ -12,7 +12,7 @@ use Rattle.eden_base.specs.declared.number.Number.{Number}
 use Rattle.fuse_wire.specs.declared.fault.WireFault.{WireFault}
 use Rattle.fuse_wire.specs.declared.fault.WireFault.TheVariants.{Short, BadLength, BadBody}
 use Rattle.fuse_wire.specs.declared.form.Form.{Form}
-use Rattle.fuse_wire.specs.declared.form.Form.TheVariants.{ABuffer}
+use Rattle.fuse_wire.specs.declared.form.Form.TheVariants.{ABuffer, FileBytes}
 use Rattle.fuse_wire.specs.declared.reply.Answer.{Answer}
 use Rattle.fuse_wire.specs.declared.reply.Answer.TheVariants.{Entry, Opened, Attrs, Done, Buffer, Error}
 use Rattle.fuse_wire.specs.declared.reply.Reply.{Reply}
@@ -115,6 +115,7 @@ buffer_reply_of bytes =
 -- the reply that the bytes are to an ask of this form, if there is such an ask, or their first fault
 abbrev pub reply_to : Option Form → List ℕ → Result Reply WireFault
 reply_to (Some ABuffer) bytes = buffer_reply_of bytes
+reply_to (Some FileBytes) bytes = buffer_reply_of bytes
 reply_to form bytes = reply_of bytes
 
 -- a fault that reading a reply may have

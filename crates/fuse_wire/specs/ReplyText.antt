@@ -6,7 +6,7 @@ use Rattle.eden_base.specs.declared.errno.Errno.{Errno}
 use Rattle.eden_base.specs.declared.errno.Errno.TheVariants.{ENOENT, EIO, ENOMEM, EEXIST, ENOTDIR, EISDIR, EINVAL, ENOSPC, ENAMETOOLONG, ENOSYS, ENOTEMPTY, EOVERFLOW, ESTALE}
 use Rattle.eden_base.specs.declared.number.Number.{Number}
 use Rattle.fuse_wire.specs.declared.reply.Answer.{Answer}
-use Rattle.fuse_wire.specs.declared.reply.Answer.TheVariants.{Entry, Opened, Attrs, Done, Buffer, Error}
+use Rattle.fuse_wire.specs.declared.reply.Answer.TheVariants.{Entry, Opened, Attrs, Done, Buffer, Extent, Error}
 use Rattle.fuse_wire.specs.declared.reply.Reply.{Reply}
 use Rattle.fuse_wire.specs.Field.{i32_bytes, u32_bytes, u64_bytes, zeros}
 use Rattle.fuse_wire.specs.Mode.{type_bits}
@@ -27,9 +27,10 @@ errno_number ENOTEMPTY = 39
 errno_number EOVERFLOW = 75
 errno_number ESTALE = 116
 
--- the error field: 0, or the negative error number
+-- the error field: 0, or the negative error number; an extent whose bytes were not fetched is told as EIO
 abbrev pub error_field : Answer → ℤ
 error_field (Error errno) = neg_ℤ (pos (errno_number errno))
+error_field (Extent extent) = neg_ℤ (pos (errno_number EIO))
 error_field answer = pos 0
 
 -- the mode of a file
@@ -54,6 +55,7 @@ payload (Opened number attr) = entry number attr ++ zeros 16
 payload (Attrs number attr) = zeros 16 ++ attributes number attr
 payload Done = []
 payload (Buffer bytes) = bytes
+payload (Extent extent) = []
 payload (Error errno) = []
 
 -- the header of a reply: the length of the whole, the error, the unique
@@ -84,6 +86,13 @@ buffer_of answer = []
 abbrev pub is_buffer : Answer → Bool
 is_buffer (Buffer bytes) = true
 is_buffer answer = false
+
+-- the text of an answer tells which answer it is. That of a buffer does so only where a buffer was asked for, and an
+-- extent has that of EIO.
+abbrev pub is_fixed : Answer → Bool
+is_fixed (Buffer bytes) = false
+is_fixed (Extent extent) = false
+is_fixed answer = true
 
 -- a number and its attributes fit their fields
 pub record FitsAttr (number : Number) (attr : Attr) : Type 0 where

@@ -5,12 +5,12 @@
 use Rattle.std.specs.Prelude.{◌≡◌, ℕ, ◌==◌, Bool, true, false, List, [], ◌∷◌, Option, Some, None, if◌then◌else◌}
 use Rattle.eden_base.specs.declared.number.Number.{Number}
 use Rattle.fuse_wire.specs.declared.form.Form.{Form}
-use Rattle.fuse_wire.specs.declared.form.Form.TheVariants.{AnEntry, AnOpenEntry, Attributes, NoValue, ABuffer, OnlyAnError}
+use Rattle.fuse_wire.specs.declared.form.Form.TheVariants.{AnEntry, AnOpenEntry, Attributes, NoValue, ABuffer, FileBytes, OnlyAnError}
 use Rattle.fuse_wire.specs.declared.item.Item.{Item}
 use Rattle.fuse_wire.specs.declared.request.Opcode.{Opcode}
 use Rattle.fuse_wire.specs.declared.request.Opcode.TheVariants as opcodes
 use Rattle.fuse_wire.specs.declared.request.Request.{Request}
-use Rattle.fuse_wire.specs.declared.request.Request.TheVariants.{Lookup, Getattr, Create, Mkdir, Unlink, Rmdir, Rename, Readdir, Forget, BatchForget, Other}
+use Rattle.fuse_wire.specs.declared.request.Request.TheVariants.{Lookup, Getattr, Create, Mkdir, Unlink, Rmdir, Rename, Read, Readdir, Forget, BatchForget, Other}
 
 -- ---- opcodes
 
@@ -23,6 +23,7 @@ code opcodes.Mkdir = 9
 code opcodes.Unlink = 10
 code opcodes.Rmdir = 11
 code opcodes.Rename = 12
+code opcodes.Read = 15
 code opcodes.Readdir = 28
 code opcodes.Create = 35
 code opcodes.BatchForget = 42
@@ -38,6 +39,7 @@ opcode_of n =
     else if n == 10 then opcodes.Unlink
     else if n == 11 then opcodes.Rmdir
     else if n == 12 then opcodes.Rename
+    else if n == 15 then opcodes.Read
     else if n == 28 then opcodes.Readdir
     else if n == 35 then opcodes.Create
     else if n == 42 then opcodes.BatchForget
@@ -58,6 +60,7 @@ opcode (Mkdir dir name perm) = opcodes.Mkdir
 opcode (Unlink dir name) = opcodes.Unlink
 opcode (Rmdir dir name) = opcodes.Rmdir
 opcode (Rename dir name to_dir to_name) = opcodes.Rename
+opcode (Read node offset size) = opcodes.Read
 opcode (Readdir dir offset size) = opcodes.Readdir
 opcode (Forget item) = opcodes.Forget
 opcode (BatchForget items) = opcodes.BatchForget
@@ -89,6 +92,7 @@ nodeid (Mkdir dir name perm) = dir.0
 nodeid (Unlink dir name) = dir.0
 nodeid (Rmdir dir name) = dir.0
 nodeid (Rename dir name to_dir to_name) = dir.0
+nodeid (Read node offset size) = node.0
 nodeid (Readdir dir offset size) = dir.0
 nodeid (Forget item) = item.node.0
 nodeid (BatchForget items) = 0
@@ -116,6 +120,7 @@ nodes (Mkdir dir name perm) = dir ∷ []
 nodes (Unlink dir name) = dir ∷ []
 nodes (Rmdir dir name) = dir ∷ []
 nodes (Rename dir name to_dir to_name) = dir ∷ to_dir ∷ []
+nodes (Read node offset size) = node ∷ []
 nodes (Readdir dir offset size) = dir ∷ []
 nodes (Forget item) = []
 nodes (BatchForget items) = []
@@ -130,6 +135,7 @@ form_of (Getattr node) = Attributes
 form_of (Unlink dir name) = NoValue
 form_of (Rmdir dir name) = NoValue
 form_of (Rename dir name to_dir to_name) = NoValue
+form_of (Read node offset size) = FileBytes
 form_of (Readdir dir offset size) = ABuffer
 form_of request = OnlyAnError
 

@@ -14,7 +14,7 @@ use Rattle.fuse_wire.specs.declared.item.Item.{Item}
 use Rattle.fuse_wire.specs.declared.request.Opcode.{Opcode}
 use Rattle.fuse_wire.specs.declared.request.Opcode.TheVariants as opcodes
 use Rattle.fuse_wire.specs.declared.request.Request.{Request}
-use Rattle.fuse_wire.specs.declared.request.Request.TheVariants.{Lookup, Getattr, Create, Mkdir, Unlink, Rmdir, Rename, Readdir, Forget, BatchForget, Other}
+use Rattle.fuse_wire.specs.declared.request.Request.TheVariants.{Lookup, Getattr, Create, Mkdir, Unlink, Rmdir, Rename, Read, Readdir, Forget, BatchForget, Other}
 use Rattle.fuse_wire.specs.Field.{zeros, u32_bytes, u64_bytes, u32_at, u64_at}
 use Rattle.fuse_wire.specs.Mode.{S_IFREG, perm_of}
 use Rattle.byte_codec.specs.Reading.{◌>>=◌}
@@ -42,7 +42,8 @@ batch_body items = (u32_bytes (length items) ++ zeros 4) ++ flat_map item_text i
 abbrev pub move_body : Number → List ℕ → List ℕ → List ℕ
 move_body to_dir name to_name = u64_bytes to_dir.0 ++ name_text name ++ name_text to_name
 
--- the body of a READDIR: the number of an open file, then an offset and a size, then flags and an owner of locks
+-- the body of a READ or a READDIR: the number of an open file, then an offset and a size, then flags and an owner of
+-- locks
 abbrev pub range_body : ℕ → ℕ → List ℕ
 range_body offset size = (zeros 8 ++ u64_bytes offset ++ u32_bytes size) ++ zeros 20
 
@@ -53,6 +54,7 @@ body (Lookup dir name) = name_text name
 body (Unlink dir name) = name_text name
 body (Rmdir dir name) = name_text name
 body (Rename dir name to_dir to_name) = move_body to_dir name to_name
+body (Read node offset size) = range_body offset size
 body (Readdir dir offset size) = range_body offset size
 body (Create dir name perm) = made_body 4 (S_IFREG + perm.bits) 8 name
 body (Mkdir dir name perm) = made_body 0 perm.bits 4 name
@@ -92,7 +94,7 @@ pub record IsMoveBody (to_dir : Number) (name to_name : List ℕ) (bytes : List 
   pub is_to_name : IsNameText to_name
   pub parts : bytes ≡ move_body to_dir name to_name
 
--- a body of READDIR: eight bytes that are ignored, an offset and a size, and twenty bytes that are ignored
+-- a body of READ or READDIR: eight bytes that are ignored, an offset and a size, and twenty bytes that are ignored
 pub record IsRangeBody (offset size : ℕ) (bytes : List ℕ) : Type 0 where
   pub before : List ℕ
   pub behind : List ℕ
@@ -106,6 +108,7 @@ IsBody (Lookup dir name) bytes = IsNameText name × (bytes ≡ name_text name)
 IsBody (Unlink dir name) bytes = IsNameText name × (bytes ≡ name_text name)
 IsBody (Rmdir dir name) bytes = IsNameText name × (bytes ≡ name_text name)
 IsBody (Rename dir name to_dir to_name) bytes = IsMoveBody to_dir name to_name bytes
+IsBody (Read node offset size) bytes = IsRangeBody offset size bytes
 IsBody (Readdir dir offset size) bytes = IsRangeBody offset size bytes
 IsBody (Create dir name perm) bytes = IsMadeBody 4 8 name perm bytes
 IsBody (Mkdir dir name perm) bytes = IsMadeBody 0 4 name perm bytes
@@ -124,6 +127,7 @@ pub record FitsItem (item : Item) : Type 0 where
 -- the numbers of a body fit their fields
 abbrev pub FitsBody : Request → Type 0
 FitsBody (Rename dir name to_dir to_name) = to_dir.0 < 2 ^ 64
+FitsBody (Read node offset size) = (offset < 2 ^ 64) × (size < 2 ^ 32)
 FitsBody (Readdir dir offset size) = (offset < 2 ^ 64) × (size < 2 ^ 32)
 FitsBody (Forget item) = item.k < 2 ^ 64
 FitsBody (BatchForget items) = All FitsItem items
@@ -177,7 +181,7 @@ made_of offset rest body =
     if nat_lt (length body) (offset + 4 + rest) then Err BadBody
     else named_with (perm_of (u32_at (drop offset body))) (drop (offset + 4 + rest) body)
 
--- the offset and the size in a body of READDIR, which has forty bytes, or BadBody
+-- the offset and the size in a body of READ or READDIR, which has forty bytes, or BadBody
 unfoldable pub range_of : List ℕ → Result (ℕ × ℕ) WireFault
 range_of body = if length body == 40 then Ok (u64_at (drop 8 body), u32_at (drop 16 body)) else Err BadBody
 
@@ -209,6 +213,7 @@ what_of opcodes.Rmdir node body = name_of body >>= λ name. Ok (Rmdir node name)
 what_of opcodes.Create node body = made_of 4 8 body >>= λ made. Ok (Create node made.0 made.1)
 what_of opcodes.Mkdir node body = made_of 0 4 body >>= λ made. Ok (Mkdir node made.0 made.1)
 what_of opcodes.Rename node body = move_of body >>= λ move. Ok (Rename node move.1 move.0 move.2)
+what_of opcodes.Read node body = range_of body >>= λ range. Ok (Read node range.0 range.1)
 what_of opcodes.Readdir node body = range_of body >>= λ range. Ok (Readdir node range.0 range.1)
 what_of opcodes.Getattr node body = if length body == 16 then Ok (Getattr node) else Err BadBody
 what_of opcodes.Forget node body = forget_of node body >>= λ item. Ok (Forget item)

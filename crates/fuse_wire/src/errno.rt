@@ -6,12 +6,14 @@ ghost use Rattle.fuse_wire.specs.ReplyReading.{errno_of};
 use crate::Answer;
 use eden_base::Errno;
 
-/// Returns the error field of a reply's header: 0, or the negative error number.
+/// Returns the error field of a reply's header: 0, or the negative error number. An extent has no bytes to tell, so it
+/// is told as EIO.
 pub(crate) fn error_field(answer: &Answer) -> i32
     ensures { result ≡ error_field answer.now }
 {
     match answer {
         Answer::Error(errno) => -errno_number(*errno),
+        Answer::Extent(_) => -errno_number(Errno::EIO),
         _ => 0,
     }
 }

@@ -17,6 +17,8 @@ pub enum Form {
     NoValue,
     /// Bytes of any length.
     ABuffer,
+    /// Bytes of a file: the extent that they are, or the bytes themselves.
+    FileBytes,
     /// No value: the request is not served and always fails, or it is a forget, which has no reply.
     OnlyAnError,
 }
@@ -31,7 +33,8 @@ impl Form {
             Answer::Opened { .. } => self == Form::AnOpenEntry,
             Answer::Attrs { .. } => self == Form::Attributes,
             Answer::Done => self == Form::NoValue,
-            Answer::Buffer(_) => self == Form::ABuffer,
+            Answer::Buffer(_) => self == Form::ABuffer || self == Form::FileBytes,
+            Answer::Extent(_) => self == Form::FileBytes,
             Answer::Error(_) => true,
         }
     }

@@ -12,7 +12,11 @@ impl Answer {
     {
         match self {
             Answer::Entry { number, .. } | Answer::Opened { number, .. } => Some(*number),
-            Answer::Attrs { .. } | Answer::Done | Answer::Buffer(_) | Answer::Error(_) => None,
+            Answer::Attrs { .. }
+            | Answer::Done
+            | Answer::Buffer(_)
+            | Answer::Extent(_)
+            | Answer::Error(_) => None,
         }
     }
 }

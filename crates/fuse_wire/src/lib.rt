@@ -38,7 +38,7 @@ pub use form::Form;
 pub use item::{Item, Items};
 pub use listing::Listing;
 pub use nodes::NodeIds;
-pub use reply::{Answer, Reply};
+pub use reply::{Answer, Extent, Reply};
 pub use reply_reader::{read_buffer_reply, read_reply, unique_of};
 pub use reply_to_fault::fault_reply;
 pub use reply_writer::{MAX_REPLY_LEN, write_reply};

@@ -4,8 +4,16 @@ ghost use Rattle.fuse_wire.specs.Sharing.{StandsFor};
 
 use crate::Buffer;
 use crate::same::same_attr;
-use eden_base::{Attr, Errno, Number};
+use eden_base::{Attr, Errno, FileId, Number};
 use std::alloc::Global;
+
+/// A contiguous part of a file's bytes: `len` bytes from `offset` on. What stands there is not in it.
+#[derive(Clone, Copy, PartialEq, Eq)]
+pub struct Extent {
+    pub file: FileId,
+    pub offset: u64,
+    pub len: u32,
+}
 
 /// What a daemon answers: a reply without its unique.
 #[derive(PartialEq, Eq, Drop)]
@@ -18,8 +26,10 @@ pub enum Answer {
     Attrs { number: Number, attr: Attr },
     /// To UNLINK, RMDIR and RENAME.
     Done,
-    /// Bytes of any length. No request that is served has such an answer yet.
+    /// Bytes of any length. To READDIR, and to READ once the bytes of an extent were fetched.
     Buffer(Buffer),
+    /// To READ, before its bytes are fetched.
+    Extent(Extent),
     Error(Errno),
 }
 
@@ -40,6 +50,7 @@ impl Answer {
             }
             Answer::Done => matches!(other, Answer::Done),
             Answer::Buffer(buffer) => matches!(other, Answer::Buffer(second) if buffer.is(second)),
+            Answer::Extent(extent) => matches!(other, Answer::Extent(second) if extent == second),
             Answer::Error(errno) => matches!(other, Answer::Error(second) if errno == second),
         }
     }
@@ -68,6 +79,7 @@ impl Answer {
                 Ok((first, second)) => (Answer::Buffer(first), Answer::Buffer(second)),
                 Err(_refused) => (Answer::Error(Errno::ENOMEM), Answer::Error(Errno::ENOMEM)),
             },
+            Answer::Extent(extent) => (Answer::Extent(extent), Answer::Extent(extent)),
             Answer::Error(errno) => (Answer::Error(errno), Answer::Error(errno)),
         }
     }

@@ -3,7 +3,7 @@ ghost use Rattle.std.specs.Prelude.{◌≡◌, ◌≢◌, ◌≤◌, ◌<◌, �
 ghost use Rattle.fuse_wire.specs.Field.{i32_at, u32_at, u64_at};
 ghost use Rattle.fuse_wire.specs.Form.{belongs};
 ghost use Rattle.fuse_wire.specs.declared.form.Form.TheVariants.{ABuffer};
-ghost use Rattle.fuse_wire.specs.ReplyText.{is_buffer, reply_text, FitsReply};
+ghost use Rattle.fuse_wire.specs.ReplyText.{is_buffer, is_fixed, reply_text, FitsReply};
 ghost use Rattle.fuse_wire.specs.ReplyReading.{answer_at, attr_at, buffer_reply_of, if_spelled, is_success, number_at, reply_of, unique_in, IsReplyFault};
 
 use crate::errno::errno_of;
@@ -29,7 +29,8 @@ pub fn unique_of(bytes: &[u8]) -> Option<u64>
     Some(fields.u64())
 }
 
-/// Reads the reply to an ask whose answer is a buffer. The buffer stays in the memory of `bytes`, so none is taken.
+/// Reads the reply to an ask whose answer is a buffer, or bytes of a file. They stay in the memory of `bytes`, so none
+/// is taken.
 pub fn read_buffer_reply(bytes: Bytes) -> Result<Reply, WireFault>
     ensures exact { result ≡ buffer_reply_of bytes }
     ensures only { (reply : Reply) → belongs ABuffer reply.answer ≡ true → FitsReply reply
@@ -71,11 +72,11 @@ fn success_of(bytes: &[u8]) -> Option<u64>
     Some(unique)
 }
 
-/// Reads a reply whose answer is no buffer, without taking memory. Bytes of the right length that are not what `write_reply` writes are
-/// `BadBody`.
+/// Reads a reply whose answer is no buffer, without taking memory. Bytes of the right length that are not what
+/// `write_reply` writes are `BadBody`.
 pub fn read_reply(bytes: &[u8]) -> Result<Reply, WireFault>
     ensures text { IfOk result (λ reply. bytes.now ≡ reply_text reply) }
-    ensures only { (reply : Reply) → is_buffer reply.answer ≡ false → FitsReply reply
+    ensures only { (reply : Reply) → is_fixed reply.answer ≡ true → FitsReply reply
         → bytes.now ≡ reply_text reply → result ≡ Ok reply }
     ensures short { IsErrOf result WireFault.Short ↔ (length bytes.now < 16) }
     ensures bad_length { IsErrOf result WireFault.BadLength

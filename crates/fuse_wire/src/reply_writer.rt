@@ -1,7 +1,7 @@
 //! Replies as bytes.
-ghost use Rattle.std.specs.Prelude.{◌<◌, ◌^◌, ◌≡◌, ◌++◌, ◌≤◌, ◌+◌, Ok, false, length, take, drop};
+ghost use Rattle.std.specs.Prelude.{◌<◌, ◌^◌, ◌≡◌, ◌++◌, ◌≤◌, ◌+◌, Ok, true, length, take, drop};
 ghost use Rattle.fuse_wire.specs.ReplyReading.{reply_of};
-ghost use Rattle.fuse_wire.specs.ReplyText.{attributes, buffer_of, entry, error_field, head_payload, is_buffer, payload, reply_head, reply_header, reply_text, FitsAnswer, FitsAttr, FitsReply};
+ghost use Rattle.fuse_wire.specs.ReplyText.{attributes, buffer_of, entry, error_field, head_payload, is_fixed, payload, reply_head, reply_header, reply_text, FitsAnswer, FitsAttr, FitsReply};
 ghost use Rattle.fuse_wire.specs.Writing.{HasRoom, Puts};
 
 use crate::errno::error_field;
@@ -18,14 +18,15 @@ use eden_base::{Attr, Number};
 pub const MAX_REPLY_LEN: usize = OPENED_REPLY_LEN;
 
 /// Writes the head of `reply` at the front of `out`, and returns its length. The bytes after it are unchanged. The head
-/// is the whole reply, but for the bytes of its buffer, which follow if the answer has one.
+/// is the whole reply, but for the bytes of its buffer, which follow if the answer has one. An extent has no bytes of
+/// its own: its reply is that of EIO.
 #[tactic(auto, using(crate::proofs::Written::written))]
 pub fn write_reply(reply: &Reply, out: &mut [u8; MAX_REPLY_LEN]) -> usize
     ensures head { out.new ≡ reply_head reply.now ++ drop result out.old }
     ensures len { result ≡ length (reply_head reply.now) }
     ensures whole { reply_text reply.now ≡ reply_head reply.now ++ buffer_of reply.now.answer }
     ensures fits { FitsReply reply.now }
-    ensures read_again { is_buffer reply.now.answer ≡ false → reply_of (take result out.new) ≡ Ok reply.now }
+    ensures read_again { is_fixed reply.now.answer ≡ true → reply_of (take result out.new) ≡ Ok reply.now }
 {
     let head_len = REPLY_HEADER_LEN + head_payload_len(&reply.answer);
     let len = head_len + reply.answer.buffer().len();
@@ -72,7 +73,7 @@ fn head_payload_len(answer: &Answer) -> usize
         Answer::Entry { .. } => ENTRY_LEN,
         Answer::Opened { .. } => ENTRY_LEN + OPEN_LEN,
         Answer::Attrs { .. } => ATTR_VALID_LEN + ATTRIBUTES_LEN,
-        Answer::Done | Answer::Buffer(_) | Answer::Error(_) => 0,
+        Answer::Done | Answer::Buffer(_) | Answer::Extent(_) | Answer::Error(_) => 0,
     }
 }
 
@@ -93,7 +94,7 @@ fn put_payload(fields: &mut MessageWriter, answer: &Answer)
             fields.put_zeros(ATTR_VALID_LEN);
             put_attributes(fields, *number, attr);
         }
-        Answer::Done | Answer::Buffer(_) | Answer::Error(_) => {}
+        Answer::Done | Answer::Buffer(_) | Answer::Extent(_) | Answer::Error(_) => {}
     }
 }
 

@@ -45,6 +45,12 @@ pub enum Request {
         to_dir: Number,
         to_name: Name,
     },
+    /// The bytes of a file from `offset` on, at most `size` of them.
+    Read {
+        node: Number,
+        offset: u64,
+        size: u32,
+    },
     /// The entries of a directory from `offset` on, in at most `size` bytes.
     Readdir {
         dir: Number,
@@ -79,6 +85,7 @@ pub(crate) enum Opcode {
     Unlink,
     Rmdir,
     Rename,
+    Read,
     Readdir,
     Create,
     BatchForget,
@@ -135,6 +142,11 @@ impl Request {
                     to_name,
                 })
             }
+            Request::Read { node, offset, size } => Ok(Request::Read {
+                node: *node,
+                offset: *offset,
+                size: *size,
+            }),
             Request::Readdir { dir, offset, size } => Ok(Request::Readdir {
                 dir: *dir,
                 offset: *offset,
@@ -208,6 +220,10 @@ impl Request {
                 matches!(other, Request::Rename { dir: second, name: its, to_dir: target, to_name: new }
                     if same_place(*dir, name, *second, its) && same_place(*to_dir, to_name, *target, new))
             }
+            Request::Read { node, offset, size } => {
+                matches!(other, Request::Read { node: second, offset: from, size: most }
+                    if node == second && offset == from && size == most)
+            }
             Request::Readdir { dir, offset, size } => {
                 matches!(other, Request::Readdir { dir: second, offset: from, size: most }
                     if dir == second && offset == from && size == most)
@@ -250,6 +266,7 @@ impl Request {
             Request::Unlink { .. } | Request::Rmdir { .. } | Request::Rename { .. } => {
                 Form::NoValue
             }
+            Request::Read { .. } => Form::FileBytes,
             Request::Readdir { .. } => Form::ABuffer,
             Request::Forget(_) | Request::BatchForget(_) | Request::Other { .. } => {
                 Form::OnlyAnError
@@ -269,6 +286,7 @@ impl Request {
             Request::Unlink { .. } => Opcode::Unlink,
             Request::Rmdir { .. } => Opcode::Rmdir,
             Request::Rename { .. } => Opcode::Rename,
+            Request::Read { .. } => Opcode::Read,
             Request::Readdir { .. } => Opcode::Readdir,
             Request::Forget(_) => Opcode::Forget,
             Request::BatchForget(_) => Opcode::BatchForget,
@@ -288,7 +306,8 @@ impl Request {
             | Request::Rmdir { dir, .. }
             | Request::Rename { dir, .. }
             | Request::Readdir { dir, .. } => dir.0,
-            Request::Getattr { node } | Request::Other { node, .. } => node.0,
+            Request::Getattr { node } | Request::Read { node, .. } | Request::Other { node, .. } =>
+                node.0,
             Request::Forget(item) => item.node.0,
             Request::BatchForget(_) => 0,
         }
@@ -307,7 +326,8 @@ impl Request {
             | Request::Rmdir { dir, .. }
             | Request::Readdir { dir, .. } => NodeIds::one(*dir),
             Request::Rename { dir, to_dir, .. } => NodeIds::two(*dir, *to_dir),
-            Request::Getattr { node } | Request::Other { node, .. } => NodeIds::one(*node),
+            Request::Getattr { node } | Request::Read { node, .. } | Request::Other { node, .. } =>
+                NodeIds::one(*node),
             Request::Forget(_) | Request::BatchForget(_) => NodeIds::none(),
         }
     }
@@ -349,6 +369,7 @@ impl Opcode {
             10 => Opcode::Unlink,
             11 => Opcode::Rmdir,
             12 => Opcode::Rename,
+            15 => Opcode::Read,
             28 => Opcode::Readdir,
             35 => Opcode::Create,
             42 => Opcode::BatchForget,
@@ -368,6 +389,7 @@ impl Opcode {
             Opcode::Unlink => 10,
             Opcode::Rmdir => 11,
             Opcode::Rename => 12,
+            Opcode::Read => 15,
             Opcode::Readdir => 28,
             Opcode::Create => 35,
             Opcode::BatchForget => 42,

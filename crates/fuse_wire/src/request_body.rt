@@ -39,7 +39,7 @@ pub(crate) fn body_len(request: &Request) -> usize
             to_name,
             ..
         } => move_len(*to_dir, name, to_name),
-        Request::Readdir { .. } => RANGE_LEN,
+        Request::Read { .. } | Request::Readdir { .. } => RANGE_LEN,
         Request::Getattr { .. } => GETATTR_LEN,
         Request::Forget(_) => FORGET_LEN,
         Request::BatchForget(items) => batch_len(items.as_slice()),
@@ -71,7 +71,9 @@ pub(crate) fn put_body(fields: &mut MessageWriter, request: &Request)
             to_name,
             ..
         } => put_move(fields, *to_dir, name, to_name),
-        Request::Readdir { offset, size, .. } => put_range(fields, *offset, *size),
+        Request::Read { offset, size, .. } | Request::Readdir { offset, size, .. } => put_range(
+            fields, *offset, *size,
+        ),
         Request::Getattr { .. } => fields.put_zeros(GETATTR_LEN),
         Request::Forget(item) => fields.put_u64(item.k),
         Request::BatchForget(items) => put_batch(fields, items.as_slice()),
@@ -119,6 +121,10 @@ pub(crate) fn read_body<M: Memory>(
                 to_dir,
                 to_name,
             }))
+        }
+        Opcode::Read => {
+            let (offset, size) = read_range(body)?;
+            Ok(header.asks(Request::Read { node, offset, size }))
         }
         Opcode::Readdir => {
             let (offset, size) = read_range(body)?;
