@@ -60,13 +60,15 @@ impl Bytes {
         }
     }
 
-    /// Returns the bytes as a `Vec`, in the same memory, or none if they are part of a longer or a shared text.
-    pub fn into_vec(self) -> Option<Vec<u8>>
-        ensures bytes { IfSome result (λ bytes. bytes.items ≡ self) }
+    /// Returns the memory of the bytes and the index in it at which they begin, or none if they are in a shared text. Bytes
+    /// that `after` left out still stand before this index.
+    pub fn into_memory(self) -> Option<(Vec<u8>, usize)>
+        ensures bytes { IfSome result (λ both. without both.1 both.0.items ≡ self) }
+        ensures within { IfSome result (λ both. both.1 ≤ length both.0.items) }
     {
         let Bytes { storage } = self;
         match storage {
-            Storage::Own(range) => range.into_vec(),
+            Storage::Own(range) => Some(range.into_memory()),
             Storage::Shared(range) => {
                 drop(range);
                 None

@@ -89,15 +89,13 @@ impl OwnRange {
         })
     }
 
-    /// Returns the bytes as a `Vec`, if none stands before them.
-    pub(crate) fn into_vec(self) -> Option<Vec<u8>>
-        ensures bytes { IfSome result (λ bytes. bytes.items ≡ drop self.from self.bytes.items) }
+    /// Returns the `Vec` of the range, and the index from which on its bytes are those of the range.
+    pub(crate) fn into_memory(self) -> (Vec<u8>, usize)
+        ensures bytes { result.0 ≡ self.bytes }
+        ensures from { result.1 ≡ self.from }
     {
         let OwnRange { bytes, from } = self;
-        if from > 0 {
-            return None;
-        }
-        Some(bytes)
+        (bytes, from)
     }
 
     /// Returns the range as one of a text that may get further owners.

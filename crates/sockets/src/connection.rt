@@ -104,7 +104,7 @@ impl<'a, R: Clock> Connection<'a, R> {
             reply,
         } = frame
         {
-            if let Some(body) = reply.into_vec() {
+            if let Some((body, _from)) = reply.into_memory() {
                 self.body = body;
             }
         }

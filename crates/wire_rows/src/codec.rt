@@ -2,9 +2,10 @@
 //!
 //! `codec put BYTE TWO FOUR EIGHT LETTERS`: the bytes of numbers of one, two, four and eight bytes, and of letters.
 //! `codec take BYTES`: the same fields, with three letters, at the front of BYTES, and what is behind them, or `Short`.
-//! `codec number BYTES`: the number in two, four or eight BYTES. `codec bytes BYTES`: the same, as `Bytes` show them and
-//! give them back. `codec equal BYTES BYTES`. `codec cut N FRONT BYTES`: BYTES without the first N, then with FRONT before
-//! them, and then whether two owners of these have the same, and what the second one has.
+//! `codec number BYTES`: the number in two, four or eight BYTES. `codec bytes N BYTES`: BYTES without the first N, then the
+//! memory that these give back, and the index in it at which they begin. `codec equal BYTES BYTES`. `codec cut N FRONT
+//! BYTES`: BYTES without the first N, then with FRONT before them, and then whether two owners of these have the same, and
+//! what the second one has.
 ghost use Rattle.std.specs.Prelude.{◌+◌, length};
 ghost use Rattle.byte_codec.specs.Writing.{HasRoom};
 
@@ -97,13 +98,21 @@ fn take(bytes: &[u8], output: &mut Output) {
     }
 }
 
-/// Writes `bytes` as they are shown, and as they are given back.
-fn tell_bytes(bytes: Bytes, output: &mut Output) {
-    output.bytes(bytes.as_slice());
-    match bytes.into_vec() {
-        Some(bytes) => output.bytes(bytes.as_slice()),
+/// Leaves the first `count` of `bytes` out, and writes the others, the memory that they give back, and where they begin.
+fn tell_bytes(count: usize, bytes: Vec<u8>, output: &mut Output) -> Result<(), RowFault> {
+    if count > bytes.len() {
+        return Err(RowFault::BadRow);
+    }
+    let rest = Bytes::of(bytes).after(count);
+    output.bytes(rest.as_slice());
+    match rest.into_memory() {
+        Some((memory, from)) => {
+            output.bytes(memory.as_slice());
+            output.number(from as u64);
+        }
         None => output.word("shared"),
     }
+    Ok(())
 }
 
 /// Cuts bytes, puts others before them, and shares them.
@@ -134,7 +143,7 @@ pub(crate) fn call_codec(words: &mut Words<'_>, output: &mut Output) -> Result<(
         CodecCall::Take => take(words.bytes().as_slice(), output),
         CodecCall::Number => tell_number(words.bytes().as_slice(), output),
         CodecCall::Equal => output.flag(Bytes::of(words.bytes()) == Bytes::of(words.bytes())),
-        CodecCall::Bytes => tell_bytes(Bytes::of(words.bytes()), output),
+        CodecCall::Bytes => tell_bytes(words.number() as usize, words.bytes(), output)?,
     }
     words.end()
 }
