@@ -64,11 +64,9 @@ fn post_of(body: Vec<u8>) -> Result<Frame, FrameFault>
         return Err(FrameFault::BadBody);
     }
     let generation = u64_in(&body[..8]);
-    let mut reply = body;
-    drop(reply.drain(..8));
     Ok(Frame::Post {
         generation,
-        reply: Bytes::of(reply),
+        reply: Bytes::of(body).after(8),
     })
 }
 
@@ -82,12 +80,10 @@ fn data_of(body: Vec<u8>) -> Result<Message, FrameFault>
     }
     let session = u32_in(&body[..4]);
     let generation = u64_in(&body[4..12]);
-    let mut image = body;
-    drop(image.drain(..12));
     Ok(Message::Data {
         session,
         generation,
-        bytes: Bytes::of(image),
+        bytes: Bytes::of(body).after(12),
     })
 }
 
@@ -104,14 +100,12 @@ fn part_of(body: Vec<u8>) -> Result<Message, FrameFault>
     let generation = u64_in(&body[4..12]);
     let position = u32_in(&body[12..16]);
     let count = u32_in(&body[16..20]);
-    let mut part = body;
-    drop(part.drain(..20));
     Ok(Message::Part {
         session,
         generation,
         position,
         count,
-        bytes: Bytes::of(part),
+        bytes: Bytes::of(body).after(20),
     })
 }
 
