@@ -1,14 +1,17 @@
 -- The first file of a directory from an id on, as an index of the links tells it.
-use Rattle.std.proofs.Common.{◌≡◌, ℕ, ◌+◌, ◌<◌, List, Option, Some, None, IfSome, IsSomeAnd, MatchOption, sym, ap, subst, ◌∙◌, arith}
+use Rattle.std.proofs.Common.{◌≡◌, ℕ, ◌+◌, ◌-◌, ◌<◌, ◌≤◌, true, false, nat_lt, if◌then◌else◌, List, Option, Some, None, IfSome, IsSomeAnd, MatchOption, refl, sym, ap, subst, ◌∙◌, arith}
+use Rattle.std.proofs.lemmas.Bool.Decides.{nat_tests}
 use Rattle.std.proofs.lemmas.Option.{slice_get_within}
 use Rattle.std.specs.FinMap.{FinMap, get}
+use Rattle.std.specs.List.{slice_get}
 use Rattle.std.specs.Option.{option_map}
 use Rattle.directory_index.proofs.Standings.{same-number}
 use Rattle.directory_index.specs.Standing.{Standing, IsFirstFrom as IsFirstNumber, StandsIn as NumberStandsIn}
 use Rattle.eden_base.specs.declared.number.FileId.{FileId}
-use Rattle.manifest.specs.Manifest.{most_lines, AreLines, Line}
+use Rattle.manifest.specs.Manifest.{most_lines, line_of, AreLines, Line}
 use Rattle.manifest.specs.Tree.{link_cmp, links_from, IsFirstFrom, StandsIn}
-use Rattle.manifest.proofs.ManifestTree.{line_of_link, same_id}
+use Rattle.manifest.proofs.ManifestTree.{file_with, line_of_link, link_of_line, same_id}
+use Rattle.manifest.proofs.MoreLines.{apart}
 
 abbrev id_of : FileId → ℕ
 id_of file = file.0
@@ -44,3 +47,21 @@ first-few lines are dir least (Some file) first =
     let is = r.file_is in
     let few = are.few in
     omega (arith, is, within, few)
+
+-- the link of a file's line gives the file
+link-of-file : (lines : List Line) → AreLines lines → (file : FileId) (line : Line) → line_of lines file ≡ Some line → get (links_from 2 lines) (line.dir.0, line.name) ≡ Some file
+link-of-file lines are file line here = elim (nat_lt file.0 2) as (λ b. nat_lt file.0 2 ≡ b → (if b then None else slice_get lines (file.0 - 2)) ≡ Some line → get (links_from 2 lines) (line.dir.0, line.name) ≡ Some file) [
+  | true ↦ λ e g. cc
+  | false ↦ λ e g.
+      let at_least : 2 ≤ file.0 = grind (arith, nat_tests) in
+      let id : 2 + (file.0 - 2) ≡ file.0 = omega arith in
+      link_of_line lines 2 (file.0 - 2) line (apart lines are) g ∙ ap Some (same_id (file_with (2 + (file.0 - 2))) file id)
+] refl here
+
+-- so a file that has its line in the directory is the first one from its own id on
+pub first-here : (lines : List Line) → AreLines lines → (dir file : FileId) (line : Line) → line_of lines file ≡ Some line → line.dir.0 ≡ dir.0 → IsFirstFrom (links_from 2 lines) dir file.0 (Some file)
+first-here lines are dir file line here in_dir = (
+  (line.name, ap (λ n. get (links_from 2 lines) (n, line.name)) (sym in_dir) ∙ link-of-file lines are file line here),
+  omega arith,
+  λ other s from. from,
+)

@@ -9,7 +9,7 @@ ghost use Rattle.manifest.specs.Tree.{file_at, links_from, root, IsFirstFrom};
 
 use crate::entry::ManifestEntry;
 use crate::field::is_path;
-use crate::line::kind_of;
+use crate::line::{kind_of, line_of};
 use crate::places::LinePlaces;
 use crate::tally::Tally;
 use crate::{Line, ManifestFaultKind};
@@ -88,10 +88,16 @@ impl Lines {
     }
 
     /// Returns the first file from the id `least` on that the lines have in the directory `dir`, by rising id, or none.
+    /// Looks first whether `least` stands there itself: lines of one directory mostly follow one another.
     pub fn first_from(&self, dir: FileId, least: FileId) -> Option<FileId>
         ensures first { IsFirstFrom (links_from 2 self.now) dir least.0 result }
         ensures few { IfSome result (λ file. file.0 < most_lines + 2) }
     {
+        if let Some(line) = line_of(self.lines.as_slice(), least)
+            && line.dir.0 == dir.0
+        {
+            return Some(least);
+        }
         self.index.first_from(dir.0, least.0).map(FileId)
     }
 
