@@ -346,13 +346,13 @@ impl Desk {
     }
 }
 
-/// Reads the reply to an ask whose answer has this `form`, or with none, to an ask that nobody knows. A buffer keeps the
-/// memory of `reply`, which is empty then.
+/// Reads the reply to an ask whose answer has this `form`, or with none, to an ask that nobody knows. A buffer, as bytes
+/// of a file come in, keeps the memory of `reply`, which is empty then.
 fn read_reply_to(alloc: Global, form: Option<Form>, reply: &mut Bytes) -> Result<Reply, WireFault>
     ensures read { result ≡ reply_to form reply.old }
 {
     match form {
-        Some(Form::ABuffer) => {
+        Some(Form::ABuffer | Form::FileBytes) => {
             let none = Bytes::of(Vec::new(alloc));
             read_buffer_reply(mem::replace(reply, none))
         }

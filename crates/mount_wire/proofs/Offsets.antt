@@ -3,7 +3,7 @@ use Rattle.std.proofs.Common.{◌≡◌, ℕ, ◌+◌, ◌≤◌, true, false, L
 use Rattle.eden_base.specs.declared.attr.Attr.{Attr}
 use Rattle.eden_base.specs.declared.number.Number.{Number}
 use Rattle.fuse_wire.specs.declared.reply.Answer.{Answer}
-use Rattle.fuse_wire.specs.declared.reply.Answer.TheVariants.{Entry, Opened, Attrs, Done, Buffer, Error}
+use Rattle.fuse_wire.specs.declared.reply.Answer.TheVariants.{Entry, Opened, Attrs, Done, Buffer, Extent, Error}
 use Rattle.fuse_wire.specs.Field.{u64_bytes, zeros}
 use Rattle.fuse_wire.specs.ReplyText.{attributes, entry, error_field, head_payload, payload, reply_head, reply_header}
 use Rattle.fuse_wire.proofs.Lengths.{length-reply_header, length-u64_bytes, length-zeros}
@@ -28,6 +28,7 @@ within_payload (Attrs number attr) shown is =
     let at : blocks_at shown.has_entry ≡ 48 = ap blocks_at is_entry in omega (arith, length-append (zeros 16) (attributes number attr), length-zeros 16, length-attributes number attr)
 within_payload Done shown is = absurd cc
 within_payload (Buffer bytes) shown is = absurd cc
+within_payload (Extent extent) shown is = absurd cc
 within_payload (Error errno) shown is = absurd cc
 
 pub within_head : (unique : ℕ) (answer : Answer) (shown : Shown) → attributes_told answer ≡ Some shown

@@ -136,7 +136,7 @@ fn attributes_told(answer: &Answer) -> Option<Shown>
             has_entry: false,
             size: attr.size,
         }),
-        Answer::Done | Answer::Buffer(_) | Answer::Error(_) => None,
+        Answer::Done | Answer::Buffer(_) | Answer::Extent(_) | Answer::Error(_) => None,
     }
 }
 

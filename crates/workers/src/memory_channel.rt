@@ -156,6 +156,7 @@ fn copy_of(alloc: Global, answer: &Answer) -> Result<Answer, NoMemory>
                 .map(Answer::Buffer)
                 .ok_or(NoMemory)
         }
+        Answer::Extent(extent) => Ok(Answer::Extent(*extent)),
         Answer::Error(errno) => Ok(Answer::Error(*errno)),
     }
 }
