@@ -149,8 +149,8 @@ impl Tree {
     }
 
     /// Returns a file's kind, permissions and size, or none if the tree doesn't have the file.
-    fn content(&self, file: FileId) -> Option<Content>
-        ensures { result ≡ file_of self.now file }
+    pub fn content(&self, file: FileId) -> Option<Content>
+        ensures content { result ≡ file_of self.now file }
     {
         if let Some(content) = self.manifest.content(file) {
             return Some(content);
