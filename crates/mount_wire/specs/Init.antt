@@ -1,7 +1,8 @@
 -- INIT: what a kernel offers, what is agreed to, and the reply that tells it (linux/fuse.h: fuse_init_in, fuse_init_out,
--- and what is said there of how the two sides agree on a version).
+-- and what is said there of how the two sides agree on a version). How many bytes a READ may ask for is no field of it: an
+-- option of the mount says that (max_read).
 use Rattle.std.specs.Prelude.{ℕ, ◌+◌, ◌^◌, min, ◌||◌, nat_lt, pos, neg_ℤ, List, [], ◌++◌, length, drop, Result, Ok, Err, if◌then◌else◌}
-use Rattle.std.specs.Int.Bits.{bit_and}
+use Rattle.std.specs.Int.Bits.{bit_and, bit_or}
 use Rattle.byte_codec.specs.Reading.{◌>>=◌}
 use Rattle.fuse_wire.specs.Field.{u32_at, u32_bytes, zeros}
 use Rattle.fuse_wire.specs.ReplyText.{reply_header}
@@ -32,13 +33,19 @@ offer_of bytes = unique_of 26 bytes >>= λ unique. offer_in unique (behind_heade
 
 -- ---- what is agreed to
 
+-- the flag FUSE_ASYNC_READ
+abbrev pub ASYNC_READ : ℕ
+ASYNC_READ = 2 ^ 0
+
 -- the flag FUSE_PARALLEL_DIROPS
 abbrev pub PARALLEL_DIROPS : ℕ
 PARALLEL_DIROPS = 2 ^ 18
 
--- an offer of version 7: its minor version, but at most 31; its read-ahead; and of its flags FUSE_PARALLEL_DIROPS alone
+-- an offer of version 7: its minor version, but at most 31; its read-ahead; and of its flags FUSE_ASYNC_READ and
+-- FUSE_PARALLEL_DIROPS alone
 abbrev pub version_of : Offer → Agreement
-version_of offer = Version (min offer.minor 31) offer.max_readahead (bit_and offer.flags PARALLEL_DIROPS)
+version_of offer =
+    Version (min offer.minor 31) offer.max_readahead (bit_and offer.flags (bit_or ASYNC_READ PARALLEL_DIROPS))
 
 -- what is agreed to: major version 7 alone if the kernel's is later, nothing if its version is below 7.12
 unfoldable pub agreement_of : Offer → Result Agreement KernelMessageFault

@@ -26,6 +26,9 @@ const LEAST_MINOR: u32 = 12;
 /// The greatest minor version that is agreed to.
 const GREATEST_MINOR: u32 = 31;
 
+/// The flag `FUSE_ASYNC_READ`: the kernel reads a file ahead by several requests at once.
+const ASYNC_READ: u32 = 1 << 0;
+
 /// The flag `FUSE_PARALLEL_DIROPS`: lookups in one directory may overlap.
 const PARALLEL_DIROPS: u32 = 1 << 18;
 
@@ -43,6 +46,6 @@ pub fn agree(offer: &Offer) -> Result<Agreement, KernelMessageFault>
     Ok(Agreement::Version {
         minor: offer.minor.min(GREATEST_MINOR),
         max_readahead: offer.max_readahead,
-        flags: offer.flags & PARALLEL_DIROPS,
+        flags: offer.flags & (ASYNC_READ | PARALLEL_DIROPS),
     })
 }
