@@ -52,7 +52,8 @@ def the_owner_changes_what_he_owns(room):
 
 @row
 def files_are_those_of_who_mounts(room):
-    """Without --owner the files are those of the user and the group of the broker. Set-uid files have no effect."""
+    """Without --owner the files are those of the user and the group of the broker. Set-uid files have no effect, and a READ asks
+    for no more than an answer takes."""
     program, room.program = room.program, shutil.which("setpriv") or shutil.which("sg")
     options = ("--regid", "12", "--clear-groups", program) if room.program.endswith("setpriv") else ("12", "-c")
     broker = room.run(*options, "mount", "mnt", "broker.sock")
@@ -65,7 +66,7 @@ def files_are_those_of_who_mounts(room):
     with open("/proc/self/mountinfo") as file:
         (line,) = [line.split() for line in file if line.split(" ")[4] == room.mountpoint]
     same({"nosuid", "nodev"} <= set(line[5].split(",")), True)
-    same("default_permissions" in line[-1].split(","), True)
+    same({"default_permissions", "max_read=61440"} <= set(line[-1].split(",")), True)
     same(mounts_below(room.path), [room.mountpoint])
     same(run_to_end(["umount", room.mountpoint])[0], 0)
     same((daemon.ending(), broker.ending()), (("ended", 0), ("ended", 0)))

@@ -19,9 +19,10 @@ pub(crate) const BUFFER_LEN: usize = 128 * 1024;
 
 /// The options of the mount: the device is the command's standard input, and every user may come in. The kernel checks
 /// modes, and neither set-uid files nor device files have an effect. The root is a directory, whose mode and owner the
-/// kernel asks for before it lets anybody in.
-const OPTIONS: &str =
-    "fd=0,rootmode=40000,user_id=0,group_id=0,allow_other,default_permissions,nosuid,nodev";
+/// kernel asks for before it lets anybody in. A READ asks for at most 61,440 bytes, which are fifteen pages: its answer
+/// fits a frame (`Buffer::MAX_LEN`). A kernel that got fewer bytes than it asked for would take the file to end there.
+const OPTIONS: &str = "fd=0,rootmode=40000,user_id=0,group_id=0,max_read=61440,allow_other,\
+    default_permissions,nosuid,nodev";
 
 /// The folder of this process, which belongs to its user and its group (`proc(5)`).
 const OWN_FOLDER: &str = "/proc/self";
