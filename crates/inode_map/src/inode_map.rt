@@ -1,6 +1,6 @@
 //! What a daemon remembers for the kernel.
 ghost use Rattle.std.specs.Prelude.{◌≡◌, ℕ, ◌+◌, ◌<◌, ◌≤◌, ◌^◌, None, Some, IsSome, true, length, MatchOption, IfOk, IfErr, OnOk, OnErr};
-ghost use Rattle.std.specs.List.{AllByRecursion, filter};
+ghost use Rattle.std.specs.List.{AllByRecursion, filter, list_any};
 ghost use Rattle.std.specs.Option.{option_map, option_copied, IfSome};
 ghost use Rattle.eden_base.specs.Limits.{end_of_numbers};
 ghost use Rattle.eden_base.specs.declared.number.FileId.{FileId};
@@ -8,7 +8,7 @@ ghost use Rattle.eden_base.specs.declared.number.Number.{Number};
 ghost use Rattle.inode_map.specs.declared.loaded.LoadedAttr.{LoadedAttr};
 ghost use Rattle.inode_map.specs.Words.{forgot_name};
 ghost use Rattle.entry_table.specs.EntryPlaces.{AreOfUseBut, IsNamedEntry, is_linked_entry};
-ghost use Rattle.entry_table.specs.Entries.{entry_of, entry_at, count_of, number_after, number_of_kept, place_of_kept, is_known, is_bad_item, lowered, IsFileOf, AreNumbers, AreEntries, file_remembered, remembered};
+ghost use Rattle.entry_table.specs.Entries.{entry_of, entry_at, count_of, number_after, number_of_kept, place_of_kept, is_known, is_kid_of, is_bad_item, lowered, IsFileOf, AreNumbers, AreEntries, file_remembered, remembered};
 ghost use Rattle.inode_map.specs.InodeMap.{new_map, map_of, give_fault, number_given, given, IsGiveRefusal, forgot, forgotten, is_useless, attr_of, used, load, loaded_number, left_of_use};
 ghost use Rattle.entry_table.specs.Table.{AreOfKept, file_number};
 ghost use Rattle.inode_map.specs.Loaded.{attrs_in, AreNamed};
@@ -199,6 +199,13 @@ impl InodeMap {
             ≡ option_map number_of_kept (entry_at self.now.entries parent.0 name.now) }
     {
         self.table.find(parent, name)
+    }
+
+    /// Returns whether a name in the directory `parent` has a number.
+    pub fn has_kids(&self, parent: Number) -> bool
+        ensures kids { result ≡ list_any (is_kid_of parent.0) self.now.entries }
+    {
+        self.table.has_kids(parent)
     }
 
     /// Returns the file that `number` names in `tree`, if any, by the names above `number`. Takes no memory.
