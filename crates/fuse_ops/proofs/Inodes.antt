@@ -1,19 +1,38 @@
 -- By which inode number an entry of a directory tells a file, and which number the directory above has.
-use Rattle.std.proofs.Common.{◌≡◌, ℕ, List, Option, Some, None, refl, sym, ap, ◌∙◌, subst, inl, inr, arith}
+use Rattle.std.proofs.Common.{◌≡◌, ℕ, ◌==◌, ◌&&◌, ◌||◌, Bool, true, false, List, [], ◌∷◌, Option, Some, None, refl, sym, ap, ◌∙◌, subst, inl, inr, arith}
+use Rattle.std.specs.Prelude.{nat_eq, if◌then◌else◌}
+use Rattle.std.specs.Cmp.Lexicographic.{pointwise}
+use Rattle.std.specs.List.{list_any}
 use Rattle.std.specs.Option.{option_map}
 use Rattle.eden_base.specs.declared.number.FileId.{FileId}
 use Rattle.eden_base.specs.declared.number.Number.{Number}
 use Rattle.eden_base.specs.declared.place.Place.{Place}
-use Rattle.eden_base.specs.declared.place.Place.TheVariants.{Linked}
+use Rattle.eden_base.specs.declared.place.Place.TheVariants.{Linked, Unlinked}
 use Rattle.manifest.specs.Tree.{IsTree, child_of}
 use Rattle.entry_table.proofs.EntryLemmas.{numbers-entry}
-use Rattle.entry_table.specs.Entries.{is_root, is_child, is_marked, entry_of, entry_at, number_of_kept, place_of_kept}
+use Rattle.entry_table.specs.Entries.{is_root, is_child, is_marked, is_in, is_kid_of, is_place, entry_of, entry_at, number_of_kept, place_of_kept}
 use Rattle.entry_table.specs.declared.kept.Kept.{Kept}
 use Rattle.fuse_ops.specs.Served.{ServedState, IsInode, IsLive, unknown_inode}
 use Rattle.fuse_ops.specs.Soundness.{IsSound, Names}
 use Rattle.fuse_ops.specs.Work.{NamesAbove}
 use Rattle.fuse_ops.proofs.Fits.{sound-fits, place-file, no-place-no_file}
 use Rattle.fuse_ops.proofs.Known.{same-number}
+
+-- where no entry stands in a directory, none stands under a name of it
+pub no-kids : (entries : List Kept) (parent : ℕ) (name : List ℕ) → list_any (is_kid_of parent) entries ≡ false → option_map number_of_kept (entry_at entries parent name) ≡ None
+no-kids [] parent name none = refl
+no-kids (kept ∷ entries) parent name none = in_ kept.place (list_any (is_kid_of parent) entries) none (no-kids entries parent name) where
+  in_ : (place : Place) (others : Bool) → (is_in parent place || others) ≡ false → (others ≡ false → option_map number_of_kept (entry_at entries parent name) ≡ None) →
+      option_map number_of_kept (if is_place parent name place then Some kept else entry_at entries parent name) ≡ None
+  in_ (Unlinked file) others e rest = rest e
+  in_ (Linked dir linked) true e rest = absurd (never (dir.0 == parent) e) where
+    never : (b : Bool) → (b || true) ≡ false → ⊥
+    never true e = let none : ⊥ = cc in none
+    never false e = let none : ⊥ = cc in none
+  in_ (Linked dir linked) false e rest = by (dir.0 == parent) (pointwise nat_eq linked name) e where
+    by : (b c : Bool) → (b || false) ≡ false → option_map number_of_kept (if b && c then Some kept else entry_at entries parent name) ≡ None
+    by true c e = absurd (let none : ⊥ = cc in none)
+    by false c e = rest refl
 
 module _ (served : ServedState) (is : IsTree served.tree) (sound : IsSound served) where
   -- no other number names the file of a number that is not live

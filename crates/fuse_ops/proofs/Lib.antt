@@ -29,6 +29,7 @@ pub mod MovedKeeps
 pub mod MovingLaw
 pub mod Owned
 pub mod PlaceNumbers
+pub mod ReadReplay
 pub mod ReadyMaking
 pub mod Remembering
 pub mod Replays

@@ -41,7 +41,7 @@ listed-legally old request dir offset size range answer new does (inr e) same = 
 })
 
 -- an error is told, and nothing changed
-told-legally : (old : ServedState) (request : Request) (errno : Errno) (answer : Answer) (new : ServedState) → answer ≡ Error errno → new ≡ old → Legally old request (Err errno) answer new
+pub told-legally : (old : ServedState) (request : Request) (errno : Errno) (answer : Answer) (new : ServedState) → answer ≡ Error errno → new ≡ old → Legally old request (Err errno) answer new
 told-legally old request errno answer new e same = subst (λ (a : Answer). Legally old request (Err errno) a new) (sym e) (error-legally old request errno new (same_of old new same))
 
 lists_kind_in : (old : ServedState) (request : Request) (dir : Number) (offset size : ℕ) (file : FileId) (kind : Option Kind) (answer : Answer) (new : ServedState) → deed_of request ≡ list_dir dir offset size → ListsKind old file offset size kind answer → new ≡ old →

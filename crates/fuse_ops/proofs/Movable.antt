@@ -23,11 +23,11 @@ use Rattle.fuse_ops.proofs.Shapes.{take-frees}
 
 -- nothing changes
 abbrev pub left : Tree → Effect
-left tree = record { tree = tree; file = None; counts = false; names = none_lost; lists = None }
+left tree = record { tree = tree; file = None; counts = false; names = none_lost; contents = None }
 
 -- the file under a name moved to another
 abbrev pub gone : Tree → FileId → List ℕ → FileId → List ℕ → Effect
-gone tree dir name to_dir to_name = record { tree = renamed tree dir name to_dir to_name; file = None; counts = false; names = one_moved (child_of tree to_dir to_name); lists = None }
+gone tree dir name to_dir to_name = record { tree = renamed tree dir name to_dir to_name; file = None; counts = false; names = one_moved (child_of tree to_dir to_name); contents = None }
 
 -- the file under a name, to whose move into a directory nothing stands
 pub record IsMovable (tree : Tree) (dir : FileId) (name : List ℕ) (to_dir file : FileId) : Type 0 where

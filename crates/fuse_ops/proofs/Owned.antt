@@ -1,6 +1,6 @@
 -- Both owners of what a request is answered get a legal answer: the answer itself, or ENOMEM for a buffer.
 use Rattle.std.proofs.Common.{◌≡◌, inl, inr, ℕ, Bool, true, false, List, Option, Some, None, Result, Ok, Err, refl, sym, ap, ◌∙◌, subst}
-use Rattle.std.specs.Prelude.{◌↔◌}
+use Rattle.std.specs.Prelude.{◌↔◌, nat_lt}
 use Rattle.eden_base.specs.declared.attr.Attr.{Attr}
 use Rattle.eden_base.specs.declared.attr.Kind.{Kind}
 use Rattle.eden_base.specs.declared.attr.Kind.TheVariants.{Dir, File}
@@ -9,17 +9,19 @@ use Rattle.eden_base.specs.declared.errno.Errno.{Errno}
 use Rattle.eden_base.specs.declared.errno.Errno.TheVariants.{EIO, ENOMEM}
 use Rattle.eden_base.specs.declared.number.FileId.{FileId}
 use Rattle.eden_base.specs.declared.number.Number.{Number}
-use Rattle.manifest.specs.Tree.{Tree, kind_of}
+use Rattle.manifest.specs.Tree.{Tree, file_of, kind_of}
+use Rattle.manifest.specs.declared.content.Content.{Content}
 use Rattle.fuse_wire.specs.declared.form.Form.{Form}
-use Rattle.fuse_wire.specs.declared.form.Form.TheVariants.{AnEntry, AnOpenEntry, Attributes, NoValue, ABuffer, OnlyAnError}
+use Rattle.fuse_wire.specs.declared.form.Form.TheVariants.{AnEntry, AnOpenEntry, Attributes, NoValue, ABuffer, FileBytes, OnlyAnError}
 use Rattle.fuse_wire.specs.declared.reply.Answer.{Answer}
-use Rattle.fuse_wire.specs.declared.reply.Answer.TheVariants.{Entry, Opened, Attrs, Done, Buffer, Error}
+use Rattle.fuse_wire.specs.declared.reply.Answer.TheVariants.{Entry, Opened, Attrs, Done, Buffer, Extent, Error}
+use Rattle.fuse_wire.specs.declared.reply.Extent.{Extent as FilePart}
 use Rattle.fuse_wire.specs.declared.request.Request.{Request}
 use Rattle.fuse_wire.specs.ReplyText.{is_buffer}
 use Rattle.fuse_wire.specs.Request.{form_of}
 use Rattle.fuse_wire.specs.Sharing.{StandsFor}
-use Rattle.fuse_ops.specs.Answers.{Answers, AnswersCounted, AnswersEffect, AnswersFile, AnswersNone, AnswersShown, Deed, Effect, NameChange, NumberFault, Numbers, Tells, none_lost, one_lost, one_moved, find_name, make_file, take_name, move_name, show_file, list_dir, unserved, deed_of, done_to, comes_to, told_as, found_in, free_in, enters, shows, makes, takes, takes_from, moves_between, lists_dir, lists_from, unless, against_taking}
-use Rattle.fuse_ops.specs.Listing.{Range}
+use Rattle.fuse_ops.specs.Answers.{Answers, AnswersCounted, AnswersEffect, AnswersFile, AnswersNone, AnswersShown, Deed, Effect, NameChange, NumberFault, Numbers, Tells, none_lost, one_lost, one_moved, find_name, make_file, take_name, move_name, show_file, list_dir, read_file, unserved, deed_of, done_to, comes_to, told_as, found_in, free_in, enters, shows, makes, takes, takes_from, moves_between, lists_dir, lists_from, reads_few, reads_kind, reads_file, reads_from, Contents, lists_range, reads_extent, unless, against_taking}
+use Rattle.fuse_ops.specs.Extents.{extent_of, most_read}
 use Rattle.fuse_ops.specs.Served.{Replay, ServedState, map_after, names_changed, numbers_at, place_told, plain, served_after}
 use Rattle.fuse_ops.proofs.Movable.{by-move}
 use Rattle.fuse_ops.proofs.Shapes.{error-after, none-changed, none-given}
@@ -30,6 +32,7 @@ told-fixed AnOpenEntry number attr = refl
 told-fixed Attributes number attr = refl
 told-fixed NoValue number attr = refl
 told-fixed ABuffer number attr = refl
+told-fixed FileBytes number attr = refl
 told-fixed OnlyAnError number attr = refl
 
 tells-fixed : (request : Request) (tree : Tree) (file : FileId) (IsNumber : ℕ → Type 0) (answer : Answer) → Tells request tree file IsNumber answer → is_buffer answer ≡ false
@@ -56,15 +59,15 @@ file-fixed numbers request tree (Some file) true names answer (fault, against, i
 file-fixed numbers request tree (Some file) false names answer is = shown-fixed numbers request tree file answer is
 file-fixed numbers request tree None counts names answer is = none-fixed names answer is
 
--- ---- what lists a directory changes nothing
+-- ---- what reads a file or a directory changes nothing
 
--- an effect that lists part of a directory changes neither the tree nor a name
-abbrev IsStill : Tree → Effect → Option Range → Type 0
-IsStill tree effect (Some range) = (effect.tree ≡ tree) × (effect.names ≡ none_lost)
+-- an effect by which a file or a directory is read changes neither the tree nor a name
+abbrev IsStill : Tree → Effect → Option Contents → Type 0
+IsStill tree effect (Some contents) = (effect.tree ≡ tree) × (effect.names ≡ none_lost)
 IsStill tree effect None = Unit {0}
 
 abbrev IsStillIn : Tree → Result Effect Errno → Type 0
-IsStillIn tree (Ok effect) = IsStill tree effect effect.lists
+IsStillIn tree (Ok effect) = IsStill tree effect effect.contents
 IsStillIn tree (Err errno) = Unit {0}
 
 enters-still : (tree : Tree) (r : Result FileId Errno) → IsStillIn tree (enters tree r)
@@ -88,7 +91,7 @@ takes_from-still tree against (Some dir) name = takes-still tree dir name (unles
 takes_from-still tree against None name = tt
 
 moves-still : (tree : Tree) (o : Option FileId) (name : List ℕ) (p : Option FileId) (to_name : List ℕ) (r : Result Effect Errno) → moves_between tree o name p to_name ≡ r → IsStillIn tree r
-moves-still tree o name p to_name (Ok effect) is = by-move tree o name p to_name effect is (λ (x : Effect). IsStill tree x x.lists) tt (λ from to g. tt)
+moves-still tree o name p to_name (Ok effect) is = by-move tree o name p to_name effect is (λ (x : Effect). IsStill tree x x.contents) tt (λ from to g. tt)
 moves-still tree o name p to_name (Err errno) is = tt
 
 lists_dir-still : (tree : Tree) (dir : FileId) (offset size : ℕ) (kind : Option Kind) → IsStillIn tree (lists_dir tree dir offset size kind)
@@ -100,6 +103,22 @@ lists_from-still : (tree : Tree) (o : Option FileId) (offset size : ℕ) → IsS
 lists_from-still tree (Some dir) offset size = lists_dir-still tree dir offset size (kind_of tree dir)
 lists_from-still tree None offset size = tt
 
+reads_few-still : (tree : Tree) (extent : FilePart) (b : Bool) → IsStillIn tree (reads_few tree extent b)
+reads_few-still tree extent true = tt
+reads_few-still tree extent false = (refl, refl)
+
+reads_kind-still : (tree : Tree) (file : FileId) (file_size offset size : ℕ) (kind : Kind) → IsStillIn tree (reads_kind tree file file_size offset size kind)
+reads_kind-still tree file file_size offset size File = reads_few-still tree (extent_of file file_size offset size) (nat_lt most_read size)
+reads_kind-still tree file file_size offset size Dir = tt
+
+reads_file-still : (tree : Tree) (file : FileId) (offset size : ℕ) (o : Option Content) → IsStillIn tree (reads_file tree file offset size o)
+reads_file-still tree file offset size (Some content) = reads_kind-still tree file content.size offset size content.kind
+reads_file-still tree file offset size None = tt
+
+reads_from-still : (tree : Tree) (o : Option FileId) (offset size : ℕ) → IsStillIn tree (reads_from tree o offset size)
+reads_from-still tree (Some file) offset size = reads_file-still tree file offset size (file_of tree file)
+reads_from-still tree None offset size = tt
+
 done-still : (tree : Tree) (files : ℕ → Option FileId) (deed : Deed) → IsStillIn tree (done_to tree files deed)
 done-still tree files (find_name dir name) = enters-still tree (found_in tree (files dir.0) name)
 done-still tree files (make_file dir name kind perm) = makes-still tree name kind perm (free_in tree (files dir.0) name)
@@ -107,6 +126,7 @@ done-still tree files (take_name dir name kind) = takes_from-still tree (against
 done-still tree files (move_name dir name to_dir to_name) = moves-still tree (files dir.0) name (files to_dir.0) to_name (moves_between tree (files dir.0) name (files to_dir.0) to_name) refl
 done-still tree files (show_file node) = shows-still tree (files node.0)
 done-still tree files (list_dir dir offset size) = lists_from-still tree (files dir.0) offset size
+done-still tree files (read_file node offset size) = reads_from-still tree (files node.0) offset size
 done-still tree files unserved = tt
 
 -- ---- memory for a second owner was refused
@@ -116,9 +136,10 @@ module _ (old : ServedState) (request : Request) (numbers : Numbers) (bytes : Li
   abbrev IsLack : Result Effect Errno → Type 0
   IsLack r = Answers numbers request r (Error ENOMEM) × (served_after old request r (Buffer bytes) ≡ old)
 
-  lack_of : (effect : Effect) (range : Option Range) → effect.lists ≡ range → AnswersEffect numbers request effect range (Buffer bytes) → IsStill old.tree effect range → IsLack (Ok effect)
-  lack_of effect (Some range) is a still = (
-    subst (λ (o : Option Range). AnswersEffect numbers request effect o (Error ENOMEM)) (sym is) (inr refl),
+  lack_of : (effect : Effect) (contents : Option Contents) → effect.contents ≡ contents → AnswersEffect numbers request effect contents (Buffer bytes) → IsStill old.tree effect contents → IsLack (Ok effect)
+  lack_of effect (Some (reads_extent extent)) is a still = absurd (let none : ⊥ = cc in none)
+  lack_of effect (Some (lists_range range)) is a still = (
+    subst (λ (o : Option Contents). AnswersEffect numbers request effect o (Error ENOMEM)) (sym is) (inr refl),
     λ i. record { map = map_is i; tree = still.0 i },
   ) where
     map_is : names_changed (map_after old.map (place_told request) None) (deed_of request) effect.names ≡ old.map
@@ -127,7 +148,7 @@ module _ (old : ServedState) (request : Request) (numbers : Numbers) (bytes : Li
   lack_of effect None is a still = absurd (let fixed : is_buffer (Buffer bytes) ≡ false = file-fixed numbers request effect.tree effect.file effect.counts effect.names (Buffer bytes) a in let none : ⊥ = cc in none)
 
   lack_in : (r : Result Effect Errno) → Answers numbers request r (Buffer bytes) → IsStillIn old.tree r → IsLack r
-  lack_in (Ok effect) a still = lack_of effect effect.lists refl a still
+  lack_in (Ok effect) a still = lack_of effect effect.contents refl a still
   lack_in (Err errno) a still = absurd (let none : ⊥ = cc in none)
 
 pub lacks-replay : (old : ServedState) (request : Request) (bytes : List ℕ) (new : ServedState) → Replay old request (Some (Buffer bytes)) new → Replay old request (Some (Error ENOMEM)) new
@@ -155,6 +176,7 @@ by-owner (Attrs number attr) owned is P same lacks = subst P (sym is) same
 by-owner Done owned is P same lacks = subst P (sym is) same
 by-owner (Buffer bytes) owned (inl is) P same lacks = subst P (sym is) same
 by-owner (Buffer bytes) owned (inr is) P same lacks = subst P (sym is) (lacks bytes refl)
+by-owner (Extent extent) owned is P same lacks = subst P (sym is) same
 by-owner (Error errno) owned is P same lacks = subst P (sym is) same
 
 -- what an owner gets is a legal answer, too

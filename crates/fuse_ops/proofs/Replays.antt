@@ -15,7 +15,7 @@ use Rattle.fuse_wire.specs.Request.{is_ask}
 use Rattle.fuse_wire.specs.declared.request.Request.{Request}
 use Rattle.fuse_wire.specs.declared.form.Form.{Form}
 use Rattle.fuse_wire.specs.declared.reply.Answer.{Answer}
-use Rattle.fuse_wire.specs.declared.reply.Answer.TheVariants.{Entry, Opened, Attrs, Done, Buffer, Error}
+use Rattle.fuse_wire.specs.declared.reply.Answer.TheVariants.{Entry, Opened, Attrs, Done, Buffer, Extent, Error}
 use Rattle.inode_map.specs.InodeMap.{IsGiveRefusal, give_fault, given, number_given}
 use Rattle.inode_map.specs.declared.inode_map.GiveFault.{GiveFault}
 use Rattle.inode_map.specs.declared.inode_map.GiveFault.TheVariants.{NoNumber, TooMany, NoMemory}
@@ -118,6 +118,7 @@ module _ (old : ServedState) (request : Request) (dir : Number) (name : List ℕ
   gives_in file (Attrs number attr) new h = absurd h
   gives_in file Done new h = absurd h
   gives_in file (Buffer bytes) new h = absurd h
+  gives_in file (Extent extent) new h = absurd h
 
   gives_found : (found : Result FileId Errno) (answer : Answer) (new : ServedState) → GivesFound old dir name found answer new → Legally old request (enters old.tree found) answer new
   gives_found (Ok file) answer new h = gives_in file answer new h
@@ -169,7 +170,7 @@ takes_in old request dir name against (Some above) answer new place frees h = in
     keeps_tree = λ was. subst (λ (s : ServedState). IsTree s.tree) (sym made) (removed-IsTree old.tree above name file was (found-child old.tree above file name (unless-found against found file r).0) (frees file (unless-found against found file r).1));
   }) where
     effect : Effect
-    effect = record { tree = removed old.tree above name; file = None; counts = false; names = one_lost file; lists = None }
+    effect = record { tree = removed old.tree above name; file = None; counts = false; names = one_lost file; contents = None }
 
 -- taking a name away is a legal step
 pub take-replay : (old : ServedState) (request : Request) (dir : Number) (name : List ℕ) (kind : Kind) (answer : Answer) (new : ServedState) → deed_of request ≡ take_name dir name kind → Takes old dir name (against_taking kind old.tree) answer new → Replay old request (Some answer) new

@@ -1,16 +1,19 @@
 -- The tree stays one of its manifest, whatever a daemon is asked.
 use Rattle.std.proofs.Common.{◌≡◌, ℕ, Bool, true, false, List, Option, Some, None, Result, Ok, Err, refl, ap, ◌∙◌}
-use Rattle.std.specs.Prelude.{if◌then◌else◌}
+use Rattle.std.specs.Prelude.{if◌then◌else◌, nat_lt}
 use Rattle.eden_base.specs.declared.attr.Kind.{Kind}
 use Rattle.eden_base.specs.declared.attr.Kind.TheVariants.{Dir, File}
 use Rattle.eden_base.specs.declared.attr.Perm.{Perm}
 use Rattle.eden_base.specs.declared.errno.Errno.{Errno}
 use Rattle.eden_base.specs.declared.number.FileId.{FileId}
-use Rattle.manifest.specs.Tree.{Tree, child_of, kind_of}
+use Rattle.manifest.specs.Tree.{Tree, child_of, file_of, kind_of}
+use Rattle.manifest.specs.declared.content.Content.{Content}
+use Rattle.fuse_wire.specs.declared.reply.Extent.{Extent as FilePart}
+use Rattle.fuse_ops.specs.Extents.{extent_of, most_read}
 use Rattle.fuse_wire.specs.declared.request.Request.{Request}
 use Rattle.fuse_wire.specs.declared.reply.Answer.{Answer}
-use Rattle.fuse_wire.specs.declared.reply.Answer.TheVariants.{Entry, Opened, Attrs, Done, Buffer, Error}
-use Rattle.fuse_ops.specs.Answers.{none_lost, Effect, Deed, find_name, make_file, take_name, move_name, show_file, list_dir, unserved, deed_of, done_to, comes_to, found_in, free_in, enters, shows, lists_dir, lists_from, makes, takes, takes_from, movable, against_replacing, is_there, moves, moves_to, moves_between, unless, against_taking, tree_after}
+use Rattle.fuse_wire.specs.declared.reply.Answer.TheVariants.{Entry, Opened, Attrs, Done, Buffer, Extent, Error}
+use Rattle.fuse_ops.specs.Answers.{none_lost, Effect, Deed, find_name, make_file, take_name, move_name, show_file, list_dir, read_file, unserved, deed_of, done_to, comes_to, found_in, free_in, enters, shows, lists_dir, lists_from, reads_few, reads_kind, reads_file, reads_from, makes, takes, takes_from, movable, against_replacing, is_there, moves, moves_to, moves_between, unless, against_taking, tree_after}
 use Rattle.fuse_ops.specs.Served.{ServedState, PlainState, Replay}
 
 -- a success is over a tree of the same manifest
@@ -41,7 +44,7 @@ takes_from-over tree against None name = tt
 moves_to-over : (tree : Tree) (dir : FileId) (name : List ℕ) (to_dir : FileId) (to_name : List ℕ) (r : Result FileId Errno) → IsOver tree (moves_to tree dir name to_dir to_name r)
 moves_to-over tree dir name to_dir to_name (Err errno) = tt
 moves_to-over tree dir name to_dir to_name (Ok file) = in_ (is_there (child_of tree to_dir to_name) file) (against_replacing tree file (child_of tree to_dir to_name)) where
-  in_ : (b : Bool) (o : Option Errno) → IsOver tree (if b then Ok (record { tree = tree; file = None; counts = false; names = none_lost; lists = None }) else moves tree dir name to_dir to_name o)
+  in_ : (b : Bool) (o : Option Errno) → IsOver tree (if b then Ok (record { tree = tree; file = None; counts = false; names = none_lost; contents = None }) else moves tree dir name to_dir to_name o)
   in_ true o = refl
   in_ false None = refl
   in_ false (Some errno) = tt
@@ -60,6 +63,22 @@ lists_from-over : (tree : Tree) (o : Option FileId) (offset size : ℕ) → IsOv
 lists_from-over tree (Some dir) offset size = lists_dir-over tree dir offset size (kind_of tree dir)
 lists_from-over tree None offset size = tt
 
+reads_few-over : (tree : Tree) (extent : FilePart) (b : Bool) → IsOver tree (reads_few tree extent b)
+reads_few-over tree extent true = tt
+reads_few-over tree extent false = refl
+
+reads_kind-over : (tree : Tree) (file : FileId) (file_size offset size : ℕ) (kind : Kind) → IsOver tree (reads_kind tree file file_size offset size kind)
+reads_kind-over tree file file_size offset size File = reads_few-over tree (extent_of file file_size offset size) (nat_lt most_read size)
+reads_kind-over tree file file_size offset size Dir = tt
+
+reads_file-over : (tree : Tree) (file : FileId) (offset size : ℕ) (o : Option Content) → IsOver tree (reads_file tree file offset size o)
+reads_file-over tree file offset size (Some content) = reads_kind-over tree file content.size offset size content.kind
+reads_file-over tree file offset size None = tt
+
+reads_from-over : (tree : Tree) (o : Option FileId) (offset size : ℕ) → IsOver tree (reads_from tree o offset size)
+reads_from-over tree (Some file) offset size = reads_file-over tree file offset size (file_of tree file)
+reads_from-over tree None offset size = tt
+
 done-over : (tree : Tree) (files : ℕ → Option FileId) (deed : Deed) → IsOver tree (done_to tree files deed)
 done-over tree files (find_name dir name) = enters-over tree (found_in tree (files dir.0) name)
 done-over tree files (make_file dir name kind perm) = makes-over tree name kind perm (free_in tree (files dir.0) name)
@@ -67,6 +86,7 @@ done-over tree files (take_name dir name kind) = takes_from-over tree (against_t
 done-over tree files (move_name dir name to_dir to_name) = moves_between-over tree (files dir.0) name (files to_dir.0) to_name
 done-over tree files (show_file node) = shows-over tree (files node.0)
 done-over tree files (list_dir dir offset size) = lists_from-over tree (files dir.0) offset size
+done-over tree files (read_file node offset size) = reads_from-over tree (files node.0) offset size
 done-over tree files unserved = tt
 
 after-over : (tree : Tree) (r : Result Effect Errno) (answer : Answer) → IsOver tree r → (tree_after tree r answer).manifest ≡ tree.manifest
@@ -76,11 +96,13 @@ after-over tree (Ok effect) (Opened number attr) over = over
 after-over tree (Ok effect) (Attrs number attr) over = over
 after-over tree (Ok effect) Done over = over
 after-over tree (Ok effect) (Buffer bytes) over = over
+after-over tree (Ok effect) (Extent extent) over = over
 after-over tree (Err errno) (Entry number attr) over = refl
 after-over tree (Err errno) (Opened number attr) over = refl
 after-over tree (Err errno) (Attrs number attr) over = refl
 after-over tree (Err errno) Done over = refl
 after-over tree (Err errno) (Buffer bytes) over = refl
+after-over tree (Err errno) (Extent extent) over = refl
 
 -- the tree after an answer to a request
 pub answered-manifest : (tree : Tree) (files : ℕ → Option FileId) (request : Request) (answer : Answer) → (tree_after tree (comes_to tree files request) answer).manifest ≡ tree.manifest

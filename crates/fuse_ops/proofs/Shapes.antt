@@ -18,13 +18,14 @@ use Rattle.fuse_wire.specs.Request.{form_of}
 use Rattle.fuse_wire.specs.Given.{given_out}
 use Rattle.fuse_wire.specs.declared.request.Request.{Request}
 use Rattle.fuse_wire.specs.declared.request.Request.TheVariants.{Other}
-use Rattle.fuse_wire.specs.declared.form.Form.TheVariants.{AnEntry, Attributes, NoValue, ABuffer}
+use Rattle.fuse_wire.specs.declared.form.Form.TheVariants.{AnEntry, Attributes, NoValue, ABuffer, FileBytes}
 use Rattle.fuse_wire.specs.declared.reply.Answer.{Answer}
-use Rattle.fuse_wire.specs.declared.reply.Answer.TheVariants.{Entry, Opened, Attrs, Done, Buffer, Error}
+use Rattle.fuse_wire.specs.declared.reply.Answer.TheVariants.{Entry, Opened, Attrs, Done, Buffer, Extent, Error}
+use Rattle.fuse_wire.specs.declared.reply.Extent.{Extent as FilePart}
 use Rattle.entry_table.specs.Entries.{entry_at, stands_at, once_more, new_entry}
 use Rattle.inode_map.specs.InodeMap.{MapState, given, unlinked, relinked}
 use Rattle.entry_table.specs.declared.kept.Kept.{Kept}
-use Rattle.fuse_ops.specs.Answers.{NameChange, none_lost, one_lost, one_moved, Effect, Deed, find_name, make_file, take_name, move_name, show_file, list_dir, deed_of, unless, against_unlink, against_rmdir, against_taking, telling, tree_after, name_change}
+use Rattle.fuse_ops.specs.Answers.{lists_range, reads_extent, NameChange, none_lost, one_lost, one_moved, Effect, Deed, find_name, make_file, take_name, move_name, show_file, list_dir, read_file, deed_of, unless, against_unlink, against_rmdir, against_taking, telling, tree_after, name_change}
 use Rattle.fuse_ops.specs.Listing.{Range}
 use Rattle.fuse_ops.specs.Served.{ServedState, place_entered, place_told, name_taken, map_after, names_changed, served_after}
 
@@ -46,15 +47,19 @@ pub record MovesPlace (request : Request) (dir : Number) (name : List ℕ) (to_d
 
 -- a file of a tree, whose number is held once more
 abbrev pub entered : Tree → FileId → Effect
-entered tree file = record { tree = tree; file = Some file; counts = true; names = none_lost; lists = None }
+entered tree file = record { tree = tree; file = Some file; counts = true; names = none_lost; contents = None }
 
 -- a file of a tree that stays as it is, whose number is held as often as before
 abbrev pub shown : Tree → FileId → Effect
-shown tree file = record { tree = tree; file = Some file; counts = false; names = none_lost; lists = None }
+shown tree file = record { tree = tree; file = Some file; counts = false; names = none_lost; contents = None }
 
 -- a tree that stays as it is, of which part of a directory is listed
 abbrev pub listed : Tree → Range → Effect
-listed tree range = record { tree = tree; file = None; counts = false; names = none_lost; lists = Some range }
+listed tree range = record { tree = tree; file = None; counts = false; names = none_lost; contents = Some (lists_range range) }
+
+-- a tree that stays as it is, of which part of a file is read
+abbrev pub read_of : Tree → FilePart → Effect
+read_of tree extent = record { tree = tree; file = None; counts = false; names = none_lost; contents = Some (reads_extent extent) }
 
 -- ---- the requests
 
@@ -83,6 +88,10 @@ move-form request dir name to_dir to_name e = cc
 pub list-form : (request : Request) (dir : Number) (offset size : ℕ) → deed_of request ≡ list_dir dir offset size → form_of request ≡ ABuffer
 list-form (Other opcode node) dir offset size e = absurd (let none : ⊥ = cc in none)
 list-form request dir offset size e = cc
+
+pub read-form : (request : Request) (node : Number) (offset size : ℕ) → deed_of request ≡ read_file node offset size → form_of request ≡ FileBytes
+read-form (Other opcode other) node offset size e = absurd (let none : ⊥ = cc in none)
+read-form request node offset size e = cc
 
 pub find-tells : (request : Request) (dir : Number) (name : List ℕ) → deed_of request ≡ find_name dir name → TellsEntry request dir name
 find-tells request dir name e = record { told = ap place_entered e; stays = λ map change. ap (λ (d : Deed). names_changed map d change) e; gives = entry-gives request dir name (ap place_entered e) }
@@ -151,6 +160,7 @@ gift-tree tree effect (Opened n attr) number e = refl
 gift-tree tree effect (Attrs n attr) number e = refl
 gift-tree tree effect Done number e = refl
 gift-tree tree effect (Buffer bytes) number e = refl
+gift-tree tree effect (Extent extent) number e = refl
 gift-tree tree effect (Error errno) number e = absurd (let none : ⊥ = cc in none)
 
 -- the number of the name is counted once more, over the tree of the effect
@@ -171,6 +181,12 @@ shown-after old request node effect answer does stays = λ i. record { map = map
 -- nor does a directory that is listed
 pub listed-after : (old : ServedState) (request : Request) (dir : Number) (offset size : ℕ) (effect : Effect) (bytes : List ℕ) → deed_of request ≡ list_dir dir offset size → effect.tree ≡ old.tree → served_after old request (Ok effect) (Buffer bytes) ≡ old
 listed-after old request dir offset size effect bytes does stays = λ i. record { map = map_is i; tree = stays i } where
+  map_is : names_changed (map_after old.map (place_told request) None) (deed_of request) effect.names ≡ old.map
+  map_is = ap (λ (d : Deed). names_changed (map_after old.map (place_entered d) None) d effect.names) does
+
+-- nor does a file that is read
+pub read-after : (old : ServedState) (request : Request) (node : Number) (offset size : ℕ) (effect : Effect) (extent : FilePart) → deed_of request ≡ read_file node offset size → effect.tree ≡ old.tree → served_after old request (Ok effect) (Extent extent) ≡ old
+read-after old request node offset size effect extent does stays = λ i. record { map = map_is i; tree = stays i } where
   map_is : names_changed (map_after old.map (place_told request) None) (deed_of request) effect.names ≡ old.map
   map_is = ap (λ (d : Deed). names_changed (map_after old.map (place_entered d) None) d effect.names) does
 

@@ -1,7 +1,7 @@
 -- How each request is answered, as a table: first what it comes to in the tree, then what forbids to give a number,
 -- then what may fail. The world's moves and the contract of `apply` use the same rows. The requests are those of
 -- `linux/fuse.h`; which errors there are, and in which order they come, is this project's own.
-use Rattle.std.specs.Prelude.{◌≡◌, ℕ, ◌+◌, ◌<◌, ◌⊎◌, Bool, true, false, ◌==◌, ◌&&◌, nat_le, List, [], ◌∷◌, length, Contains, Option, Some, None, is_some, Result, Ok, Err, if◌then◌else◌}
+use Rattle.std.specs.Prelude.{◌≡◌, ℕ, ◌+◌, ◌<◌, ◌⊎◌, Bool, true, false, ◌==◌, ◌&&◌, nat_le, nat_lt, List, [], ◌∷◌, length, Contains, Option, Some, None, is_some, Result, Ok, Err, if◌then◌else◌}
 use Rattle.std.specs.Option.{option_map_or}
 use Rattle.eden_base.specs.Limits.{end_of_files}
 use Rattle.eden_base.specs.declared.attr.Attr.{Attr}
@@ -12,18 +12,22 @@ use Rattle.eden_base.specs.declared.errno.Errno.{Errno}
 use Rattle.eden_base.specs.declared.errno.Errno.TheVariants.{ESTALE, ENOTDIR, EISDIR, ENOENT, EEXIST, EINVAL, ENOTEMPTY, ENOSPC, EOVERFLOW, EIO, ENOMEM, ENOSYS}
 use Rattle.eden_base.specs.declared.number.FileId.{FileId}
 use Rattle.eden_base.specs.declared.number.Number.{Number}
-use Rattle.manifest.specs.Tree.{Tree, kind_of, child_of, is_dir}
+use Rattle.manifest.specs.Tree.{Tree, file_of, kind_of, child_of, is_dir}
+use Rattle.manifest.specs.declared.content.Content.{Content}
 use Rattle.checkout.specs.ChangedTree.{attr_of, has_links, is_unlinked, next_file, created, removed}
 use Rattle.checkout.specs.RenamedTree.{renamed}
 use Rattle.fuse_wire.specs.Request.{nodes, form_of}
 use Rattle.fuse_wire.specs.declared.request.Request.{Request}
-use Rattle.fuse_wire.specs.declared.request.Request.TheVariants.{Lookup, Getattr, Create, Mkdir, Unlink, Rmdir, Rename, Readdir}
+use Rattle.fuse_wire.specs.declared.request.Request.TheVariants.{Lookup, Getattr, Create, Mkdir, Unlink, Rmdir, Rename, Read, Readdir}
 use Rattle.fuse_wire.specs.declared.form.Form.{Form}
 use Rattle.fuse_wire.specs.declared.form.Form.TheVariants.{AnEntry, AnOpenEntry, Attributes}
 use Rattle.fuse_wire.specs.declared.reply.Answer.{Answer}
+use Rattle.fuse_wire.specs.declared.reply.Answer.TheVariants as answers
 use Rattle.fuse_wire.specs.declared.reply.Answer.TheVariants.{Entry, Opened, Attrs, Done, Buffer, Error}
+use Rattle.fuse_wire.specs.declared.reply.Extent.{Extent}
 use Rattle.fuse_wire.specs.DirectoryEntries.{Dirent, entries_text}
 use Rattle.fuse_ops.specs.Above.{is_at_or_above}
+use Rattle.fuse_ops.specs.Extents.{extent_of, most_read}
 use Rattle.fuse_ops.specs.Listing.{Range, Lists, range_of}
 
 -- ---- by the tree
@@ -37,14 +41,19 @@ pub data NameChange : Type 0 where
   -- a file moved to another name, which this file lost, if one had it
   one_moved : (replaced : Option FileId) → NameChange
 
+-- what is read of a file or a directory: the entries of a range, or the bytes of an extent
+pub data Contents : Type 0 where
+  lists_range : (range : Range) → Contents
+  reads_extent : (extent : Extent) → Contents
+
 -- a success: the tree after it; the file of that tree that the answer tells, if any; whether that file's number is
--- counted once more; what became of the names that there were; and what part of a directory the answer lists, if any
+-- counted once more; what became of the names that there were; and what is read of a file or a directory, if anything
 pub record Effect : Type 0 where
   pub tree : Tree
   pub file : Option FileId
   pub counts : Bool
   pub names : NameChange
-  pub lists : Option Range
+  pub contents : Option Contents
 
 -- the file under a name in `dir`, which has this kind, or the error if there is no such file
 abbrev pub found_in_dir : Tree → FileId → List ℕ → Option Kind → Result FileId Errno
@@ -60,12 +69,12 @@ found_in tree None name = Err ESTALE
 
 -- a success that answers with an entry for this file and leaves the tree unchanged, or the error
 abbrev pub enters : Tree → Result FileId Errno → Result Effect Errno
-enters tree (Ok file) = Ok (record { tree = tree; file = Some file; counts = true; names = none_lost; lists = None })
+enters tree (Ok file) = Ok (record { tree = tree; file = Some file; counts = true; names = none_lost; contents = None })
 enters tree (Err errno) = Err errno
 
 -- a success that answers with the attributes of the file that a number names, if it names one, or the error
 abbrev pub shows : Tree → Option FileId → Result Effect Errno
-shows tree (Some file) = Ok (record { tree = tree; file = Some file; counts = false; names = none_lost; lists = None })
+shows tree (Some file) = Ok (record { tree = tree; file = Some file; counts = false; names = none_lost; contents = None })
 shows tree None = Err ESTALE
 
 -- `dir`, which has this kind, if it is a directory in which a new file may get this name, else the error
@@ -90,7 +99,7 @@ makes tree name kind perm (Ok dir) = Ok (record {
   file = Some (next_file tree);
   counts = true;
   names = none_lost;
-  lists = None;
+  contents = None;
 })
 makes tree name kind perm (Err errno) = Err errno
 
@@ -111,7 +120,7 @@ unless against (Err errno) = Err errno
 -- a success that takes this name out of a directory, or the error
 abbrev pub takes : Tree → FileId → List ℕ → Result FileId Errno → Result Effect Errno
 takes tree dir name (Ok file) =
-    Ok (record { tree = removed tree dir name; file = None; counts = false; names = one_lost file; lists = None })
+    Ok (record { tree = removed tree dir name; file = None; counts = false; names = one_lost file; contents = None })
 takes tree dir name (Err errno) = Err errno
 
 -- a success that takes a name out of the directory that a number names, if it names one, or the error
@@ -158,7 +167,7 @@ moves tree dir name to_dir to_name None = Ok (record {
   file = None;
   counts = false;
   names = one_moved (child_of tree to_dir to_name);
-  lists = None;
+  contents = None;
 })
 moves tree dir name to_dir to_name (Some errno) = Err errno
 
@@ -166,7 +175,7 @@ moves tree dir name to_dir to_name (Some errno) = Err errno
 abbrev pub moves_to : Tree → FileId → List ℕ → FileId → List ℕ → Result FileId Errno → Result Effect Errno
 moves_to tree dir name to_dir to_name (Ok file) =
     if is_there (child_of tree to_dir to_name) file
-    then Ok (record { tree = tree; file = None; counts = false; names = none_lost; lists = None })
+    then Ok (record { tree = tree; file = None; counts = false; names = none_lost; contents = None })
     else moves tree dir name to_dir to_name (against_replacing tree file (child_of tree to_dir to_name))
 moves_to tree dir name to_dir to_name (Err errno) = Err errno
 
@@ -185,7 +194,7 @@ lists_dir tree dir offset size (Some Dir) = Ok (record {
   file = None;
   counts = false;
   names = none_lost;
-  lists = Some (range_of dir offset size);
+  contents = Some (lists_range (range_of dir offset size));
 })
 lists_dir tree dir offset size (Some File) = Err ENOTDIR
 lists_dir tree dir offset size None = Err ENOTDIR
@@ -195,10 +204,40 @@ abbrev pub lists_from : Tree → Option FileId → ℕ → ℕ → Result Effect
 lists_from tree (Some dir) offset size = lists_dir tree dir offset size (kind_of tree dir)
 lists_from tree None offset size = Err ESTALE
 
+-- ---- a file that is read
+
+-- a success that reads an extent, for which so many bytes were asked, unless these are more than an answer may have
+abbrev pub reads_few : Tree → Extent → Bool → Result Effect Errno
+reads_few tree extent true = Err EINVAL
+reads_few tree extent false = Ok (record {
+  tree = tree;
+  file = None;
+  counts = false;
+  names = none_lost;
+  contents = Some (reads_extent extent);
+})
+
+-- a success that reads part of a file with this content, if it is no directory, else the error
+abbrev pub reads_kind : Tree → FileId → ℕ → ℕ → ℕ → Kind → Result Effect Errno
+reads_kind tree file file_size offset size File =
+    reads_few tree (extent_of file file_size offset size) (nat_lt most_read size)
+reads_kind tree file file_size offset size Dir = Err EISDIR
+
+-- a success that reads part of a file, if there is one, or the error
+abbrev pub reads_file : Tree → FileId → ℕ → ℕ → Option Content → Result Effect Errno
+reads_file tree file offset size (Some content) = reads_kind tree file content.size offset size content.kind
+reads_file tree file offset size None = Err ESTALE
+
+-- a success that reads part of the file that a number names, if it names one, or the error
+abbrev pub reads_from : Tree → Option FileId → ℕ → ℕ → Result Effect Errno
+reads_from tree (Some file) offset size = reads_file tree file offset size (file_of tree file)
+reads_from tree None offset size = Err ESTALE
+
 -- ---- what is done
 
 -- what is done for a request: a name in the directory of a number is found, is given to a file that is made, is taken
--- from its file, or moves to another name; the file of a number is shown; or part of the directory of a number is listed
+-- from its file, or moves to another name; the file of a number is shown; or part of the directory of a number is
+-- listed, or of the file of a number read
 pub data Deed : Type 0 where
   find_name : (dir : Number) (name : List ℕ) → Deed
   make_file : (dir : Number) (name : List ℕ) (kind : Kind) (perm : Perm) → Deed
@@ -206,6 +245,7 @@ pub data Deed : Type 0 where
   move_name : (dir : Number) (name : List ℕ) (to_dir : Number) (to_name : List ℕ) → Deed
   show_file : (node : Number) → Deed
   list_dir : (dir : Number) (offset size : ℕ) → Deed
+  read_file : (node : Number) (offset size : ℕ) → Deed
   -- nothing: the request is not served
   unserved : Deed
 
@@ -218,6 +258,7 @@ deed_of (Mkdir dir name perm) = make_file dir name Dir perm
 deed_of (Unlink dir name) = take_name dir name File
 deed_of (Rmdir dir name) = take_name dir name Dir
 deed_of (Rename dir name to_dir to_name) = move_name dir name to_dir to_name
+deed_of (Read node offset size) = read_file node offset size
 deed_of (Readdir dir offset size) = list_dir dir offset size
 deed_of request = unserved
 
@@ -229,6 +270,7 @@ looked_at (take_name dir name kind) = dir ∷ []
 looked_at (move_name dir name to_dir to_name) = dir ∷ to_dir ∷ []
 looked_at (show_file node) = node ∷ []
 looked_at (list_dir dir offset size) = dir ∷ []
+looked_at (read_file node offset size) = node ∷ []
 looked_at unserved = []
 
 -- what a deed comes to, if `files` says which file each number names; one row a deed
@@ -240,6 +282,7 @@ done_to tree files (move_name dir name to_dir to_name) =
     moves_between tree (files dir.0) name (files to_dir.0) to_name
 done_to tree files (show_file node) = shows tree (files node.0)
 done_to tree files (list_dir dir offset size) = lists_from tree (files dir.0) offset size
+done_to tree files (read_file node offset size) = reads_from tree (files node.0) offset size
 done_to tree files unserved = Err ENOSYS
 
 -- the numbers whose files are looked at for a request
@@ -327,15 +370,21 @@ AnswersListed IsInode tree range answer =
     × (answer ≡ Buffer (entries_text entries)))
     ⊎ (answer ≡ Error ENOMEM)
 
--- this is an answer to a success, by the part of a directory that it lists, if any
-abbrev pub AnswersEffect : Numbers → Request → Effect → Option Range → Answer → Type 0
-AnswersEffect numbers request effect (Some range) answer = AnswersListed numbers.IsInode effect.tree range answer
+-- this is an answer with what is read of a file or a directory: an extent of a file is told as it is, and its bytes are
+-- fetched behind that
+abbrev pub AnswersRead : (FileId → ℕ → Type 0) → Tree → Contents → Answer → Type 0
+AnswersRead IsInode tree (lists_range range) answer = AnswersListed IsInode tree range answer
+AnswersRead IsInode tree (reads_extent extent) answer = answer ≡ answers.Extent extent
+
+-- this is an answer to a success, by what is read of a file or a directory, if anything
+abbrev pub AnswersEffect : Numbers → Request → Effect → Option Contents → Answer → Type 0
+AnswersEffect numbers request effect (Some contents) answer = AnswersRead numbers.IsInode effect.tree contents answer
 AnswersEffect numbers request effect None answer =
     AnswersFile numbers request effect.tree effect.file effect.counts effect.names answer
 
 -- this is an answer to a request, by what the request comes to
 abbrev pub Answers : Numbers → Request → Result Effect Errno → Answer → Type 0
-Answers numbers request (Ok effect) answer = AnswersEffect numbers request effect effect.lists answer
+Answers numbers request (Ok effect) answer = AnswersEffect numbers request effect effect.contents answer
 Answers numbers request (Err errno) answer = answer ≡ Error errno
 
 -- a regular file of the manifest; the backing is asked for such files only

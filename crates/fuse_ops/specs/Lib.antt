@@ -1,6 +1,7 @@
 pub mod Above
 pub mod Answers
 pub mod Changes
+pub mod Extents
 pub mod Gifts
 pub mod Listing
 pub mod Loading

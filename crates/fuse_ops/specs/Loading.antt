@@ -11,7 +11,7 @@ use Rattle.manifest.specs.declared.content.Content.{Content}
 use Rattle.fuse_wire.specs.Request.{items_of}
 use Rattle.fuse_wire.specs.declared.request.Request.{Request}
 use Rattle.fuse_wire.specs.declared.reply.Answer.{Answer}
-use Rattle.fuse_wire.specs.declared.reply.Answer.TheVariants.{Entry, Opened, Attrs, Done, Buffer, Error}
+use Rattle.fuse_wire.specs.declared.reply.Answer.TheVariants.{Entry, Opened, Attrs, Done, Buffer, Extent, Error}
 use Rattle.entry_table.specs.Entries.{IsFileOf}
 use Rattle.inode_map.specs.InodeMap.{MapState, attr_of, give_fault, load, used}
 use Rattle.inode_map.specs.declared.loaded.LoadedAttr.{LoadedAttr}
@@ -94,12 +94,13 @@ LoadsDone old (move_name dir name to_dir to_name) new =
 LoadsDone old deed new = new ≡ old
 
 -- How a request changes what is loaded, by its answer. Attributes that are told with a number are loaded, and an error
--- or a buffer loads none. When a number is dropped, its loaded attributes are, too.
+-- or what is read of a file or a directory loads none. When a number is dropped, its loaded attributes are, too.
 abbrev pub Loads : MapState → Request → Option Answer → MapState → Type 0
 Loads old request (Some (Entry number attr)) new = LoadsTold old number attr new
 Loads old request (Some (Opened number attr)) new = LoadsTold old number attr new
 Loads old request (Some (Attrs number attr)) new = LoadsTold old number attr new
 Loads old request (Some Done) new = LoadsDone old (deed_of request) new
 Loads old request (Some (Buffer bytes)) new = LoadsNone old new
+Loads old request (Some (Extent extent)) new = LoadsNone old new
 Loads old request (Some (Error errno)) new = LoadsNone old new
 Loads old request None new = new ≡ forgotten_all old (items_of request)

@@ -14,6 +14,7 @@ use Rattle.eden_base.specs.declared.number.Number.{Number}
 use Rattle.manifest.specs.Tree.{Tree, IsTree, StandsIn, child_of, file_of, kind_of, root}
 use Rattle.checkout.specs.ChangedTree.{attr_of, next_file, created, removed}
 use Rattle.fuse_wire.specs.DirectoryEntries.{Dirent, Listed, entries_text}
+use Rattle.fuse_wire.specs.declared.request.Request.TheVariants.{Read}
 use Rattle.fuse_wire.specs.declared.reply.Answer.{Answer}
 use Rattle.fuse_wire.specs.declared.reply.Answer.TheVariants.{Entry, Attrs, Done, Error}
 use Rattle.inode_map.specs.InodeMap.{IsGiveRefusal, give_fault, given, number_given}
@@ -21,9 +22,9 @@ use Rattle.inode_map.specs.declared.inode_map.GiveFault.{GiveFault}
 use Rattle.inode_map.specs.declared.inode_map.GiveFault.TheVariants.{NoNumber, TooMany, NoMemory}
 use Rattle.checkout.specs.RenamedTree.{renamed}
 use Rattle.entry_table.specs.Entries.{IsFileOf}
-use Rattle.fuse_ops.specs.Answers.{AnswersListed, one_moved, Effect, found_in, free_in, unless, movable, against_replacing, is_there, moves_between, move_name}
+use Rattle.fuse_ops.specs.Answers.{Answers, AnswersListed, reads_from, one_moved, Effect, found_in, free_in, unless, movable, against_replacing, is_there, moves_between, move_name}
 use Rattle.fuse_ops.specs.Listing.{IsEnd, IsFirstEntry, Lists, range_of}
-use Rattle.fuse_ops.specs.Served.{ServedState, IsInode, IsLocated, IsUnloaded, plain, name_taken, name_moved, names_changed}
+use Rattle.fuse_ops.specs.Served.{ServedState, IsInode, IsLocated, IsUnloaded, numbers_at, plain, name_taken, name_moved, names_changed}
 use Rattle.fuse_ops.specs.declared.served.Found.{Found}
 use Rattle.fuse_ops.specs.declared.served.Linkage.{Linkage}
 use Rattle.fuse_ops.specs.declared.served.Linkage.TheVariants.{Linked, Unlinked}
@@ -121,6 +122,12 @@ pub record ListsDir (served : ServedState) (dir : Number) (offset size : ℕ) (a
   pub dir_file : Option FileId
   pub located : IsLocated served dir.0 dir_file
   pub lists : ListsFile served dir_file offset size answer
+
+-- this is an answer to a READ
+pub record Reads (served : ServedState) (node : Number) (offset size : ℕ) (answer : Answer) : Type 0 where
+  pub file : Option FileId
+  pub located : IsLocated served node.0 file
+  pub answers : Answers (numbers_at served None) (Read node offset size) (reads_from served.tree file offset size) answer
 
 -- this is the first entry of a directory from a position on, if there is one
 abbrev pub IsNextEntry : ServedState → FileId → ℕ → Option Dirent → Type 0

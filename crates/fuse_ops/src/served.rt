@@ -19,6 +19,7 @@ mod listing;
 mod lookup;
 mod moves;
 mod names;
+mod reading;
 
 use checkout::{Backing, Tree};
 use eden_base::{Errno, FileId, Kind, Name, NoMemory, Number, Perm};
@@ -179,6 +180,7 @@ impl Served {
             Request::Unlink { dir, name } => Some(self.unlink(*dir, name)),
             Request::Rmdir { dir, name } => Some(self.remove_dir(*dir, name)),
             Request::Readdir { dir, offset, size } => Some(self.list(alloc, *dir, *offset, *size)),
+            Request::Read { node, offset, size } => Some(self.read(*node, *offset, *size)),
             Request::Forget(item) => {
                 self.forget(*item);
                 None

@@ -1,10 +1,12 @@
 //! READDIR: the entries of a directory. It gives no number out, and counts none.
 ghost use Rattle.std.specs.Prelude.{◌≡◌, ◌+◌, ◌<◌, ◌≤◌, ◌⊎◌, true, false, [], Some};
+ghost use Rattle.std.specs.List.{list_any};
 ghost use Rattle.eden_base.specs.Limits.{end_of_files};
 ghost use Rattle.eden_base.specs.declared.number.FileId.{FileId};
 ghost use Rattle.checkout.specs.ChangedTree.{is_unlinked};
 ghost use Rattle.eden_base.specs.declared.attr.Kind.TheVariants.{Dir};
 ghost use Rattle.manifest.specs.Tree.{IsTree, child_of, kind_of};
+ghost use Rattle.entry_table.specs.Entries.{is_kid_of};
 ghost use Rattle.fuse_wire.specs.DirectoryEntries.{IsEntryName};
 ghost use Rattle.fuse_ops.specs.Served.{IsInode};
 ghost use Rattle.fuse_ops.specs.Soundness.{Names};
@@ -18,12 +20,14 @@ use std::alloc::Global;
 /// The inode number of a file of which no number is live, as libfuse has it (`FUSE_UNKNOWN_INO`).
 const UNKNOWN_INODE: u64 = 0xffff_ffff;
 
-/// A directory: the number by which it was asked for, its file, and whether a name leads to it.
+/// A directory: the number by which it was asked for, its file, whether a name leads to it, and whether names in it have
+/// numbers.
 #[derive(Clone, Copy)]
 struct Directory {
     number: Number,
     file: FileId,
     linkage: Linkage,
+    has_numbers: bool,
 }
 
 impl Served {
@@ -47,6 +51,7 @@ impl Served {
             number: dir,
             file,
             linkage,
+            has_numbers: self.map.has_kids(dir),
         };
         Answer::Buffer(self.fill(dir, offset, listing).into_buffer())
     }
@@ -56,6 +61,7 @@ impl Served {
         requires names { Names self.now dir.number.0 dir.file }
         requires linkage { is_unlinked self.now.tree dir.file ≡ lacks_name dir.linkage }
         requires is_dir { kind_of self.now.tree dir.file ≡ Some Dir }
+        requires numbers { dir.has_numbers ≡ list_any (is_kid_of dir.number.0) self.now.map.entries }
         requires empty { listing.bytes ≡ [] }
         ensures filled { IsFilled self.now dir.file offset result }
         ensures room { result.room ≡ listing.room }
@@ -75,6 +81,7 @@ impl Served {
         requires names { Names self.now dir.number.0 dir.file }
         requires linkage { is_unlinked self.now.tree dir.file ≡ lacks_name dir.linkage }
         requires is_dir { kind_of self.now.tree dir.file ≡ Some Dir }
+        requires numbers { dir.has_numbers ≡ list_any (is_kid_of dir.number.0) self.now.map.entries }
         ensures next { IsNextEntry self.now dir.file from result }
     {
         match (dir.linkage, from) {
@@ -91,22 +98,29 @@ impl Served {
     fn child_entry(&self, dir: Directory, from: u64) -> Option<DirectoryEntry<'_>>
         requires names { Names self.now dir.number.0 dir.file }
         requires behind { (is_unlinked self.now.tree dir.file ≡ true) ⊎ (2 ≤ from) }
+        requires numbers { dir.has_numbers ≡ list_any (is_kid_of dir.number.0) self.now.map.entries }
         ensures next { IsNextEntry self.now dir.file from result }
     {
         let child = self.tree.child_from(dir.file, FileId(from))?;
         let Some(kind) = self.tree.kind(child.file) else {
             unreachable!()
         };
-        let number = self.inode_of_child(dir.number, child.name);
+        let number = self.inode_of_child(dir, child.name);
         Some(entry_of(number, child.file.0, kind, child.name.bytes()))
     }
 
-    /// Returns the inode number that an entry tells of the file that `name` gives in the directory `dir`.
-    fn inode_of_child(&self, dir: Number, name: &Name) -> u64
-        ensures inode { (above file : FileId) → Names self.now dir.0 above
+    /// Returns the inode number that an entry tells of the file that `name` gives in the directory `dir`. Where no name in
+    /// it has a number, none is looked for.
+    fn inode_of_child(&self, dir: Directory, name: &Name) -> u64
+        requires numbers { dir.has_numbers ≡ list_any (is_kid_of dir.number.0) self.now.map.entries }
+        ensures inode { (above file : FileId) → Names self.now dir.number.0 above
             → child_of self.now.tree above name.now ≡ Some file → IsInode self.now file result }
     {
-        match self.map.number_for(dir, name) {
+        let map = &self.map;
+        if !dir.has_numbers {
+            return UNKNOWN_INODE;
+        }
+        match map.number_for(dir.number, name) {
             Some(number) => self.inode(number),
             None => UNKNOWN_INODE,
         }
