@@ -78,6 +78,17 @@ impl Tally {
         fill(&mut self.counts, at + 1);
         self.counts[at] += 1;
     }
+
+    /// Makes `count` the count of a number. Takes no memory.
+    pub fn set(&mut self, number: u64, count: u32)
+        requires room { number < self.old.room }
+        ensures counts { (q : ℕ) → count_of self.new q ≡ (if q == number then count else count_of self.old q) }
+        ensures room { self.new.room ≡ self.old.room }
+    {
+        let at = number as usize;
+        fill(&mut self.counts, at + 1);
+        self.counts[at] = count;
+    }
 }
 
 /// Appends zeros to `counts` until there are `len`. Takes no memory.
