@@ -1,5 +1,6 @@
 -- The first file of a directory from an id on: an added link gives it, or one that is left of the manifest's.
-use Rattle.std.proofs.Common.{◌≡◌, ◌≢◌, ◌+◌, ◌<◌, ◌≤◌, ◌⊎◌, inl, inr, ℕ, Bool, true, false, if◌then◌else◌, List, Option, Some, None, refl, sym, ap, ◌∙◌, arith}
+use Rattle.std.proofs.Common.{◌≡◌, ◌+◌, ◌<◌, ◌≤◌, ◌⊎◌, inl, inr, ℕ, Bool, true, false, nat_lt, if◌then◌else◌, List, Option, Some, None, refl, sym, ap, ◌∙◌, arith}
+use Rattle.std.proofs.lemmas.Bool.Decides.{nat_tests}
 use Rattle.std.specs.FinMap.{FinMap, empty, get, get-empty}
 use Rattle.std.specs.Option.{option_or}
 use Rattle.eden_base.proofs.MemberLemmas.{some-IsSome}
@@ -45,15 +46,17 @@ module _ (m : Manifest) (gone : UnlinkedFiles) where
     λ other s late. first.2 other (left-base other dir s).0 (passed.1 other s late),
   )
 
-  -- and it is passed if it is gone
-  pub first-goes : (dir : FileId) (least from : ℕ) (file : FileId) → IsPassed dir least from → IsFirstFrom base dir from (Some file) → is_gone gone file.0 ≡ true → IsPassed dir least (file.0 + 1)
-  first-goes dir least from file passed first goes = (
+  -- and if it is gone with some that follow, all these are passed
+  pub first-goes : (dir : FileId) (least from : ℕ) (file : FileId) (run : ℕ) → IsPassed dir least from → IsFirstFrom base dir from (Some file) → ((q : ℕ) → file.0 ≤ q → q < file.0 + run → is_gone gone q ≡ true) → IsPassed dir least (file.0 + run)
+  first-goes dir least from file run passed first goes = (
     (let low = passed.0 in let high = first.1 in omega (arith, low, high)),
     λ other s late.
         let r = left-base other dir s in
         let after = first.2 other r.0 (passed.1 other s late) in
-        let apart : file.0 ≢ other.0 = λ e. let there = r.1 in let same = ap (is_gone gone) e in cc (there, same, goes) in
-        omega (arith, after, apart),
+        elim (nat_lt other.0 (file.0 + run)) as (λ b. nat_lt other.0 (file.0 + run) ≡ b → file.0 + run ≤ other.0) [
+          | true ↦ λ e. let there = r.1 in let went = goes other.0 after (grind (arith, nat_tests)) in absurd (cc (there, went))
+          | false ↦ λ e. grind (arith, nat_tests)
+        ] refl,
   )
 
   pub first-ends : (dir : FileId) (least from : ℕ) → IsPassed dir least from → IsFirstFrom base dir from None → IsFirstFrom left dir least None

@@ -31,6 +31,7 @@ pub mod FirstFrom
 pub mod GoodChanges
 pub mod GoodRounds
 pub mod IdMaps
+pub mod JoinedMarks
 pub mod KindLemmas
 pub mod LaidFiles
 pub mod LaidLinks

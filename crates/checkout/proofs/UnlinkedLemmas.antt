@@ -1,12 +1,12 @@
 -- A list of files without one twice, all below a room, is no longer than the room.
-use Rattle.std.proofs.Common.{◌≡◌, ℕ, ◌+◌, ◌<◌, ◌≤◌, ◌==◌, ◌||◌, true, false, eqb, nat_lt, if◌then◌else◌, List, [], ◌∷◌, ◌++◌, length, refl, sym, ap, ◌∙◌, arith}
+use Rattle.std.proofs.Common.{◌≡◌, ℕ, ◌+◌, ◌<◌, ◌≤◌, ◌==◌, ◌||◌, Bool, true, false, eqb, nat_lt, if◌then◌else◌, List, [], ◌∷◌, ◌++◌, length, refl, sym, ap, subst, ◌∙◌, arith}
 use Rattle.std.proofs.Math.Bool.{or-true}
 use Rattle.std.proofs.lemmas.Bool.Decides.{nat_tests}
 use Rattle.std.proofs.lemmas.Map.Keys.{IsDistinct-cons, IsDistinct-push}
 use Rattle.std.proofs.lemmas.Map.Steps.{length-le_from_distinct_below}
 use Rattle.std.specs.Cmp.{nat_eq_equiv}
 use Rattle.std.specs.List.{AllByRecursion, IsDistinct, list_any}
-use Rattle.checkout.specs.UnlinkedFiles.{UnlinkedFiles, is_gone}
+use Rattle.checkout.specs.UnlinkedFiles.{UnlinkedFiles, is_gone, AreMarks}
 use Rattle.manifest.specs.Tally.{Tally, count_of}
 
 pub none-IsDistinct : IsDistinct eqb []
@@ -27,17 +27,30 @@ has-push (f ∷ fs) file q =
 pub is_gone-added : (old new : UnlinkedFiles) (file : ℕ) → new.files ≡ old.files ++ file ∷ [] → (q : ℕ) → is_gone new q ≡ ((q == file) || is_gone old q)
 is_gone-added old new file added q = ap (list_any (λ f. q == f)) added ∙ has-push old.files file q
 
-above_zero : (n : ℕ) → nat_lt 0 (n + 1) ≡ true
-above_zero n = grind (arith, nat_tests)
-
 module _ (fs : List ℕ) (file : ℕ) (new : list_any (λ f. file == f) fs ≡ false) where
-  pub counted-push : (old marks : Tally) → ((q : ℕ) → nat_lt 0 (count_of old q) ≡ list_any (λ f. q == f) fs) →
-      ((q : ℕ) → count_of marks q ≡ (if q == file then count_of old q + 1 else count_of old q)) → (q : ℕ) → nat_lt 0 (count_of marks q) ≡ list_any (λ f. q == f) (fs ++ file ∷ [])
-  counted-push old marks same raised q =
-      ap (nat_lt 0) (raised q) ∙ (elim (q == file) as (λ b. nat_lt 0 (if b then count_of old q + 1 else count_of old q) ≡ (b || list_any (λ f. q == f) fs)) [
-        | true ↦ above_zero (count_of old q)
-        | false ↦ same q
-      ]) ∙ sym (has-push fs file q)
+  abbrev with_file : ℕ → Bool
+  with_file q = list_any (λ f. q == f) (fs ++ file ∷ [])
+
+  -- marks of the files with a mark of 1 for one more
+  pub marks-push : (old marks : Tally) → AreMarks (λ q. list_any (λ f. q == f) fs) old → ((q : ℕ) → count_of marks q ≡ (if q == file then 1 else count_of old q)) → AreMarks with_file marks
+  marks-push old marks are set = (marked, reach) where
+    marked : (q : ℕ) → nat_lt 0 (count_of marks q) ≡ with_file q
+    marked q =
+        ap (nat_lt 0) (set q) ∙ (elim (q == file) as (λ b. nat_lt 0 (if b then 1 else count_of old q) ≡ (b || list_any (λ f. q == f) fs)) [
+          | true ↦ refl
+          | false ↦ are.0 q
+        ]) ∙ sym (has-push fs file q)
+
+    reach : (q x : ℕ) → q ≤ x → x < q + count_of marks q → with_file x ≡ true
+    reach q x low high =
+        elim (q == file) as (λ b. (q == file) ≡ b → x < q + (if b then 1 else count_of old q) → with_file x ≡ true) [
+          | true ↦ λ e lt.
+              let same : q ≡ file = grind (arith, nat_tests) in
+              let is : x ≡ file = omega (arith, same, low, lt) in
+              let test : (x == file) ≡ true = grind (arith, nat_tests) in
+              has-push fs file x ∙ ap (λ b. b || list_any (λ f. x == f) fs) test
+          | false ↦ λ e lt. has-push fs file x ∙ ap (λ b. (x == file) || b) (are.1 q x low lt) ∙ or-true (x == file)
+        ] refl (subst (λ n. x < q + n) (set q) high)
 
   all_other : (xs : List ℕ) → list_any (λ f. file == f) xs ≡ false → AllByRecursion (λ y. eqb file y ≡ false) xs
   all_other [] h = tt

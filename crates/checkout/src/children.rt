@@ -43,7 +43,7 @@ pub fn first_from(
 }
 
 /// Returns the first file from the id `least` on that a link of the manifest still gives in the directory `dir`, by rising
-/// id, or none. Looks at each file between that is gone.
+/// id, or none. Passes files that are gone by runs of their ids.
 fn first_left(
     manifest: &Manifest,
     gone: &UnlinkedFiles,
@@ -54,10 +54,11 @@ fn first_left(
 {
     let mut from = least;
     while let Some(file) = manifest.first_from(dir, from) {
-        if !gone.has(file) {
+        let run = gone.run(file);
+        if run == 0 {
             return Some(file);
         }
-        from = FileId(file.0 + 1);
+        from = FileId(file.0 + u64::from(run));
     }
     None
 }

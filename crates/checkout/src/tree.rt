@@ -245,8 +245,8 @@ impl Tree {
     }
 
     /// Returns the first file from the id `least` on that stands in the directory `dir`, by rising id, with its name, or
-    /// none. So a directory is listed by going on after the last file that it gave. The cost grows with the manifest's
-    /// files between that lost their names there.
+    /// none. So a directory is listed by going on after the last file that it gave. The cost grows with the runs between
+    /// of the manifest's files that lost their names.
     pub fn child_from(&self, dir: FileId, least: FileId) -> Option<Child<'_>>
         ensures first { IsFirstFrom self.now.links dir least.0 (option_map (λ child. child.file) result) }
         ensures name { IfSome result (λ child. child_of self.now dir child.name.now ≡ Some child.file) }
