@@ -26,6 +26,7 @@ pub record IsDaemon (rows : List Row) (daemon : DaemonWords) : Type 0 where
   pub limit : daemon.limit ≡ number_or 1024 (first_of (codes "limit") rows)
   pub patience : daemon.patience ≡ number_or 2000 (first_of (codes "patience") rows)
   pub until_closed : daemon.until_closed ≡ has_flag (codes "until-closed") rows
+  pub files : daemon.files.now ≡ word_in (codes "files") rows
 
 -- each word of `mount` is that of its argument, the owner is the one that its option names, and so are the seconds for which
 -- the kernel may keep what it is told

@@ -62,12 +62,17 @@ abbrev pub broker_app : App
 broker_app =
     with_rules (new_app (codes "broker")) (word_rule (codes "SOCKET") ∷ word_rule (codes "SCRIPT") ∷ [])
 
--- the command `daemon BROKER TAKEOVER MANIFEST`, with `--mount` or `--takeover`, and perhaps with `--until-closed`
+-- the rule of the option that names a directory with the contents of files
+abbrev pub files_rule : Rule
+files_rule = record (new_rule (codes "files")) { long = Some (codes "files"); action = Some Set; value_names = 1 }
+
+-- the command `daemon BROKER TAKEOVER MANIFEST`, with `--mount` or `--takeover`, and perhaps with `--until-closed` and
+-- `--files`
 abbrev pub daemon_app : App
 daemon_app = with_rules (new_app (codes "daemon")) (
     flag_rule (codes "mount") ∷ flag_rule (codes "takeover")
     ∷ word_rule (codes "BROKER") ∷ word_rule (codes "TAKEOVER") ∷ word_rule (codes "MANIFEST")
-    ∷ workers_rule ∷ limit_rule ∷ patience_rule ∷ flag_rule (codes "until-closed") ∷ [])
+    ∷ workers_rule ∷ limit_rule ∷ patience_rule ∷ flag_rule (codes "until-closed") ∷ files_rule ∷ [])
 
 -- the rule of the option that names a file for what the kernel holds
 abbrev pub held_rule : Rule

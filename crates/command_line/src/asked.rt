@@ -7,7 +7,7 @@ ghost use Rattle.command_line.specs.CommandLine.{NamesPlainly, command_of, has_f
 ghost use Rattle.command_line.specs.Owner.{owner_of};
 
 use crate::commands::{
-    BROKER, BROKER_SOCKET, DAEMON, HELD, LIMIT, LISTEN_SOCKET, MANIFEST, MOUNT, MOUNTPOINT, OWNER,
+    BROKER, BROKER_SOCKET, DAEMON, FILES, HELD, LIMIT, LISTEN_SOCKET, MANIFEST, MOUNT, MOUNTPOINT, OWNER,
     PATIENCE, SCRIPT, SOCKET, TAKEOVER, UNTIL_CLOSED, VALID, WORKERS, WORLD, daemon_command,
     edend_command, mount_command,
 };
@@ -178,6 +178,7 @@ fn daemon_in<'a>(alloc: Global, daemon: &ArgMatches<'a>) -> Result<DaemonWords<'
         limit: number_or(DEFAULT_LIMIT as u64, daemon.get_str(LIMIT)) as usize,
         patience: number_or(DEFAULT_PATIENCE, daemon.get_str(PATIENCE)),
         until_closed: has_flag(daemon, UNTIL_CLOSED),
+        files: word_in(daemon, FILES),
     })
 }
 

@@ -1,7 +1,7 @@
 //! The commands that the program has, as `clap` reads them.
 ghost use Rattle.std.specs.Prelude.{◌≡◌, false, IfOk};
 ghost use Rattle.clap.specs.Words.{app_of, rule_of};
-ghost use Rattle.command_line.specs.CommandLine.{IsReadAs, broker_app, daemon_app, edend_app, flag_rule, held_rule, limit_rule, mount_app, owner_rule, patience_rule, valid_rule, word_rule, workers_rule, world_app};
+ghost use Rattle.command_line.specs.CommandLine.{IsReadAs, broker_app, daemon_app, edend_app, files_rule, flag_rule, held_rule, limit_rule, mount_app, owner_rule, patience_rule, valid_rule, word_rule, workers_rule, world_app};
 
 use clap::builder::ValueParser;
 use clap::{Arg, ArgAction, Command};
@@ -45,6 +45,8 @@ pub const LIMIT: &str = "limit";
 pub const PATIENCE: &str = "patience";
 
 pub const UNTIL_CLOSED: &str = "until-closed";
+
+pub const FILES: &str = "files";
 
 /// The end of the help of `world`.
 const WORLD_HELP: &str = "\
@@ -156,7 +158,8 @@ pub fn daemon_command<'a>(alloc: Global) -> Result<Command<'a>, AllocError>
         .arg(workers_arg(alloc))?
         .arg(limit_arg(alloc))?
         .arg(patience_arg(alloc))?
-        .arg(flag_arg(alloc, UNTIL_CLOSED, UNTIL_CLOSED_HELP))
+        .arg(flag_arg(alloc, UNTIL_CLOSED, UNTIL_CLOSED_HELP))?
+        .arg(files_arg(alloc))
 }
 
 /// Returns the command `mount`, which mounts what daemons serve.
@@ -215,6 +218,18 @@ fn held_arg<'a>(alloc: Global) -> Arg<'a>
         .long(HELD)
         .value_name("FILE")
         .help("Notes in FILE at each takeover how often the kernel holds each number")
+        .action(ArgAction::Set)
+}
+
+/// Returns the option that names a directory with the contents of files.
+fn files_arg<'a>(alloc: Global) -> Arg<'a>
+    ensures rule { rule_of result ≡ files_rule }
+    ensures own { result.global ≡ false }
+{
+    Arg::new(alloc, FILES)
+        .long(FILES)
+        .value_name("DIRECTORY")
+        .help("Serves the contents of files from DIRECTORY, each from its path there")
         .action(ArgAction::Set)
 }
 

@@ -45,6 +45,8 @@ pub struct DaemonWords<'a> {
     pub patience: u64,
     /// Whether the daemon ends when standard input ends.
     pub until_closed: bool,
+    /// The path of a directory with the contents of files; empty if no directory is named.
+    pub files: &'a str,
 }
 
 /// The words of `mount`.

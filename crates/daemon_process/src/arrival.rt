@@ -1,18 +1,21 @@
 //! A daemon's connections to the broker.
+use crate::contents::Contents;
 use crate::context::DaemonContext;
 use crate::exit::Exit;
 use crate::fault::DaemonFault;
 use crate::options::DaemonOptions;
 use crate::patient::Patient;
 use crate::watched::Watched;
+use blob_store::FetchingChannel;
 use eden_base::DaemonId;
 use links::{Frame, SocketChannel};
 use sockets::{Connection, Deadline, Timed, TimeoutWriter, connect};
 use std::alloc::Global;
+use std::fs::File;
 use std::io::{self, BufReader, ErrorKind};
 use std::net::Net;
 use std::os::unix::net::UnixStream;
-use std::rt::Clock;
+use std::rt::{Clock, Files};
 use std::sync::{Arc, Wait};
 use std::time::Duration;
 use takeover_core::Message;
@@ -36,7 +39,7 @@ pub(crate) fn answer_by<R: Clock>(clock: &R) -> Deadline {
 const AHEAD: usize = 65_536;
 
 /// The channel of a worker.
-pub(crate) type Worker<'a, R> = Patient<Asking<'a, R>>;
+pub(crate) type Worker<'a, R> = Patient<FetchingChannel<Asking<'a, R>, &'a Contents<'a, R>>>;
 
 /// A daemon's first connection to the broker, and those of its workers.
 #[derive(Drop)]
@@ -45,8 +48,9 @@ pub(crate) struct Arrival<'a, R> {
     pub(crate) workers: Vec<UnixStream>,
 }
 
-/// How many descriptors a worker's channels take, where those of one generation stand beside those of the last one.
-const DESCRIPTORS_OF_A_WORKER: usize = 4;
+/// How many descriptors a worker's channels take, where those of one generation stand beside those of the last one, and the
+/// file that it reads.
+const DESCRIPTORS_OF_A_WORKER: usize = 5;
 
 /// How many descriptors takeovers take.
 const DESCRIPTORS_OF_TAKEOVERS: usize = 8;
@@ -127,7 +131,7 @@ impl<'a, R: Net + Clock + Wait> DaemonContext<'a, R> {
     }
 }
 
-impl<'a, R: Clock + Wait> DaemonContext<'a, R> {
+impl<'a, R: Files<File = File> + Clock + Wait> DaemonContext<'a, R> {
     /// Makes a channel at `generation` for each worker's connection, patient until `stop` is asked. No frame that was
     /// sent on these connections may still lack its answer.
     pub(crate) fn channels(
@@ -139,7 +143,8 @@ impl<'a, R: Clock + Wait> DaemonContext<'a, R> {
         let mut channels = Vec::with_capacity(self.alloc, workers.len())?;
         for worker in workers {
             let channel = self.channel(worker, generation)?;
-            channels.push(Patient::new(channel, Arc::try_clone(stop)?))?;
+            let fetching = FetchingChannel::new(self.alloc, channel, self.contents);
+            channels.push(Patient::new(fetching, Arc::try_clone(stop)?))?;
         }
         Ok(channels)
     }

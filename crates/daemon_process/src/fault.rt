@@ -18,6 +18,8 @@ pub enum DaemonFault {
     TakeoverFailed,
     /// The daemon's own socket can't be listened at.
     CannotListen(io::Error),
+    /// The directory with the contents of files can't be served.
+    NoFiles(io::Error),
     NoMemory,
     /// No thread could be made in which takeovers are served.
     NoThread,

@@ -26,4 +26,6 @@ pub struct DaemonOptions<'a> {
     pub patience: Duration,
     /// Whether it ends when standard input ends, which it reads then.
     pub until_closed: bool,
+    /// The path of a directory with the contents of the manifest's files; empty if they aren't served.
+    pub files: &'a str,
 }

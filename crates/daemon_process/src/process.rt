@@ -3,6 +3,7 @@ ghost use Rattle.std.specs.Prelude.{◌≡◌, ℕ, Bool, List, [], ◌∷◌, O
 ghost use Rattle.daemon_process.specs.Ending.{MayEnd, PrintsEnding, PrintsServing, RunsDaemon};
 
 use crate::arrival::Arrival;
+use crate::contents::open_contents;
 use crate::context::DaemonContext;
 use crate::exit::{DaemonEnd, Exit};
 use crate::fault::DaemonFault;
@@ -19,6 +20,7 @@ use manifest::Manifest;
 use non_blocking::{Notes, Unblock, write_behind};
 use sockets::{Closer, Connection};
 use std::alloc::Global;
+use std::fs::File;
 use std::io::{self, ErrorKind, Read};
 use std::net::Net;
 use std::rt::{Clock, Files};
@@ -60,7 +62,7 @@ struct Service<W> {
 /// that can't be written is dropped, and nobody waits for one. Returns when another daemon took over, the mount is
 /// over, or a fault ended the daemon; where `options` say so, also when `streams.input` ends.
 pub fn run_daemon<
-    R: Threads + Wait + Clock + Files + Net + Copy + Send + Sync + 'static,
+    R: Threads + Wait + Clock + Files<File = File> + Net + Copy + Send + Sync + 'static,
     I: Read + Drop + Send + 'static,
     W: Unblock + Drop,
 >(
@@ -78,6 +80,10 @@ pub fn run_daemon<
     if let Err(error) = write_behind(rt, alloc, &mut out) {
         return end_run(out, DaemonEnd::Exits(Exit::Faulty(unmade(&error))));
     }
+    let contents = match open_contents(rt, alloc, options.files, &manifest, &notes) {
+        Ok(contents) => contents,
+        Err(fault) => return end_run(out, DaemonEnd::Exits(Exit::Faulty(fault))),
+    };
     let daemon = DaemonDesk::new(alloc, manifest, options.limit, versions());
     let Ok(shared) = Arc::new(alloc, Shared::new(daemon, notes)) else {
         return end_run(out, DaemonEnd::Exits(Exit::Faulty(DaemonFault::NoMemory)));
@@ -91,13 +97,14 @@ pub fn run_daemon<
         rt,
         alloc,
         shared: &shared,
+        contents: &contents,
     };
     let Service { out, ending } = serve_mount(&context, options, out);
     end_run(out, ending)
 }
 
 /// Gets the seat, serves until the daemon ends, and returns how it ends.
-fn serve_mount<R: Threads + Wait + Clock + Files + Net + Sync, W: Unblock + Drop>(
+fn serve_mount<R: Threads + Wait + Clock + Files<File = File> + Net + Sync, W: Unblock + Drop>(
     context: &DaemonContext<'_, R>,
     options: &DaemonOptions<'_>,
     out: W,
@@ -155,7 +162,7 @@ fn print_ending<W: Unblock>(out: &mut W, ending: DaemonEnd) -> Result<(), Daemon
 }
 
 /// Serves the mount and takeovers in separate threads until the daemon ends, and returns how it ends.
-fn run<R: Threads + Wait + Clock + Sync, W: Unblock + Drop>(
+fn run<R: Threads + Wait + Clock + Files<File = File> + Sync, W: Unblock + Drop>(
     context: &DaemonContext<'_, R>,
     options: &DaemonOptions<'_>,
     seated: Seated<'_, R>,
@@ -201,7 +208,7 @@ fn run<R: Threads + Wait + Clock + Sync, W: Unblock + Drop>(
 
 /// Runs the threads of a daemon in a scope until it ends, and returns how it ends. The seat is claimed over the connection
 /// `broker`.
-fn run_threads<R: Threads + Wait + Clock + Sync, W: Unblock + Drop>(
+fn run_threads<R: Threads + Wait + Clock + Files<File = File> + Sync, W: Unblock + Drop>(
     threads: &DaemonThreads<'_, R>,
     broker: Connection<'_, R>,
     out: W,
@@ -227,7 +234,7 @@ struct DaemonThreads<'a, R> {
     rounds: RoundLoop<'a, R>,
 }
 
-impl<R: Threads + Wait + Clock + Sync> DaemonThreads<'_, R> {
+impl<R: Threads + Wait + Clock + Files<File = File> + Sync> DaemonThreads<'_, R> {
     /// Serves the mount in this thread, and takeovers in two more: one accepts connections, one serves those that
     /// offer.
     fn run<'s, 'e: 's, W: Unblock + Drop>(

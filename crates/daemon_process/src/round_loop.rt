@@ -13,8 +13,9 @@ use crate::rounds::{RoundParts, exit_of, serve_one};
 use crate::shared::{NextStep, RoundStop};
 use daemon::Lease;
 use non_blocking::Unblock;
+use std::fs::File;
 use std::os::unix::net::UnixStream;
-use std::rt::Clock;
+use std::rt::{Clock, Files};
 use std::sync::{Arc, Wait};
 use std::thread::Threads;
 use std::time::Duration;
@@ -45,7 +46,7 @@ pub(crate) struct RoundLoop<'a, R> {
     pub(crate) until_closed: bool,
 }
 
-impl<'a, R: Threads + Wait + Clock + Sync> RoundLoop<'a, R> {
+impl<'a, R: Files<File = File> + Threads + Wait + Clock + Sync> RoundLoop<'a, R> {
     /// Serves by rounds of workers, whenever something may be lent, and returns how the daemon ends.
     pub(crate) fn serve<W: Unblock>(&self, out: &mut W) -> DaemonEnd
         ensures prints { PrintsServing (W.contents out.old) (W.contents out.new) }

@@ -10,7 +10,7 @@ use Rattle.command_line.specs.declared.server_command.ServerCommand.TheVariants 
 use Rattle.world_script.specs.ProgramEnd.{name_by}
 use Rattle.world_script.specs.declared.failure.Failure.{Failure}
 use Rattle.world_script.specs.declared.program_fault.ProgramFault.{ProgramFault}
-use Rattle.world_script.specs.declared.program_fault.ProgramFault.TheVariants.{Broken, CannotListen, CannotMount, CannotWrite, NoBroker, NoDaemon, NoDevice, NoLog}
+use Rattle.world_script.specs.declared.program_fault.ProgramFault.TheVariants.{Broken, CannotListen, CannotMount, CannotWrite, NoBroker, NoDaemon, NoDevice, NoFiles, NoLog}
 use Rattle.edend.specs.Commands.{BrokerTells, DaemonTells, IsTold, PlaysRead, PrintsFirst, RunsTo, RunsWell, name_at}
 use Rattle.edend.specs.Note.{IsNoted}
 use Rattle.edend.specs.declared.note.Noted.{Noted}
@@ -21,11 +21,12 @@ same_of_broker : (a b : BrokerWords) (fault : ProgramFault) → a.socket.now ≡
 same_of_broker a b CannotListen socket script = ap (λ (p : List ℕ). Some p) socket
 same_of_broker a b fault socket script = ap (λ (p : List ℕ). name_by p fault) script
 
-same_of_daemon : (a b : DaemonWords) (fault : ProgramFault) → a.broker.now ≡ b.broker.now → a.takeover.now ≡ b.takeover.now → a.manifest.now ≡ b.manifest.now → name_at (command.Daemon a) fault ≡ name_at (command.Daemon b) fault
-same_of_daemon a b CannotListen broker takeover manifest = ap (λ (p : List ℕ). Some p) takeover
-same_of_daemon a b NoBroker broker takeover manifest = ap (λ (p : List ℕ). Some p) broker
-same_of_daemon a b NoDaemon broker takeover manifest = ap (λ (p : List ℕ). Some p) takeover
-same_of_daemon a b fault broker takeover manifest = ap (λ (p : List ℕ). name_by p fault) manifest
+same_of_daemon : (a b : DaemonWords) (fault : ProgramFault) → a.broker.now ≡ b.broker.now → a.takeover.now ≡ b.takeover.now → a.manifest.now ≡ b.manifest.now → a.files.now ≡ b.files.now → name_at (command.Daemon a) fault ≡ name_at (command.Daemon b) fault
+same_of_daemon a b CannotListen broker takeover manifest files = ap (λ (p : List ℕ). Some p) takeover
+same_of_daemon a b NoBroker broker takeover manifest files = ap (λ (p : List ℕ). Some p) broker
+same_of_daemon a b NoDaemon broker takeover manifest files = ap (λ (p : List ℕ). Some p) takeover
+same_of_daemon a b NoFiles broker takeover manifest files = ap (λ (p : List ℕ). Some p) files
+same_of_daemon a b fault broker takeover manifest files = ap (λ (p : List ℕ). name_by p fault) manifest
 
 same_of_mount : (a b : MountWords) (fault : ProgramFault) → a.mountpoint.now ≡ b.mountpoint.now → a.socket.now ≡ b.socket.now → a.held.now ≡ b.held.now → name_at (command.Mount a) fault ≡ name_at (command.Mount b) fault
 same_of_mount a b CannotListen mountpoint socket held = ap (λ (p : List ℕ). Some p) socket
@@ -39,7 +40,7 @@ same_names : (noted : Noted) (a b : ServerCommand) (fault : ProgramFault) → Is
 same_names (Broker noted) (command.Broker a) (command.Broker b) fault of_a of_b =
     same_of_broker a b fault (sym of_a.0 ∙ of_b.0) (sym of_a.1 ∙ of_b.1)
 same_names (Daemon noted) (command.Daemon a) (command.Daemon b) fault of_a of_b =
-    same_of_daemon a b fault (sym of_a.1 ∙ of_b.1) (sym of_a.2 ∙ of_b.2) (sym of_a.3 ∙ of_b.3)
+    same_of_daemon a b fault (sym of_a.1 ∙ of_b.1) (sym of_a.2 ∙ of_b.2) (sym of_a.3 ∙ of_b.3) (sym of_a.8 ∙ of_b.8)
 same_names (Broker noted) (command.Daemon a) b fault of_a of_b = absurd of_a
 same_names (Broker noted) (command.Broker a) (command.Daemon b) fault of_a of_b = absurd of_b
 same_names (Daemon noted) (command.Broker a) b fault of_a of_b = absurd of_a

@@ -30,7 +30,7 @@ use Rattle.world_script.specs.Source.{OfRead, script_at}
 use Rattle.world_script.specs.ProgramEnd.{HandlerKnown, RunsCommand, Tells, name_by, name_of, plain}
 use Rattle.world_script.specs.declared.failure.Failure.{Failure}
 use Rattle.world_script.specs.declared.program_fault.ProgramFault.{ProgramFault}
-use Rattle.world_script.specs.declared.program_fault.ProgramFault.TheVariants.{BadLine, Broken, CannotListen, CannotMount, CannotRead, CannotWrite, NoBroker, NoDaemon, NoDevice, NoLog, NoMemory, NoThread, OfferRefused, Full, Seated, TakeoverFailed, TooLong}
+use Rattle.world_script.specs.declared.program_fault.ProgramFault.TheVariants.{BadLine, Broken, CannotListen, CannotMount, CannotRead, CannotWrite, NoBroker, NoDaemon, NoDevice, NoFiles, NoLog, NoMemory, NoThread, OfferRefused, Full, Seated, TakeoverFailed, TooLong}
 
 -- how a daemon begins, by the start that its words ask for
 abbrev pub start_of : StartMode → DaemonStart
@@ -48,6 +48,7 @@ name_at (Broker words) fault = name_by words.script.now fault
 name_at (Daemon words) CannotListen = Some words.takeover.now
 name_at (Daemon words) NoBroker = Some words.broker.now
 name_at (Daemon words) NoDaemon = Some words.takeover.now
+name_at (Daemon words) NoFiles = Some words.files.now
 name_at (Daemon words) fault = name_by words.manifest.now fault
 name_at (Mount words) CannotListen = Some words.socket.now
 name_at (Mount words) NoLog = Some words.held.now
@@ -83,6 +84,7 @@ fault_of_daemon (daemon.NoDaemon error) = NoDaemon
 fault_of_daemon daemon.OfferRefused = OfferRefused
 fault_of_daemon daemon.TakeoverFailed = TakeoverFailed
 fault_of_daemon (daemon.CannotListen error) = CannotListen
+fault_of_daemon (daemon.NoFiles error) = NoFiles
 fault_of_daemon daemon.NoMemory = NoMemory
 fault_of_daemon daemon.NoThread = NoThread
 fault_of_daemon daemon.Broken = Broken

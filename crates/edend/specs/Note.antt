@@ -31,6 +31,7 @@ IsDaemon noted words =
     × (noted.limit ≡ words.limit)
     × (noted.patience ≡ words.patience)
     × (noted.until_closed ≡ words.until_closed)
+    × (string_bytes noted.files ≡ words.files.now)
 
 -- the noted words are these words of a mount
 abbrev pub IsMount : NotedMount → MountWords → Type 0

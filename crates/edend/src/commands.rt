@@ -287,6 +287,7 @@ fn daemon_options_of<'a>(words: &DaemonWords<'a>) -> DaemonOptions<'a>
     ensures limit { result.limit ≡ words.now.limit }
     ensures patience { as_nanos result.patience ≡ words.now.patience * 1000000 }
     ensures until_closed { result.until_closed ≡ words.now.until_closed }
+    ensures files { result.files.now ≡ words.now.files.now }
 {
     DaemonOptions {
         start: start_of(words.start),
@@ -296,6 +297,7 @@ fn daemon_options_of<'a>(words: &DaemonWords<'a>) -> DaemonOptions<'a>
         limit: words.limit,
         patience: Duration::from_millis(words.patience),
         until_closed: words.until_closed,
+        files: words.files,
     }
 }
 
@@ -326,6 +328,7 @@ fn failure_of_daemon<'a>(fault: DaemonFault, words: &DaemonWords<'a>) -> Failure
             words.takeover,
             error,
         ),
+        DaemonFault::NoFiles(error) => caused(ProgramFault::NoFiles, words.files, error),
         DaemonFault::NoMemory => Failure::plain(ProgramFault::NoMemory),
         DaemonFault::NoThread => Failure::plain(ProgramFault::NoThread),
         DaemonFault::Broken => Failure::plain(ProgramFault::Broken),

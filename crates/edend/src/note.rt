@@ -27,6 +27,7 @@ pub struct NotedDaemon {
     pub limit: usize,
     pub patience: u64,
     pub until_closed: bool,
+    pub files: String,
 }
 
 /// The words of a mount, with owned strings in place of borrowed ones.
@@ -90,6 +91,7 @@ impl NotedDaemon {
         let broker = copied(alloc, words.broker)?;
         let takeover = copied(alloc, words.takeover)?;
         let manifest = copied(alloc, words.manifest)?;
+        let files = copied(alloc, words.files)?;
         Some(NotedDaemon {
             start: words.start,
             broker,
@@ -99,6 +101,7 @@ impl NotedDaemon {
             limit: words.limit,
             patience: words.patience,
             until_closed: words.until_closed,
+            files,
         })
     }
 
@@ -115,6 +118,7 @@ impl NotedDaemon {
             limit: self.limit,
             patience: self.patience,
             until_closed: self.until_closed,
+            files: self.files.as_str(),
         }
     }
 }

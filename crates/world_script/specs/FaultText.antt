@@ -3,7 +3,7 @@ use Rattle.std.specs.Prelude.{ℕ, List, [], ◌∷◌, ◌++◌, codes}
 use Rattle.std.specs.Fmt.{decimal}
 use Rattle.manifest.specs.Words.{kind_text}
 use Rattle.world_script.specs.declared.program_fault.ProgramFault.{ProgramFault}
-use Rattle.world_script.specs.declared.program_fault.ProgramFault.TheVariants.{CannotRead, TooLong, NoEvents, BadManifest, BadLine, NoMemory, CannotWrite, CannotListen, NoBroker, Seated, Full, NoDaemon, OfferRefused, TakeoverFailed, NoThread, Broken, NoLog, NoDevice, CannotMount}
+use Rattle.world_script.specs.declared.program_fault.ProgramFault.TheVariants.{CannotRead, TooLong, NoEvents, BadManifest, BadLine, NoMemory, CannotWrite, CannotListen, NoBroker, Seated, Full, NoDaemon, OfferRefused, TakeoverFailed, NoThread, Broken, NoLog, NoDevice, CannotMount, NoFiles}
 
 -- the text of a fault
 abbrev pub fault_text : ProgramFault → List ℕ
@@ -26,6 +26,7 @@ fault_text Broken = codes "broken"
 fault_text NoLog = codes "no log"
 fault_text NoDevice = codes "no device"
 fault_text CannotMount = codes "cannot mount"
+fault_text NoFiles = codes "no files"
 
 -- the line of a fault: `fault: TEXT`
 abbrev pub fault_line : ProgramFault → List ℕ

@@ -53,6 +53,8 @@ pub enum ProgramFault {
     NoDevice,
     /// The command that mounts failed.
     CannotMount,
+    /// The directory with the contents of files can't be served.
+    NoFiles,
 }
 
 /// Writes the line of `fault`.
@@ -91,6 +93,7 @@ impl fmt::Display for ProgramFault {
             ProgramFault::NoLog => f.write_str("no log"),
             ProgramFault::NoDevice => f.write_str("no device"),
             ProgramFault::CannotMount => f.write_str("cannot mount"),
+            ProgramFault::NoFiles => f.write_str("no files"),
         }
     }
 }

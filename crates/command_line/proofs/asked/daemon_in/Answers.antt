@@ -15,4 +15,5 @@ returns-clause-words c = record {
   limit = c.number_or-2.ensures ∙ ap (number_or 1024) (c.get_str-2.ensures ∙ first_value-rows (found_of c.args.daemon.now) (codes "limit"));
   patience = c.number_or-3.ensures ∙ ap (number_or 2000) (c.get_str-3.ensures ∙ first_value-rows (found_of c.args.daemon.now) (codes "patience"));
   until_closed = c.has_flag.ensures;
+  files = c.word_in-4.ensures;
 }
