@@ -102,10 +102,11 @@ def mounts_below(path):
     return [it for it in reversed(points) if it == path or it.startswith(f"{path}/")]
 
 
-def drop_caches():
-    """Has the kernel forget the entries and files that no program holds, in every mount."""
+def drop_caches(with_pages=False):
+    """Has the kernel forget the entries and files that no program holds, in every mount; also what files contain, where
+    that is said."""
     with CACHES, open(DROP_CACHES, "w") as file:
-        file.write("2\n")
+        file.write("3\n" if with_pages else "2\n")
 
 
 def until(is_so, what, wait=WAIT):
