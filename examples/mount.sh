@@ -23,12 +23,13 @@ clear_away() {
 trap clear_away EXIT
 trap 'exit 1' HUP INT TERM
 cd "$room" || exit 1
-mkdir checkout
+mkdir -p checkout contents/src
+printf 'hello, world\n' >contents/src/a
 
 cat >checkout.manifest <<'END'
 commit 0123456789abcdef0123456789abcdef01234567
 dir src
-file 0644 12 src/a
+file 0644 13 src/a
 END
 
 # Waits until a file has a line, at most ten seconds.
@@ -51,7 +52,7 @@ until [ -S kernel.sock ] || [ $tries -gt 1000 ]; do
 done
 
 # The second shell: the daemon that runs today.
-"$edend" daemon --mount kernel.sock upgrade.sock checkout.manifest >old.said &
+"$edend" daemon --mount kernel.sock upgrade.sock checkout.manifest --files contents >old.said &
 wait_for mount.said 'mounted 1'
 
 # The third shell: a person who works in the checkout, and stays in `src` from now on.
@@ -59,10 +60,12 @@ wait_for mount.said 'mounted 1'
   cd checkout/src || exit 1
   mkdir made
   stat -c '%n: %A, %s bytes' a made
+  cat a
   stat -c 'here: number %i' .
   until [ -e "$room/taken.over" ]; do sleep 0.01; done
   echo 'the new daemon serves'
   stat -c '%n: %A, %s bytes' a made
+  cat a
   stat -c 'here: number %i' .
   rmdir made
 ) >looked.said 2>&1 &
@@ -70,7 +73,7 @@ person=$!
 wait_for looked.said 'here: .*'
 
 # The fourth shell: the daemon of the new release. Once it serves the person looks again, and then unmounts.
-"$edend" daemon --takeover kernel.sock upgrade.sock checkout.manifest >new.said &
+"$edend" daemon --takeover kernel.sock upgrade.sock checkout.manifest --files contents >new.said &
 wait_for new.said 'serving 2'
 : >taken.over
 wait $person
