@@ -1,34 +1,38 @@
 -- A legal answer is one that the broker takes: it belongs to its request, and gives out neither number 0 nor the root.
-use Rattle.std.proofs.Common.{◌≡◌, ℕ, ◌≤◌, true, ◌&&◌, List, Option, Some, None, Result, Ok, Err, refl, sym, ap, ◌∙◌, subst, inl, inr, ◌⊎◌, arith}
+use Rattle.std.proofs.Common.{◌≡◌, ℕ, ◌≤◌, Bool, true, false, ◌&&◌, List, Option, Some, None, Result, Ok, Err, refl, sym, ap, ◌∙◌, subst, inl, inr, ◌⊎◌, arith}
 use Rattle.std.specs.Option.{option_map_or}
+use Rattle.std.specs.Prelude.{nat_lt}
 use Rattle.std.proofs.lemmas.Bool.Decides.{nat_tests}
 use Rattle.eden_base.specs.declared.attr.Attr.{Attr}
 use Rattle.eden_base.specs.declared.attr.Kind.{Kind}
 use Rattle.eden_base.specs.declared.attr.Kind.TheVariants.{Dir, File}
 use Rattle.eden_base.specs.declared.attr.Perm.{Perm}
 use Rattle.eden_base.specs.declared.errno.Errno.{Errno}
-use Rattle.eden_base.specs.declared.errno.Errno.TheVariants.{ESTALE, ENOTDIR, EIO, ENOMEM, ENOSYS}
+use Rattle.eden_base.specs.declared.errno.Errno.TheVariants.{ESTALE, ENOTDIR, EISDIR, EINVAL, EIO, ENOMEM, ENOSYS}
 use Rattle.eden_base.specs.declared.number.FileId.{FileId}
 use Rattle.eden_base.specs.declared.number.Number.{Number}
-use Rattle.manifest.specs.Tree.{Tree, kind_of}
+use Rattle.manifest.specs.Tree.{Tree, file_of, kind_of}
+use Rattle.manifest.specs.declared.content.Content.{Content}
 use Rattle.fuse_wire.specs.Request.{form_of}
 use Rattle.fuse_wire.specs.Form.{belongs}
 use Rattle.fuse_wire.specs.Given.{given_out}
 use Rattle.fuse_wire.specs.declared.form.Form.{Form}
-use Rattle.fuse_wire.specs.declared.form.Form.TheVariants.{AnEntry, AnOpenEntry, Attributes, NoValue, ABuffer}
+use Rattle.fuse_wire.specs.declared.form.Form.TheVariants.{AnEntry, AnOpenEntry, Attributes, NoValue, ABuffer, FileBytes}
 use Rattle.fuse_wire.specs.declared.request.Request.{Request}
 use Rattle.fuse_wire.specs.declared.reply.Answer.{Answer}
+use Rattle.fuse_wire.specs.declared.reply.Extent.{Extent as FilePart}
 use Rattle.fuse_wire.specs.declared.reply.Answer.TheVariants.{Done, Error}
 use Rattle.broker_core.specs.Traffic.{may_be_given}
 use Rattle.entry_table.specs.Entries.{entry_at, stands_at, number_of_kept}
 use Rattle.entry_table.specs.declared.kept.Kept.{Kept}
 use Rattle.entry_table.proofs.EntryLemmas.{numbers-bound, numbers-entry, entry_of-first}
 use Rattle.inode_map.specs.InodeMap.{number_given}
-use Rattle.fuse_ops.specs.Answers.{NumberFault, number_errno, Effect, enters, shows, lists_dir, lists_from, makes, takes, takes_from, moves_between, found_in, free_in, unless, against_taking, told_as, AnswersCounted, Answers, Deed, find_name, make_file, take_name, move_name, show_file, list_dir, unserved, deed_of, done_to}
+use Rattle.fuse_ops.specs.Answers.{NumberFault, number_errno, Effect, enters, shows, lists_dir, lists_from, reads_few, reads_kind, reads_file, reads_from, makes, takes, takes_from, moves_between, found_in, free_in, unless, against_taking, told_as, AnswersCounted, Answers, Deed, find_name, make_file, take_name, move_name, show_file, list_dir, read_file, unserved, deed_of, done_to}
+use Rattle.fuse_ops.specs.Extents.{extent_of, most_read}
 use Rattle.fuse_ops.specs.Served.{ServedState, numbers_at, place_told, IsLegal}
 use Rattle.fuse_ops.specs.Soundness.{IsSound}
 use Rattle.fuse_ops.proofs.Movable.{by-move}
-use Rattle.fuse_ops.proofs.Shapes.{TellsEntry, find-tells, make-tells, show-form, list-form, take-form, move-form}
+use Rattle.fuse_ops.proofs.Shapes.{TellsEntry, find-tells, make-tells, show-form, list-form, read-form, take-form, move-form}
 
 -- the broker takes this answer to an ask of this form
 abbrev pub IsTakenAs : Form → Answer → Type 0
@@ -124,6 +128,23 @@ module _ (served : ServedState) (request : Request) (answer : Answer) (sound : I
   list_in tree (Some dir) offset size form a = list_dir_in tree dir offset size (kind_of tree dir) form a
   list_in tree None offset size form a = error-taken (form_of request) answer ESTALE a
 
+  -- the answer that reads part of a file is taken
+  few_in : (tree : Tree) (extent : FilePart) (many : Bool) → form_of request ≡ FileBytes → Legal (reads_few tree extent many) → Taken
+  few_in tree extent true form a = error-taken (form_of request) answer EINVAL a
+  few_in tree extent false form e = subst (λ (f : Form). IsTakenAs f answer) (sym form) (subst (IsTakenAs FileBytes) (sym e) refl)
+
+  kind_in : (tree : Tree) (file : FileId) (file_size offset size : ℕ) (kind : Kind) → form_of request ≡ FileBytes → Legal (reads_kind tree file file_size offset size kind) → Taken
+  kind_in tree file file_size offset size File form a = few_in tree (extent_of file file_size offset size) (nat_lt most_read size) form a
+  kind_in tree file file_size offset size Dir form a = error-taken (form_of request) answer EISDIR a
+
+  file_in : (tree : Tree) (file : FileId) (offset size : ℕ) (content : Option Content) → form_of request ≡ FileBytes → Legal (reads_file tree file offset size content) → Taken
+  file_in tree file offset size (Some content) form a = kind_in tree file content.size offset size content.kind form a
+  file_in tree file offset size None form a = error-taken (form_of request) answer ESTALE a
+
+  read_in : (tree : Tree) (named : Option FileId) (offset size : ℕ) → form_of request ≡ FileBytes → Legal (reads_from tree named offset size) → Taken
+  read_in tree (Some file) offset size form a = file_in tree file offset size (file_of tree file) form a
+  read_in tree None offset size form a = error-taken (form_of request) answer ESTALE a
+
   -- A legal answer is taken, by what the request does.
   pub legal-taken : (later : ServedState) → IsLegal served request answer later → IsTakenAs (form_of request) answer
   legal-taken later l = by_deed (deed_of request) refl l.answers where
@@ -134,4 +155,5 @@ module _ (served : ServedState) (request : Request) (answer : Answer) (sound : I
     by_deed (move_name dir name to_dir to_name) is a = move_in served.tree (l.files dir.0) name (l.files to_dir.0) to_name (move-form request dir name to_dir to_name is) a
     by_deed (show_file node) is a = show_in served.tree (l.files node.0) (show-form request node is) a
     by_deed (list_dir dir offset size) is a = list_in served.tree (l.files dir.0) offset size (list-form request dir offset size is) a
+    by_deed (read_file node offset size) is a = read_in served.tree (l.files node.0) offset size (read-form request node offset size is) a
     by_deed unserved is a = error-taken (form_of request) answer ENOSYS a

@@ -1,6 +1,6 @@
 -- A daemon's legal answer is one that the world may give, and what the daemon knows after it is what the world has
 -- then.
-use Rattle.std.proofs.Common.{◌≡◌, ℕ, ◌+◌, false, List, [], ◌∷◌, Option, Some, None, Result, Ok, Err, refl, sym, ap, ◌∙◌, subst, inl, inr, ◌⊎◌, arith}
+use Rattle.std.proofs.Common.{◌≡◌, ℕ, ◌+◌, Bool, true, false, List, [], ◌∷◌, Option, Some, None, Result, Ok, Err, refl, sym, ap, ◌∙◌, subst, inl, inr, ◌⊎◌, arith}
 use Rattle.std.specs.List.{AllByRecursion}
 use Rattle.eden_base.specs.declared.attr.Kind.{Kind}
 use Rattle.eden_base.specs.declared.attr.Kind.TheVariants.{Dir, File}
@@ -9,17 +9,21 @@ use Rattle.eden_base.specs.declared.errno.Errno.{Errno}
 use Rattle.eden_base.specs.declared.errno.Errno.TheVariants.{ESTALE, EIO, ENOMEM}
 use Rattle.eden_base.specs.declared.number.FileId.{FileId}
 use Rattle.eden_base.specs.declared.number.Number.{Number}
-use Rattle.manifest.specs.Tree.{Tree, IsTree, child_of, kind_of}
+use Rattle.std.specs.Prelude.{nat_lt}
+use Rattle.manifest.specs.Tree.{Tree, IsTree, child_of, file_of, kind_of}
+use Rattle.manifest.specs.declared.content.Content.{Content}
 use Rattle.checkout.specs.ChangedTree.{is_full_dir, next_file, created, removed}
 use Rattle.fuse_wire.specs.DirectoryEntries.{entries_text}
 use Rattle.fuse_wire.specs.declared.request.Request.{Request}
 use Rattle.fuse_wire.specs.declared.form.Form.{Form}
 use Rattle.fuse_wire.specs.declared.reply.Answer.{Answer}
-use Rattle.fuse_wire.specs.declared.reply.Answer.TheVariants.{Attrs, Done, Buffer, Error}
+use Rattle.fuse_wire.specs.declared.reply.Answer.TheVariants.{Attrs, Done, Buffer, Extent, Error}
+use Rattle.fuse_wire.specs.declared.reply.Extent.{Extent as FilePart}
 use Rattle.entry_table.specs.Entries.{IsFileOf}
 use Rattle.inode_map.specs.InodeMap.{MapState}
-use Rattle.fuse_ops.specs.Answers.{one_lost, Effect, found_in, free_in, enters, makes, takes, takes_from, moves_between, unless, against_taking, Deed, find_name, make_file, take_name, move_name, show_file, list_dir, unserved, deed_of, looked_at, looks_at, done_to, comes_to, shows, lists_dir, lists_from, told_as, telling, Answers, AnswersListed, AnswersShown}
+use Rattle.fuse_ops.specs.Answers.{one_lost, Effect, found_in, free_in, enters, makes, takes, takes_from, moves_between, unless, against_taking, Deed, find_name, make_file, take_name, move_name, show_file, list_dir, read_file, unserved, deed_of, looked_at, looks_at, done_to, comes_to, shows, lists_dir, lists_from, reads_few, reads_kind, reads_file, reads_from, lists_range, told_as, telling, Answers, AnswersListed, AnswersShown}
 use Rattle.fuse_ops.specs.Changes.{MayLose, MayMove}
+use Rattle.fuse_ops.specs.Extents.{extent_of, most_read}
 use Rattle.fuse_ops.specs.Gifts.{served_over}
 use Rattle.fuse_ops.specs.Listing.{Range, range_of}
 use Rattle.fuse_ops.specs.Served.{ServedState, PlainState, plain, place_entered, place_told, name_taken, name_moved, names_changed, numbers_at, served_after, IsLegal}
@@ -37,7 +41,7 @@ use Rattle.fuse_ops.proofs.ListReplay.{inode-same}
 use Rattle.fuse_ops.proofs.Looking.{done-same, done-stale, IsNamed, IsUnnamed, all-named}
 use Rattle.fuse_ops.proofs.Movable.{left, gone, by-move, may-move}
 use Rattle.fuse_ops.proofs.MovingLaw.{moving-keeps}
-use Rattle.fuse_ops.proofs.Shapes.{TellsEntry, TakesPlace, MovesPlace, move-moves, moved-after, entered, shown, listed, listed-after, show-form, find-tells, make-tells, take-takes, take-frees, unless-found, shown-after, done-after}
+use Rattle.fuse_ops.proofs.Shapes.{TellsEntry, TakesPlace, MovesPlace, move-moves, moved-after, entered, shown, listed, listed-after, read_of, read-after, show-form, find-tells, make-tells, take-takes, take-frees, unless-found, shown-after, done-after}
 use Rattle.fuse_ops.proofs.UnnamingLaw.{unnaming-keeps}
 
 -- what a daemon that answers knows of a world
@@ -110,7 +114,7 @@ done_in w request effect map later came may is so k =
 
 -- the effect of taking a name away
 abbrev taken : Tree → FileId → List ℕ → FileId → Effect
-taken tree above name file = record { tree = removed tree above name; file = None; counts = false; names = one_lost file; lists = None }
+taken tree above name file = record { tree = removed tree above name; file = None; counts = false; names = one_lost file; contents = None }
 
 take_in : (w : World) (m : MapState) (request : Request) (dir : Number) (name : List ℕ) (against : Tree → FileId → Option Errno) (answer : Answer) (later : ServedState) → Serves w m → TakesPlace request dir name →
     ((tree : Tree) (file : FileId) → against tree file ≡ None → is_full_dir tree file ≡ false) → Succeeds w m request dir (λ tree above. takes_from tree (against tree) above name) answer later
@@ -235,6 +239,36 @@ list_in w m request dir offset size answer later s does above at e is came l = i
   in_ (Some File) h = absurd (let none : ⊥ = cc in none)
   in_ None h = absurd (let none : ⊥ = cc in none)
 
+-- a request for part of a file is answered so
+read_in : (w : World) (m : MapState) (request : Request) (node : Number) (offset size : ℕ) (answer : Answer) (later : ServedState) → Serves w m → deed_of request ≡ read_file node offset size →
+    Succeeds w m request node (λ tree file. reads_from tree file offset size) answer later
+read_in w m request node offset size answer later s does file at e is came l = by_file (file_of w.tree file) is where
+  answered : (extent : FilePart) → effect_in w request ≡ Ok (read_of w.tree extent) → Answered w m request (Ok (read_of w.tree extent)) answer later → answer ≡ Extent extent → Worked w request answer later
+  answered extent comes made told = subst (λ (a : Answer). Worked w request a later) (sym told)
+      (worked-from w request (Extent extent) later (Ok (read_of w.tree extent)) None comes refl
+      (inr (subst (λ (r : Result Effect Errno). Answers (numbers_of w) request r (Extent extent)) (sym comes) refl))
+      s.is_tree
+      (knows-plain w.tree w.names (λ n. owed w n + 0) later (served_over w.tree m) so
+      (knows-along w.tree w.names (owed w) (λ n. owed w n + 0) (served_over w.tree m) (λ n. omega arith) s.knows))) where
+        so : plain later ≡ plain (served_over w.tree m)
+        so = made.makes ∙ ap (λ (a : Answer). plain (served_after (served_over w.tree m) request (Ok (read_of w.tree extent)) a)) told
+            ∙ ap plain (read-after (served_over w.tree m) request node offset size (read_of w.tree extent) extent does refl)
+
+  few : (extent : FilePart) (many : Bool) → reads_few w.tree extent many ≡ Ok e → Worked w request answer later
+  few extent true h = absurd (let none : ⊥ = cc in none)
+  few extent false h =
+      let same : read_of w.tree extent ≡ e = cc in
+      let legal = subst (λ (x : Effect). Legal w m request (Ok x) answer later) (sym same) l in
+      answered extent (came ∙ ap (λ (x : Effect). Ok x) (sym same)) legal.answered legal.answers
+
+  by_kind : (file_size : ℕ) (kind : Kind) → reads_kind w.tree file file_size offset size kind ≡ Ok e → Worked w request answer later
+  by_kind file_size File h = few (extent_of file file_size offset size) (nat_lt most_read size) h
+  by_kind file_size Dir h = absurd (let none : ⊥ = cc in none)
+
+  by_file : (content : Option Content) → reads_file w.tree file offset size content ≡ Ok e → Worked w request answer later
+  by_file (Some content) h = by_kind content.size content.kind h
+  by_file None h = absurd (let none : ⊥ = cc in none)
+
 -- ---- all requests
 
 module _ (w : World) (m : MapState) (request : Request) (files : ℕ → Option FileId) (answer : Answer) (later : ServedState) (s : Serves w m) where
@@ -255,6 +289,7 @@ module _ (w : World) (m : MapState) (request : Request) (files : ℕ → Option 
   success_in (move_name dir name to to_name) does (n, (t, _)) = move_in w m request dir name to to_name answer later s (move-moves request dir name to to_name does) files n t
   success_in (show_file node) does (n, _) = one_in node shows (show_in w m request node answer later s does) n
   success_in (list_dir dir offset size) does (n, _) = one_in dir (λ tree above. lists_from tree above offset size) (list_in w m request dir offset size answer later s does) n
+  success_in (read_file node offset size) does (n, _) = one_in node (λ tree file. reads_from tree file offset size) (read_in w m request node offset size answer later s does) n
   success_in unserved does all = λ e is came l. absurd (let none : ⊥ = cc in none)
 
   -- what each number names for the daemon it names in the world

@@ -43,6 +43,7 @@ mod Refusing
 mod Coming
 mod Events
 pub mod Listings
+pub mod ReadAnswers
 pub mod InTurn
 pub mod WholeRun
 mod Journals

@@ -4,6 +4,7 @@ pub mod Beginning
 pub mod World
 pub mod Handing
 pub mod Listings
+pub mod Reads
 pub mod Attending
 pub mod Agreement
 pub mod Laws

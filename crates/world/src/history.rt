@@ -1,6 +1,7 @@
 //! A list of events from the beginning of a world.
 ghost use Rattle.std.specs.Prelude.{IfOk};
 ghost use Rattle.world.specs.Listings.{ListingsAreWhole};
+ghost use Rattle.world.specs.Reads.{ReadsAreOfTheirFiles};
 ghost use Rattle.world.specs.State.{started};
 ghost use Rattle.std.specs.List.{AllByRecursion};
 ghost use Rattle.world.specs.Attending.{RefusalsMayCome};
@@ -51,6 +52,11 @@ pub fn run(
     // twice.
     ensures listings_are_whole { IfOk result (λ r.
         ListingsAreWhole (first_world manifest.now) (all_moves (first_world manifest.now) events.now r.1.items)) }
+
+    // What a READ gives are bytes of the file that its number was first given out for, from its offset on, as many as were
+    // asked for or as there are.
+    ensures reads_are_of_their_files { IfOk result (λ r.
+        ReadsAreOfTheirFiles (first_world manifest.now) (all_moves (first_world manifest.now) events.now r.1.items)) }
 
     // No take or post is refused as Ended, Stale or NotAsked, and no claim is refused as Unanswered.
     ensures refusals_may_come { IfOk result (λ r. RefusalsMayCome events.now r.1.items) }

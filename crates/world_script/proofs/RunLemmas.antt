@@ -10,6 +10,7 @@ use Rattle.world.specs.World.{first_world}
 use Rattle.world.specs.Agreement.{Matches, all_moves, world_after}
 use Rattle.daemon.specs.declared.happened.Happened.{Happened}
 use Rattle.world.proofs.Listings.{listings-whole}
+use Rattle.world.proofs.ReadAnswers.{run-reads}
 use Rattle.world.proofs.WholeRun.{match-agrees, match-counts, match-names, match-current, steps-matched, posters-answered}
 use Rattle.world.specs.declared.event.Event.{Event}
 use Rattle.world_script.specs.declared.program_fault.ProgramFault.{ProgramFault}
@@ -41,6 +42,7 @@ promised manifest limit events outcomes last matches steps =
       replies_are_answered = λ way. posters-answered (first_world manifest) (started manifest limit) events outcomes last matches way;
       no_bad_forget = ran.forgets;
       listings_are_whole = listings-whole (first_world manifest) (all_moves (first_world manifest) events outcomes) ran.run;
+      reads_are_of_their_files = run-reads (first_world manifest) (all_moves (first_world manifest) events outcomes) ran.run;
       refusals_may_come = ran.refusals;
     }
 

@@ -11,6 +11,7 @@ use Rattle.world.specs.World.{IsRun, first_world}
 use Rattle.world.specs.Agreement.{all_moves, world_after, Matches, IsRunOfMoves, CountsAreOwed, NumbersNameTheirFirstFile, OneDaemonForEachGeneration, DataIsCurrent, RepliesAreAnswered, IsGoodForget}
 use Rattle.world.specs.Attending.{RefusalsMayCome}
 use Rattle.world.specs.Listings.{ListingsAreWhole}
+use Rattle.world.specs.Reads.{ReadsAreOfTheirFiles}
 use Rattle.world.specs.declared.event.Event.{Event}
 use Rattle.daemon.specs.declared.happened.Happened.{Happened}
 use Rattle.world_script.specs.Parts.{IsSplit, SaysEvents}
@@ -70,6 +71,10 @@ pub record IsPromised (manifest : Manifest) (limit : ℕ) (events : List Event)
   -- that stayed in the directory is there if nothing was left at its end
   pub listings_are_whole :
       ListingsAreWhole (first_world manifest) (all_moves (first_world manifest) events outcomes)
+  -- what a READ gave are bytes of the file that its number was first given out for, from its offset on, as many as were
+  -- asked for or as there are
+  pub reads_are_of_their_files :
+      ReadsAreOfTheirFiles (first_world manifest) (all_moves (first_world manifest) events outcomes)
   -- no take or post was refused as Ended, Stale or NotAsked, and no claim as Unanswered
   pub refusals_may_come : RefusalsMayCome events outcomes
 

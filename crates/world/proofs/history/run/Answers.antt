@@ -4,6 +4,7 @@ use Rattle.world.specs.Agreement.{Matches}
 use Rattle.world.specs.State.{State, started}
 use Rattle.world.specs.World.{first_world}
 use Rattle.world.proofs.Listings.{listings-whole}
+use Rattle.world.proofs.ReadAnswers.{run-reads}
 use Rattle.world.proofs.WholeRun.{Ran, match-agrees, match-counts, match-names, match-current, steps-matched, posters-answered}
 use Rattle.world.proofs.history.run.Goals as goal
 
@@ -15,6 +16,9 @@ returns-clause-events_are_a_run_of_moves c = record { run = (whole c).run; agree
 
 pub returns-clause-listings_are_whole : goal.returns-clause-listings_are_whole
 returns-clause-listings_are_whole c = listings-whole (first_world c.args.manifest.now) _ (whole c).run
+
+pub returns-clause-reads_are_of_their_files : goal.returns-clause-reads_are_of_their_files
+returns-clause-reads_are_of_their_files c = run-reads (first_world c.args.manifest.now) _ (whole c).run
 
 pub returns-clause-matches : goal.returns-clause-matches
 returns-clause-matches c = (whole c).matches
