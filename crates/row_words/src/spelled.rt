@@ -1,8 +1,10 @@
 //! Requests, answers and their parts, spelled as scripts write and print them (docs/SCRIPTS.md):
 //!
 //! `lookup N NAME`, `create N MODE NAME`, `mkdir N MODE NAME`, `unlink N NAME`, `rmdir N NAME`, `rename N NEWDIR OLD/NEW`,
-//! `getattr N`, `readdir N OFFSET SIZE`, `other OPCODE N`, `forget N K`, and `forgets N K ..` for a batch of forgets;
-//! `entry M KIND PERM SIZE NLINK`, `opened ..`, `attr ..`, `done`, `buffer BYTES` and `error ERRNO`.
+//! `getattr N`, `read N OFFSET SIZE`, `readdir N OFFSET SIZE`, `other OPCODE N`, `forget N K`, and `forgets N K ..` for a
+//! batch of forgets;
+//! `entry M KIND PERM SIZE NLINK`, `opened ..`, `attr ..`, `done`, `buffer BYTES`, `extent FILE OFFSET LENGTH` and
+//! `error ERRNO`.
 //!
 //! A request or an answer is the last of a call's words. What reads it ends the reading.
 ghost use Rattle.std.specs.Prelude.{IfOk};
@@ -13,8 +15,8 @@ use crate::row_fault::RowFault;
 use crate::table::chosen;
 use crate::words::Words;
 use byte_codec::Bytes;
-use eden_base::{Attr, Errno, Kind, Name, NameFault, Number, Perm, cut};
-use fuse_wire::{Answer, Batch, Buffer, Item, Items, Request, WireFault};
+use eden_base::{Attr, Errno, FileId, Kind, Name, NameFault, Number, Perm, cut};
+use fuse_wire::{Answer, Batch, Buffer, Extent, Item, Items, Request, WireFault};
 use std::alloc::Global;
 
 static ERRNOS: [Errno; 13] = [
@@ -41,15 +43,17 @@ enum AnswerKind {
     Attrs,
     Done,
     Buffer,
+    Extent,
     Error,
 }
 
-static ANSWER_KINDS: [(&str, AnswerKind); 6] = [
+static ANSWER_KINDS: [(&str, AnswerKind); 7] = [
     ("entry", AnswerKind::Entry),
     ("opened", AnswerKind::Opened),
     ("attr", AnswerKind::Attrs),
     ("done", AnswerKind::Done),
     ("buffer", AnswerKind::Buffer),
+    ("extent", AnswerKind::Extent),
     ("error", AnswerKind::Error),
 ];
 
@@ -69,13 +73,14 @@ enum RequestKind {
     Mkdir,
     Rename,
     Getattr,
+    Read,
     Readdir,
     Other,
     Forget,
     Forgets,
 }
 
-static REQUEST_KINDS: [(&str, RequestKind); 11] = [
+static REQUEST_KINDS: [(&str, RequestKind); 12] = [
     ("lookup", RequestKind::Named(NamedKind::Lookup)),
     ("unlink", RequestKind::Named(NamedKind::Unlink)),
     ("rmdir", RequestKind::Named(NamedKind::Rmdir)),
@@ -83,6 +88,7 @@ static REQUEST_KINDS: [(&str, RequestKind); 11] = [
     ("mkdir", RequestKind::Mkdir),
     ("rename", RequestKind::Rename),
     ("getattr", RequestKind::Getattr),
+    ("read", RequestKind::Read),
     ("readdir", RequestKind::Readdir),
     ("other", RequestKind::Other),
     ("forget", RequestKind::Forget),
@@ -203,6 +209,14 @@ fn read_file(words: &mut Words<'_>) -> (Number, Attr) {
     (number, read_attr(words))
 }
 
+/// Reads an extent: a file's id, an offset and a length.
+fn read_extent(words: &mut Words<'_>) -> Extent {
+    let file = FileId(words.number());
+    let offset = words.number();
+    let len = read_u32(words);
+    Extent { file, offset, len }
+}
+
 /// Reads the words that are left as an answer.
 pub fn read_answer(words: &mut Words<'_>) -> Result<Answer, RowFault> {
     let kind = chosen(&ANSWER_KINDS, words.word()).ok_or(RowFault::BadRow)?;
@@ -224,6 +238,7 @@ pub fn read_answer(words: &mut Words<'_>) -> Result<Answer, RowFault> {
             let buffer = Buffer::of(Bytes::of(words.bytes()));
             Answer::Buffer(buffer.ok_or(RowFault::BadRow)?)
         }
+        AnswerKind::Extent => Answer::Extent(read_extent(words)),
         AnswerKind::Error => Answer::Error(read_errno(words)),
     };
     words.end()?;
@@ -237,6 +252,17 @@ fn read_getattr(words: &mut Words<'_>) -> Result<Request, RowFault>
     let node = Number(words.number());
     words.end()?;
     Ok(Request::Getattr { node })
+}
+
+/// Reads the words behind `read`.
+fn read_read(words: &mut Words<'_>) -> Result<Request, RowFault>
+    ensures sendable { IfOk result IsSendable }
+{
+    let node = Number(words.number());
+    let offset = words.number();
+    let size = read_u32(words);
+    words.end()?;
+    Ok(Request::Read { node, offset, size })
 }
 
 /// Reads the words behind `readdir`.
@@ -364,6 +390,7 @@ pub fn read_request(alloc: Global, words: &mut Words<'_>) -> Result<Request, Row
         RequestKind::Mkdir => read_made(alloc, false, words),
         RequestKind::Rename => read_move(alloc, words),
         RequestKind::Getattr => read_getattr(words),
+        RequestKind::Read => read_read(words),
         RequestKind::Readdir => read_readdir(words),
         RequestKind::Other => read_other(words),
         RequestKind::Forget => read_forget(words),
@@ -396,6 +423,12 @@ pub fn tell_answer(output: &mut Output, answer: &Answer) {
         Answer::Buffer(buffer) => {
             output.word("buffer");
             output.bytes(buffer.as_slice());
+        }
+        Answer::Extent(extent) => {
+            output.word("extent");
+            output.number(extent.file.0);
+            output.number(extent.offset);
+            output.number(u64::from(extent.len));
         }
         Answer::Error(errno) => {
             output.word("error");
@@ -451,6 +484,14 @@ pub fn tell_request(output: &mut Output, request: &Request) {
     }
 }
 
+/// Writes `word`, a number, an offset and a size.
+fn tell_range(output: &mut Output, word: &str, node: Number, offset: u64, size: u32) {
+    output.word(word);
+    output.number(node.0);
+    output.number(offset);
+    output.number(u64::from(size));
+}
+
 /// Writes a request that has no name.
 fn tell_of_number(output: &mut Output, request: &Request) {
     match request {
@@ -458,11 +499,9 @@ fn tell_of_number(output: &mut Output, request: &Request) {
             output.word("getattr");
             output.number(node.0);
         }
+        Request::Read { node, offset, size } => tell_range(output, "read", *node, *offset, *size),
         Request::Readdir { dir, offset, size } => {
-            output.word("readdir");
-            output.number(dir.0);
-            output.number(*offset);
-            output.number(u64::from(*size));
+            tell_range(output, "readdir", *dir, *offset, *size);
         }
         Request::Other { opcode, node } => {
             output.word("other");
