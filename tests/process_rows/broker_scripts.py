@@ -1,4 +1,5 @@
 """Rows: a broker's scripts, with what daemons of the test's own do between their lines."""
+import errno
 import struct
 import time
 
@@ -88,6 +89,11 @@ def readdir_of(number, offset, size):
     return lambda unique: request(28, unique, number, body)
 
 
+def read_of(number, offset, size):
+    body = struct.pack("<QQIIQII", 0, offset, size, 0, 0, 0, 0)
+    return lambda unique: request(15, unique, number, body)
+
+
 def entry_of(number, following, kind, name):
     """Returns an entry of a directory, whose kind is the type of the system's."""
     entry = struct.pack("<QQII", number, following, len(name), kind) + name
@@ -96,6 +102,10 @@ def entry_of(number, following, kind, name):
 
 def buffer_of(text):
     return lambda unique: struct.pack("<IiQ", 16 + len(text), 0, unique) + text
+
+
+def failed(error):
+    return lambda unique: struct.pack("<IiQ", 16, -error, unique)
 
 
 def given(number):
@@ -242,6 +252,27 @@ def a_listing_is_told_by_its_entries(room):
     for text, head, *lines in answers:
         it.asked(daemon, 1, readdir_of(1, 2, 4096))
         it.posts(daemon, 1, buffer_of(text), f"answer {it.unique} {head}", *lines)
+    same(daemon.ask("Claim", u64(1)), ("Claimed", u64(2)))
+    it.lines.append("seat 2")
+    it.ends(daemon)
+
+
+@row
+def bytes_of_a_file_are_told_by_their_length(room):
+    """A script is told how many bytes a READ got, or the error, which EIO is where the daemon has no bytes."""
+    answers = (
+        (buffer_of(b"abc"), "buffer 3"),
+        (buffer_of(b"\n"), "buffer 1"),
+        (buffer_of(b"x" * 65512), "buffer 65512"),
+        (failed(errno.EIO), "error EIO"),
+        (failed(errno.EISDIR), "error EISDIR"),
+    )
+    it = Course(room, "seat 1", *["ask read 1 2 4096"] * len(answers), "seat 2")
+    daemon = it.daemon()
+    it.mounts(daemon, 1)
+    for reply, answer in answers:
+        it.asked(daemon, 1, read_of(1, 2, 4096))
+        it.posts(daemon, 1, reply, f"answer {it.unique} {answer}")
     same(daemon.ask("Claim", u64(1)), ("Claimed", u64(2)))
     it.lines.append("seat 2")
     it.ends(daemon)

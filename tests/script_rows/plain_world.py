@@ -187,6 +187,16 @@ def rename(served, number, to_number, names):
     return "done"
 
 
+def read_file(served, number, offset, size):
+    file = served.numbers[number]
+    kind, _, length = served.files[file]
+    if kind == "dir":
+        raise Error("EISDIR")
+    if size > MOST:
+        raise Error("EINVAL")
+    return f"extent {file} {offset} {min(size, max(length - offset, 0))}"
+
+
 def entries_of(served, directory):
     """Returns what stands in a directory: the position, the file and the name of each entry."""
     if served.is_gone(directory):
@@ -249,6 +259,7 @@ def answered(served, words):
         "rmdir": lambda: remove(served, numbers[0], words[2]),
         "rename": lambda: rename(served, *numbers, words[3]),
         "getattr": lambda: f"attr {numbers[0]} {served.attributes(served.numbers[numbers[0]])}",
+        "read": lambda: read_file(served, *map(int, words[1:])),
         "readdir": lambda: list_directory(served, *map(int, words[1:])),
         "other": lambda: "error ENOSYS",
     }

@@ -5,10 +5,9 @@ use Rattle.std.specs.Option.{option_map, option_and_then}
 use Rattle.eden_base.specs.Text.{cut}
 use Rattle.fuse_wire.specs.Request.{other_of, is_ask, IsSendable}
 use Rattle.fuse_wire.specs.declared.request.Request.{Request}
-use Rattle.fuse_wire.specs.declared.request.Request.TheVariants.{Readdir}
 use Rattle.fuse_wire.proofs.OtherLaws.{other-sendable}
 use Rattle.script_lines.specs.BrokerLine.{asked_by, ask_of, seat_of, forgets_of, broker_line_by, broker_line_of, IsSendableLine}
-use Rattle.script_lines.specs.EventLine.{named_of, made_of, pair_of, lookup_of, unlink_of, rmdir_of, rename_of, names_of, create_of, mkdir_of, forget_of, getattr_of, readdir_of, other_in, other_said, naming_by, request_by, request_of}
+use Rattle.script_lines.specs.EventLine.{named_of, made_of, pair_of, lookup_of, unlink_of, rmdir_of, rename_of, names_of, create_of, mkdir_of, forget_of, getattr_of, range_of, read_of, readdir_of, other_in, other_said, naming_by, request_by, request_of}
 use Rattle.script_lines.specs.Number.{number_of}
 use Rattle.script_lines.specs.Words.{is_word}
 use Rattle.script_lines.specs.declared.broker_line.BrokerLine.TheVariants as says
@@ -32,13 +31,6 @@ either P false x y first second = second
 sendable-in : (n node : ℕ) → IfSome (other_in n node) IsSendable
 sendable-in n node = either IsSendable (nat_lt n (2 ^ 32)) (other_of n (record { 0 = node })) None (other-sendable n (record { 0 = node })) tt
 
-sendable-listing : (words : List ℕ) → IfSome (readdir_of words) IsSendable
-sendable-listing words =
-    followed IsSendable _ (cut 32 words)
-    (λ parts. followed IsSendable _ (number_of parts.0)
-    (λ dir. followed IsSendable _ (pair_of parts.1)
-    (λ pair. either IsSendable (nat_lt pair.1 (2 ^ 32)) (Some (Readdir (record { 0 = dir }) pair.0 pair.1)) None tt tt)))
-
 sendable-moved : (words : List ℕ) → IfSome (rename_of words) IsSendable
 sendable-moved words =
     followed IsSendable _ (cut 32 words)
@@ -60,9 +52,10 @@ sendable-by : (word rest : List ℕ) → IfSome (request_by word rest) IsSendabl
 sendable-by word rest =
     either IsSendable (is_word word (codes "forget")) (forget_of rest) _ (mapped IsSendable _ (pair_of rest) (λ _. tt))
     (either IsSendable (is_word word (codes "getattr")) (getattr_of rest) _ (mapped IsSendable _ (number_of rest) (λ _. tt))
-    (either IsSendable (is_word word (codes "readdir")) (readdir_of rest) _ (sendable-listing rest)
+    (either IsSendable (is_word word (codes "read")) (read_of rest) _ (mapped IsSendable _ (range_of rest) (λ _. tt))
+    (either IsSendable (is_word word (codes "readdir")) (readdir_of rest) _ (mapped IsSendable _ (range_of rest) (λ _. tt))
     (either IsSendable (is_word word (codes "other")) (other_said rest) _
-    (followed IsSendable _ (pair_of rest) (λ pair. sendable-in pair.0 pair.1)) (sendable-naming word rest))))
+    (followed IsSendable _ (pair_of rest) (λ pair. sendable-in pair.0 pair.1)) (sendable-naming word rest)))))
 
 -- ---- lines
 

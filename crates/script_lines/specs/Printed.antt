@@ -15,7 +15,9 @@ use Rattle.fuse_ops.specs.Served.{ServedState}
 use Rattle.fuse_wire.specs.Request.{item_of}
 use Rattle.fuse_wire.specs.declared.request.Ask.{Ask}
 use Rattle.fuse_wire.specs.declared.reply.Answer.{Answer}
+use Rattle.fuse_wire.specs.declared.reply.Answer.TheVariants as answers
 use Rattle.fuse_wire.specs.declared.reply.Answer.TheVariants.{Entry, Opened, Attrs, Done, Buffer, Error}
+use Rattle.fuse_wire.specs.declared.reply.Extent.{Extent}
 use Rattle.fuse_wire.specs.declared.reply.Reply.{Reply}
 use Rattle.fuse_wire.specs.DirectoryEntries.{Dirent}
 use Rattle.map_image.specs.Versions.{part_len}
@@ -74,6 +76,11 @@ abbrev pub buffer_lines : List ℕ → Option (List Dirent) → List ℕ
 buffer_lines bytes (Some entries) = line (codes "listing" ∷ decimal (length entries) ∷ []) ++ entry_lines entries
 buffer_lines bytes None = line (codes "buffer" ∷ decimal (length bytes) ∷ [])
 
+-- the line of an extent, the part of a file that was read: `extent FILE OFFSET LENGTH`
+abbrev pub extent_line : Extent → List ℕ
+extent_line extent =
+    line (codes "extent" ∷ decimal extent.file.0 ∷ decimal extent.offset ∷ decimal extent.len ∷ [])
+
 -- the line of an answer, and the entries of a listing behind it
 abbrev pub answer_lines : Answer → List ℕ
 answer_lines (Entry number attr) = line (file_words (codes "entry") number attr)
@@ -81,6 +88,7 @@ answer_lines (Opened number attr) = line (file_words (codes "opened") number att
 answer_lines (Attrs number attr) = line (file_words (codes "attr") number attr)
 answer_lines Done = line (codes "done" ∷ [])
 answer_lines (Buffer bytes) = buffer_lines bytes (listing_of bytes)
+answer_lines (answers.Extent extent) = extent_line extent
 answer_lines (Error errno) = line (codes "error" ∷ errno_name errno ∷ [])
 
 -- the line of a reply: `WORD U`, and its answer; the entries of a listing stand behind it

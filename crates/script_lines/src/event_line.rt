@@ -1,7 +1,7 @@
 //! The lines of a script, each read as an event.
 ghost use Rattle.std.specs.Prelude.{◌≡◌, None, IfOk, option_map};
 ghost use Rattle.script_lines.specs.Number.{number_of};
-ghost use Rattle.script_lines.specs.EventLine.{event_of, start_of, with_version, daemon_event_by, mount_of, take_of, work_of, tried_of, tried_at, pair_of, post_of, takeover_event_by, hear_of, drained_of, give_up_of, claim_of, crash_of, issue_of, do_of, request_of, request_by, naming_by, lookup_of, create_of, mkdir_of, unlink_of, rmdir_of, rename_of, names_of, forget_of, getattr_of, readdir_of, other_said, named_of, made_of, name_of};
+ghost use Rattle.script_lines.specs.EventLine.{event_of, start_of, with_version, daemon_event_by, mount_of, take_of, work_of, tried_of, tried_at, pair_of, post_of, takeover_event_by, hear_of, drained_of, give_up_of, claim_of, crash_of, issue_of, do_of, request_of, request_by, naming_by, lookup_of, create_of, mkdir_of, unlink_of, rmdir_of, rename_of, names_of, forget_of, getattr_of, range_of, read_of, readdir_of, other_said, named_of, made_of, name_of};
 
 use crate::decimal::number;
 use arrayvec::ArrayVec;
@@ -157,7 +157,7 @@ fn read_failing(words: &[u8]) -> Option<(u64, bool)>
 }
 
 /// Reads two numbers, separated by a space: what follows `post`, `hear`, `forget` or `other`, and the number of a
-/// `readdir`.
+/// `read` or a `readdir`.
 pub(crate) fn read_pair(words: &[u8]) -> Option<(u64, u64)>
     ensures { result ≡ pair_of words.now }
 {
@@ -254,6 +254,9 @@ fn read_request_by(alloc: Global, word: &[u8], rest: &[u8]) -> Result<Option<Req
     }
     if word == b"getattr".as_slice() {
         return Ok(read_getattr(rest));
+    }
+    if word == b"read".as_slice() {
+        return Ok(read_read(rest));
     }
     if word == b"readdir".as_slice() {
         return Ok(read_readdir(rest));
@@ -449,16 +452,32 @@ fn read_getattr(words: &[u8]) -> Option<Request>
     Some(Request::Getattr { node })
 }
 
+/// Reads the words of a `read`: a file's number, the offset from which it is read, and how many bytes are asked for.
+fn read_read(words: &[u8]) -> Option<Request>
+    ensures { result ≡ read_of words.now }
+{
+    let (node, offset, size) = read_range(words)?;
+    Some(Request::Read { node, offset, size })
+}
+
 /// Reads the words of a `readdir`: a directory's number, the offset from which it is listed, and how many bytes the
 /// answer may have.
 fn read_readdir(words: &[u8]) -> Option<Request>
     ensures { result ≡ readdir_of words.now }
 {
-    let (dir, rest) = cut(words, b' ')?;
-    let dir = Number(number(dir)?);
+    let (dir, offset, size) = read_range(words)?;
+    Some(Request::Readdir { dir, offset, size })
+}
+
+/// Reads a number, an offset, and a size of 32 bits: what follows `read` or `readdir`.
+fn read_range(words: &[u8]) -> Option<(Number, u64, u32)>
+    ensures { result ≡ range_of words.now }
+{
+    let (node, rest) = cut(words, b' ')?;
+    let node = Number(number(node)?);
     let (offset, size) = read_pair(rest)?;
     let size = u32::try_from(size).ok()?;
-    Some(Request::Readdir { dir, offset, size })
+    Some((node, offset, size))
 }
 
 /// Reads the words of an `other`: the opcode of a request that has no command of its own, and the request's number.

@@ -7,14 +7,14 @@ ghost use Rattle.entry_table.specs.declared.kept.Kept.{Kept};
 ghost use Rattle.daemon.specs.Server.{at_position};
 ghost use Rattle.inode_map.specs.Words.{forgot_name};
 ghost use Rattle.script_lines.specs.Gathered.{AreUnderWay};
-ghost use Rattle.script_lines.specs.Printed.{printed, line, line_of, said_line, message_words, total_length, length_at, refusal_line, asked_words, spaced, reply_line, answer_lines, file_words, octal, world_lines, served_lines, kept_lines, kept_line, count_words, place_line};
+ghost use Rattle.script_lines.specs.Printed.{printed, line, line_of, said_line, message_words, total_length, length_at, refusal_line, asked_words, spaced, reply_line, answer_lines, extent_line, file_words, octal, world_lines, served_lines, kept_lines, kept_line, count_words, place_line};
 
 use crate::listing::print_buffer;
 use crate::under_way::{Counts, UnderWay};
 use broker_core::Seat;
 use eden_base::{Attr, DaemonId, Number, Perm, Place};
 use fuse_ops::Served;
-use fuse_wire::{Answer, Reply};
+use fuse_wire::{Answer, Extent, Reply};
 use inode_map::{Forgot, InodeMap};
 use map_image::PART_LEN;
 use std::io::{self, Write};
@@ -221,11 +221,22 @@ fn print_answer<W: Write>(out: &mut W, answer: &Answer) -> io::Result<()>
         Answer::Attrs { number, attr } => print_file(out, "attr", *number, attr),
         Answer::Done => writeln!(out, "done"),
         Answer::Buffer(buffer) => print_buffer(out, buffer.as_slice()),
+        Answer::Extent(extent) => print_extent(out, *extent),
         Answer::Error(errno) => {
             let name = errno.name();
             writeln!(out, "error {name}")
         }
     }
+}
+
+/// Prints which bytes of a file were read: the file's id, the offset of the first, and how many they are.
+fn print_extent<W: Write>(out: &mut W, extent: Extent) -> io::Result<()>
+    ensures { OnOk result (Appends (W.contents out.old) (W.contents out.new)
+        (extent_line extent)) }
+{
+    let Extent { file, offset, len } = extent;
+    let file = file.0;
+    writeln!(out, "extent {file} {offset} {len}")
 }
 
 /// Prints a word, a number, and the attributes of the number's file.

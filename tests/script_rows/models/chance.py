@@ -64,7 +64,9 @@ class Chooser:
             return self.forget(node, dice // 262144)
         if dice // 262144 % 2 == 0:
             return f"getattr {self.number(node)}"
-        return f"readdir {directory} {dice // 524288 % len(self.served.files)} {dice % 256}"
+        if dice // 524288 % 2 == 0:
+            return f"read {self.number(node)} {dice // 1048576 % 16} {dice % 256 // 16}"
+        return f"readdir {directory} {dice // 1048576 % len(self.served.files)} {dice % 256}"
 
 
 def hand_on(script, versions):
