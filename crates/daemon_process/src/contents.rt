@@ -9,6 +9,7 @@ use std::alloc::Global;
 use std::fs::File;
 use std::io::{self, Error, ErrorKind, Read};
 use std::os::unix::fs::MetadataExt;
+use std::path::AsPath;
 use std::rt::{Clock, Files};
 use std::sync::Wait;
 
@@ -57,7 +58,7 @@ fn open_folder<R: Files<File = File>>(rt: &R, alloc: Global, path: &str) -> io::
     let mut table = File::open(rt, MOUNTS)?;
     let _count = table.read_to_end(&mut mounts)?;
     let start = rt.read_link(alloc, "/proc/self/cwd")?;
-    if is_below_own(mounts.as_slice(), start.as_path().path_text().as_bytes(), path.as_bytes()) {
+    if is_below_own(mounts.as_slice(), start.path_text().as_bytes(), path.as_bytes()) {
         return Err(own_mount());
     }
     let folder = File::open(rt, path)?;
