@@ -7,8 +7,8 @@ ghost use Rattle.command_line.specs.CommandLine.{NamesPlainly, command_of, has_f
 ghost use Rattle.command_line.specs.Owner.{owner_of};
 
 use crate::commands::{
-    BROKER, BROKER_SOCKET, DAEMON, FILES, HELD, LIMIT, LISTEN_SOCKET, MANIFEST, MOUNT, MOUNTPOINT, OWNER,
-    PATIENCE, SCRIPT, SOCKET, TAKEOVER, UNTIL_CLOSED, VALID, WORKERS, WORLD, daemon_command,
+    BROKER, BROKER_SOCKET, DAEMON, FILES, HELD, LIMIT, LISTEN_SOCKET, MANIFEST, MOUNT, MOUNTPOINT,
+    OWNER, PATIENCE, SCRIPT, SOCKET, TAKEOVER, UNTIL_CLOSED, VALID, WORKERS, WORLD, daemon_command,
     edend_command, mount_command,
 };
 use crate::{BrokerWords, DaemonWords, MountWords, Owner, ServerCommand, StartMode, read_owner};

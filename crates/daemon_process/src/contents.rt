@@ -32,13 +32,7 @@ pub(crate) fn open_contents<'a, R: Files<File = File> + Clock + Wait>(
     }
     let folder = open_folder(rt, alloc, path).map_err(fault_of)?;
     match manifest.share() {
-        Ok(manifest) => Ok(Some(FileBlobs::new(
-            rt,
-            alloc,
-            folder,
-            manifest,
-            notes.again(),
-        ))),
+        Ok(manifest) => Ok(Some(FileBlobs::new(rt, alloc, folder, manifest, notes.again()))),
         Err(NoMemory) => Err(DaemonFault::NoMemory),
     }
 }
@@ -58,7 +52,11 @@ fn open_folder<R: Files<File = File>>(rt: &R, alloc: Global, path: &str) -> io::
     let mut table = File::open(rt, MOUNTS)?;
     let _count = table.read_to_end(&mut mounts)?;
     let start = rt.read_link(alloc, "/proc/self/cwd")?;
-    if is_below_own(mounts.as_slice(), start.path_text().as_bytes(), path.as_bytes()) {
+    if is_below_own(
+        mounts.as_slice(),
+        start.path_text().as_bytes(),
+        path.as_bytes(),
+    ) {
         return Err(own_mount());
     }
     let folder = File::open(rt, path)?;

@@ -46,7 +46,10 @@ fn leads_below(start: &[u8], path: &[u8], place: &[u8]) -> bool {
     if is_below(start, place) {
         return true;
     }
-    match place.strip_prefix(start).and_then(|rest| rest.strip_prefix(b"/".as_slice())) {
+    match place
+        .strip_prefix(start)
+        .and_then(|rest| rest.strip_prefix(b"/".as_slice()))
+    {
         Some(rest) => is_below(path, rest),
         None => false,
     }
