@@ -34,6 +34,18 @@ def faults_of_a_daemons_words(room):
 
 
 @row
+def faults_of_a_directory_of_contents(room):
+    """A directory of --files that isn't there, or is none, is told before the broker is looked for."""
+    os.mkdir(f"{room.path}/folder")
+    os.symlink("folder", f"{room.path}/link")
+    for start in (room.mount, room.take_over):
+        for place in ("none", "m", "none/folder"):
+            start("--files", place).ends(["fault: no files"], 1, f"{place}: ")
+        for place in ("folder", "link", "/", ".", "folder/.."):
+            start("--files", place).ends(["fault: no broker"], 1, "broker.sock: ")
+
+
+@row
 def faults_of_a_brokers_words(room):
     """A socket's place that is taken, and scripts that can't be read: each fault by its text."""
     room.write("file", b"kept")
