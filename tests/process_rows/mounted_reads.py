@@ -13,7 +13,7 @@ import threading
 from process_rows.checks import WAIT, row, same
 from process_rows.contents import BORDERS, FROM_FILES, NEEDLE, contents_of, tree_of, write_files, write_manifest
 from process_rows.mounted_ends import mounts_anew
-from process_rows.mounts import ASKS_AGAIN, CACHES, Mount, drop_caches
+from process_rows.mounts import ASKS_AGAIN, CACHES, Mount, drop_caches, size_of
 from process_rows.rooms import run_to_end, start
 
 TAKEOVERS = 5
@@ -385,14 +385,16 @@ def a_read_waits_for_a_stopped_daemon(room):
 @row
 def a_read_fails_where_the_daemon_is_killed(room):
     """A daemon is killed: what the kernel doesn't keep can't be read, and is no end of the file. The next mount reads it."""
-    mount = small(room)
+    contents = SMALL | {"d5/f5": bytes(size_of(5, 5))}
+    write_files(room, contents)
+    mount = Mount(room, *FROM_FILES, valid=())
     held = os.open(mount.at("a/long"), os.O_RDONLY)
     mount.daemon.kill()
     mount.broker.printed("dead")
-    same(error_of(lambda: os.pread(held, 100, 0)) in (errno.ENOTCONN, errno.ECONNABORTED, errno.EIO), True)
-    os.close(held)
+    for call in (lambda: os.pread(held, 100, 0), lambda: os.close(held)):
+        same(error_of(call) in (errno.ENOTCONN, errno.ECONNABORTED), True)
     mounts_anew(room, mount)
-    reads(mount, SMALL)
+    reads(mount, contents)
     mount.unmount()
 
 
