@@ -72,6 +72,8 @@ pub fn run_daemon<
     manifest: Manifest,
     streams: DaemonStreams<I, W>,
 ) -> DaemonRun<W>
+where
+    R::Dir: Send + Sync,
     ensures runs { RunsDaemon options.now.until_closed result.ended
         (W.contents streams.out) (W.contents result.out) }
 {
@@ -109,6 +111,8 @@ fn serve_mount<R: Threads + Wait + Clock + Files<File = File> + Net + Sync, W: U
     options: &DaemonOptions<'_>,
     out: W,
 ) -> Service<W>
+where
+    R::Dir: Send + Sync,
     ensures prints { PrintsServing (W.contents out) (W.contents result.out) }
     ensures may_end { MayEnd options.now.until_closed result.ending }
 {
@@ -168,6 +172,8 @@ fn run<R: Threads + Wait + Clock + Files<File = File> + Sync, W: Unblock + Drop>
     seated: Seated<'_, R>,
     out: W,
 ) -> Service<W>
+where
+    R::Dir: Send + Sync,
     ensures prints { PrintsServing (W.contents out) (W.contents result.out) }
     ensures may_end { MayEnd options.now.until_closed result.ending }
 {
@@ -213,6 +219,8 @@ fn run_threads<R: Threads + Wait + Clock + Files<File = File> + Sync, W: Unblock
     broker: Connection<'_, R>,
     out: W,
 ) -> Service<W>
+where
+    R::Dir: Send + Sync,
     ensures prints { PrintsServing (W.contents out) (W.contents result.out) }
     ensures may_end { MayEnd threads.now.rounds.until_closed result.ending }
 {
@@ -234,7 +242,10 @@ struct DaemonThreads<'a, R> {
     rounds: RoundLoop<'a, R>,
 }
 
-impl<R: Threads + Wait + Clock + Files<File = File> + Sync> DaemonThreads<'_, R> {
+impl<R: Threads + Wait + Clock + Files<File = File> + Sync> DaemonThreads<'_, R>
+where
+    R::Dir: Send + Sync,
+{
     /// Serves the mount in this thread, and takeovers in two more: one accepts connections, one serves those that
     /// offer.
     fn run<'s, 'e: 's, W: Unblock + Drop>(

@@ -46,7 +46,10 @@ pub(crate) struct RoundLoop<'a, R> {
     pub(crate) until_closed: bool,
 }
 
-impl<'a, R: Files<File = File> + Threads + Wait + Clock + Sync> RoundLoop<'a, R> {
+impl<'a, R: Files<File = File> + Threads + Wait + Clock + Sync> RoundLoop<'a, R>
+where
+    R::Dir: Send + Sync,
+{
     /// Serves by rounds of workers, whenever something may be lent, and returns how the daemon ends.
     pub(crate) fn serve<W: Unblock>(&self, out: &mut W) -> DaemonEnd
         ensures prints { PrintsServing (W.contents out.old) (W.contents out.new) }

@@ -40,6 +40,7 @@ pub fn run_edend<
     I: Read + Drop + Send + 'static,
 >(host: &R, alloc: Global, process: &P, input: I) -> RunIn<P::Output, P::Errors>
 where
+    R::Dir: Send + Sync,
     P::Output: Unblock,
     P::Errors: Unblock,
     ensures runs { RunsIn (P.known_words process.now)
@@ -64,6 +65,7 @@ fn run_noted<
     I: Read + Drop + Send + 'static,
 >(host: &R, alloc: Global, process: &P, noted: &Noted, input: I) -> RunIn<P::Output, P::Errors>
 where
+    R::Dir: Send + Sync,
     P::Output: Unblock,
     P::Errors: Unblock,
     ensures { (command : _) → IsNoted noted.now command → RunsOver
@@ -112,6 +114,7 @@ fn serve<
     input: I,
 ) -> RunIn<P::Output, P::Errors>
 where
+    R::Dir: Send + Sync,
     P::Output: Unblock,
     P::Errors: Unblock,
     ensures { RunsOver (P.input_bytes process.now) (P.file_bytes process.now) (DaemonCommand words.now)
@@ -253,6 +256,8 @@ fn daemon<
     words: &DaemonWords<'a>,
     streams: DaemonStreams<I, W>,
 ) -> CommandRun<'a, W>
+where
+    R::Dir: Send + Sync,
     ensures { RunsTo (S.input_bytes sources.now) (S.file_bytes sources.now)
         (DaemonCommand words.now) result.ended (W.contents streams.out) (W.contents result.out) }
 {
