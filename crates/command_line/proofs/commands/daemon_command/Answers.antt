@@ -15,4 +15,5 @@ returns c =
     let workers = with_arg _ _ _ _ _ c.workers_arg.ensures.rule c.workers_arg.ensures.own manifest c.in_ok-arg-6.ensures in
     let limit = with_arg _ _ _ _ _ c.limit_arg.ensures.rule c.limit_arg.ensures.own workers c.in_ok-arg-7.ensures in
     let patience = with_arg _ _ _ _ _ c.patience_arg.ensures.rule c.patience_arg.ensures.own limit c.in_ok-arg-8.ensures in
-    IfOk-weaker c.arg-9.result _ _ (λ command adds. with_arg _ _ _ _ _ c.flag_arg-3.ensures.rule c.flag_arg-3.ensures.own patience adds) c.arg-9.ensures
+    let until_closed = with_arg _ _ _ _ _ c.flag_arg-3.ensures.rule c.flag_arg-3.ensures.own patience c.in_ok-arg-9.ensures in
+    IfOk-weaker c.arg-10.result _ _ (λ command adds. with_arg _ _ _ _ _ c.files_arg.ensures.rule c.files_arg.ensures.own until_closed adds) c.arg-10.ensures
