@@ -1,6 +1,4 @@
 //! The mounts of this program, in the system's table of mounts.
-use eden_base::cut;
-
 /// What the source of each mount of this program begins with.
 const OWN: &[u8] = b"edend-";
 
@@ -15,12 +13,10 @@ struct MountLine<'a> {
 /// Returns whether a device is that of a mount of this program. `mounts` is the table, and `device` the device's numbers as
 /// they stand there.
 pub(crate) fn is_of_own(mounts: &[u8], device: &[u8]) -> bool {
-    let mut left = mounts;
-    while let Some((line, rest)) = cut(left, b'\n') {
+    for line in mounts.split(|byte| *byte == b'\n') {
         if own_line(line).is_some_and(|own| own.device == device) {
             return true;
         }
-        left = rest;
     }
     false
 }
@@ -28,12 +24,10 @@ pub(crate) fn is_of_own(mounts: &[u8], device: &[u8]) -> bool {
 /// Returns whether `path` leads into a mount of this program by its text. A path that begins with no slash is one from the
 /// directory `start` on.
 pub(crate) fn is_below_own(mounts: &[u8], start: &[u8], path: &[u8]) -> bool {
-    let mut left = mounts;
-    while let Some((line, rest)) = cut(left, b'\n') {
+    for line in mounts.split(|byte| *byte == b'\n') {
         if own_line(line).is_some_and(|own| leads_below(start, path, own.path)) {
             return true;
         }
-        left = rest;
     }
     false
 }
@@ -73,30 +67,16 @@ fn own_line(line: &[u8]) -> Option<MountLine<'_>> {
     }
 }
 
-/// Reads a line of the table.
+/// Reads a line of the table: behind a dash, before which stand as many fields as a mount has, come its kind and its source.
 fn read_line(line: &[u8]) -> Option<MountLine<'_>> {
-    let (_number, rest) = cut(line, b' ')?;
-    let (_parent, rest) = cut(rest, b' ')?;
-    let (device, rest) = cut(rest, b' ')?;
-    let (_root, rest) = cut(rest, b' ')?;
-    let (path, rest) = cut(rest, b' ')?;
-    let (_kind, rest) = cut(behind_dash(rest)?, b' ')?;
-    let (source, _options) = cut(rest, b' ')?;
+    let mut fields = line.split(|byte| *byte == b' ');
+    let device = fields.nth(2)?;
+    let path = fields.nth(1)?;
+    let _dash = fields.find(|field| *field == b"-".as_slice())?;
+    let source = fields.nth(1)?;
     Some(MountLine {
         device,
         path,
         source,
     })
-}
-
-/// Returns the fields behind the one that is a dash: before it stand as many as a mount has.
-fn behind_dash(fields: &[u8]) -> Option<&[u8]> {
-    let mut left = fields;
-    while let Some((field, rest)) = cut(left, b' ') {
-        if field == b"-".as_slice() {
-            return Some(rest);
-        }
-        left = rest;
-    }
-    None
 }

@@ -12,6 +12,22 @@ returns-in-Err g c =
           (subst (λ (known : Option (List ℕ)). PrintsServing old known) (sym c.write_behind.ensures.same) (serving-none old));
     }
 
+pub returns-in-Err-open_contents : goal.returns-in-Err-open_contents
+returns-in-Err-open_contents g c =
+    let old = g.W.Write.contents c.args.streams.out in
+    record {
+      runs = c.end_run-in-Err-open_contents.ensures.runs c.args.options.now.until_closed old tt
+          (subst (λ (known : Option (List ℕ)). PrintsServing old known) (sym c.write_behind.ensures.same) (serving-none old));
+    }
+
+pub returns-in-Err-close_with_input : goal.returns-in-Err-close_with_input
+returns-in-Err-close_with_input g c =
+    let old = g.W.Write.contents c.args.streams.out in
+    record {
+      runs = c.end_run-in-Err-close_with_input.ensures.runs c.args.options.now.until_closed old tt
+          (subst (λ (known : Option (List ℕ)). PrintsServing old known) (sym c.write_behind.ensures.same) (serving-none old));
+    }
+
 pub returns-in_default-new : goal.returns-in_default-new
 returns-in_default-new g c =
     let old = g.W.Write.contents c.args.streams.out in
