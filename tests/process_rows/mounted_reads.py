@@ -10,7 +10,7 @@ import socket
 import subprocess
 import threading
 
-from process_rows.checks import WAIT, row, same
+from process_rows.checks import TOP, WAIT, row, same
 from process_rows.contents import BORDERS, FROM_FILES, NEEDLE, contents_of, tree_of, write_files, write_manifest
 from process_rows.mounted_ends import mounts_anew
 from process_rows.mounts import ASKS_AGAIN, CACHES, Mount, drop_caches, size_of
@@ -23,6 +23,9 @@ DIFF = 'diff -r "$1" . >&2'
 TAR_WORDS = "--sort=name --mtime=@0 --owner=0 --group=0 --numeric-owner ."
 TAR = f'tar cf - {TAR_WORDS} | cmp - "$1" >&2'
 GREP = 'grep -rlaFx needle . | LC_ALL=C sort | cmp - "$1" >&2'
+# Writes a manifest of the folder that it runs in.
+BY_FIND = """{ printf 'commit %040d\\n' 0
+find . -mindepth 1 -type d -printf 'dir %P\\n' -o -type f -printf 'file %04m %s %P\\n'; } >../m"""
 # A daemon has this many open files at most, however many it read.
 OPEN_FILES = 64
 # The sizes of a large file, and of one for a program without a proof.
@@ -108,6 +111,23 @@ def a_tree_is_read_below_takeovers_with_1_worker(room):
 def a_tree_is_read_below_takeovers_with_4_workers(room):
     """The same with four workers, and a kernel that keeps names and attributes."""
     tree_is_read_below_takeovers(room, 4, ())
+
+
+@row
+def this_repository_is_read_from_a_manifest_by_find(room):
+    """A copy of this repository is mounted by a manifest that `find` writes as docs/MOUNT.md has it: `diff -r` finds it equal to
+    the copy, before a takeover and behind it."""
+    folder = f"{room.path}/files"
+    left_out = shutil.ignore_patterns("out", ".git", "__pycache__")
+    shutil.copytree(TOP, folder, symlinks=False, ignore=left_out)
+    written = run_to_end(["sh", "-c", BY_FIND], cwd=folder)
+    same(written[0], 0)
+    mount = Mount(room, *FROM_FILES, valid=())
+    for _ in range(2):
+        same(run_to_end(["diff", "-r", folder, mount.path])[0], 0)
+        drop_caches(with_pages=True)
+        mount.take_over()
+    mount.unmount()
 
 
 def read_at(file, size, offset):
