@@ -1,4 +1,5 @@
 pub mod First
+pub mod Kinds
 pub mod Limits
 pub mod Name
 pub mod Text

@@ -1,7 +1,7 @@
 -- The words that texts have for the values of enums.
 use Rattle.std.specs.Prelude.{ℕ, List, codes}
 use Rattle.eden_base.specs.declared.attr.Kind.{Kind}
-use Rattle.eden_base.specs.declared.attr.Kind.TheVariants.{File, Dir}
+use Rattle.eden_base.specs.declared.attr.Kind.TheVariants.{File, Dir, Link}
 use Rattle.eden_base.specs.declared.errno.Errno.{Errno}
 use Rattle.eden_base.specs.declared.errno.Errno.TheVariants.{ENOENT, EIO, ENOMEM, EEXIST, ENOTDIR, EISDIR, EINVAL, ENOSPC, ENAMETOOLONG, ENOSYS, ENOTEMPTY, EOVERFLOW, ESTALE}
 
@@ -25,3 +25,4 @@ errno_name ESTALE = codes "ESTALE"
 abbrev pub kind_name : Kind → List ℕ
 kind_name File = codes "file"
 kind_name Dir = codes "dir"
+kind_name Link = codes "link"

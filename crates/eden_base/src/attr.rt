@@ -1,12 +1,14 @@
 //! The attributes of a file.
 ghost use Rattle.std.specs.Prelude.{◌≡◌, ◌≤◌, ◌↔◌, IfSome, IsSome};
 ghost use Rattle.eden_base.specs.Words.{kind_name};
+ghost use Rattle.eden_base.specs.Kinds.{kind_made};
 
-/// A regular file or a directory. Symbolic links and devices are no part of a checkout here.
+/// A regular file, a directory or a symbolic link. Devices, pipes and sockets are no part of a checkout here.
 #[derive(Clone, Copy, PartialEq, Eq)]
 pub enum Kind {
     File,
     Dir,
+    Link,
 }
 
 impl Kind {
@@ -17,6 +19,26 @@ impl Kind {
         match self {
             Kind::File => "file",
             Kind::Dir => "dir",
+            Kind::Link => "link",
+        }
+    }
+}
+
+/// The kind of a file that a request makes: CREATE makes a regular file, and MKDIR a directory.
+#[derive(Clone, Copy, PartialEq, Eq)]
+pub enum MadeKind {
+    File,
+    Dir,
+}
+
+impl MadeKind {
+    /// Returns the kind that the file has once it is made.
+    pub fn kind(self) -> Kind
+        ensures kind { result ≡ kind_made self }
+    {
+        match self {
+            MadeKind::File => Kind::File,
+            MadeKind::Dir => Kind::Dir,
         }
     }
 }
@@ -34,6 +56,9 @@ impl Perm {
 
     /// The permissions of every directory of a manifest: 0o755.
     pub const DIRECTORY: Perm = Perm { bits: 493 };
+
+    /// The permissions of every symbolic link: 0o777. Linux follows a link whatever they are (symlink(7)).
+    pub const LINK: Perm = Perm { bits: 511 };
 
     /// Returns the permissions with these `bits`, or none if a bit above the twelfth is set.
     pub fn of(bits: u16) -> Option<Perm>
@@ -62,8 +87,8 @@ impl Perm {
 pub struct Attr {
     pub kind: Kind,
     pub perm: Perm,
-    /// The size in bytes; 0 for a directory.
+    /// The size in bytes; 0 for a directory. A symbolic link has that of its target.
     pub size: u64,
-    /// The count of links: 0 for an unlinked file, else 1 for a regular file and 2 for a directory.
+    /// The count of links: 0 for an unlinked file, else 2 for a directory and 1 for any other file.
     pub nlink: u32,
 }

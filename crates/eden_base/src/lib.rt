@@ -13,7 +13,7 @@ mod order;
 mod place;
 mod text;
 
-pub use attr::{Attr, Kind, Perm};
+pub use attr::{Attr, Kind, MadeKind, Perm};
 pub use claim::ClaimFault;
 pub use errno::Errno;
 pub use limits::{
