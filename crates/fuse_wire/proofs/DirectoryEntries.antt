@@ -6,7 +6,7 @@ use Rattle.std.proofs.lemmas.Bool.Decides.{nat_tests}
 use Rattle.std.proofs.lemmas.List.{take-append-drop, drop_at, drop-drop, take_at, take-replicate}
 use Rattle.std.proofs.lemmas.Slice.Eq.{bytes_eq-Decides}
 use Rattle.eden_base.specs.declared.attr.Kind.{Kind}
-use Rattle.eden_base.specs.declared.attr.Kind.TheVariants.{File, Dir}
+use Rattle.eden_base.specs.declared.attr.Kind.TheVariants.{File, Dir, Link}
 use Rattle.eden_base.specs.declared.name.NameFault.{NameFault}
 use Rattle.byte_codec.specs.Field.{AreBytes}
 use Rattle.byte_codec.specs.Reading.{◌>>=◌}
@@ -42,10 +42,12 @@ padding_zeros p namelen is = ap (λ (k : ℕ). take k (0 ∷ 0 ∷ 0 ∷ 0 ∷ 0
 kind_again : (kind : Kind) → kind_typed (entry_type kind) ≡ Some kind
 kind_again File = refl
 kind_again Dir = refl
+kind_again Link = refl
 
 type_fits : (kind : Kind) → entry_type kind < 2 ^ 32
 type_fits File = omega arith
 type_fits Dir = omega arith
+type_fits Link = omega arith
 
 pub name_again : (name rest : List ℕ) → IsEntryName name → name_in (length name) (name ++ (zeros (padding_len (length name)) ++ rest)) ≡ Ok name
 unfolding name_in
@@ -127,6 +129,7 @@ rest_again entry bytes rest n is len = ap (drop n) is ∙ drop_at (entry_text en
 kind_found : (n : ℕ) (kind : Kind) → kind_typed n ≡ Some kind → entry_type kind ≡ n
 kind_found n File e = grind (arith, nat_tests)
 kind_found n Dir e = grind (arith, nat_tests)
+kind_found n Link e = grind (arith, nat_tests)
 
 -- the name that was read stands in front, with zeros behind it
 pub record NameIs (namelen : ℕ) (bytes name : List ℕ) : Type 0 where

@@ -5,7 +5,7 @@ use Rattle.std.proofs.lemmas.Bool.Decides.{nat_tests}
 use Rattle.std.proofs.lemmas.List.{append-nil, drop_at, drop-drop}
 use Rattle.eden_base.specs.declared.attr.Attr.{Attr}
 use Rattle.eden_base.specs.declared.attr.Kind.{Kind}
-use Rattle.eden_base.specs.declared.attr.Kind.TheVariants.{File, Dir}
+use Rattle.eden_base.specs.declared.attr.Kind.TheVariants.{File, Dir, Link}
 use Rattle.eden_base.specs.declared.attr.Perm.{Perm}
 use Rattle.eden_base.specs.declared.number.Number.{Number}
 use Rattle.fuse_wire.specs.declared.reply.Answer.{Answer}
@@ -25,10 +25,12 @@ use Rattle.fuse_wire.proofs.Lengths.{lengths, length-i32_bytes, length-u32_bytes
 kind_of_sum : (kind : Kind) (bits : ℕ) → bits ≤ 4095 → kind_of (type_bits kind + bits) ≡ kind
 kind_of_sum File bits le = grind (arith, nat_tests)
 kind_of_sum Dir bits le = grind (arith, nat_tests)
+kind_of_sum Link bits le = grind (arith, nat_tests)
 
 low_of_sum : (kind : Kind) (bits : ℕ) → bits ≤ 4095 → (type_bits kind + bits) % 4096 ≡ bits
 low_of_sum File bits le = omega arith
 low_of_sum Dir bits le = omega arith
+low_of_sum Link bits le = omega arith
 
 pub kind_again : (attr : Attr) → kind_of (mode attr) ≡ attr.kind
 kind_again attr = kind_of_sum attr.kind attr.perm.bits attr.perm.in_range
@@ -41,6 +43,7 @@ mode_fits attr = mode_of_fits attr.kind attr.perm.bits attr.perm.in_range where
   mode_of_fits : (kind : Kind) (bits : ℕ) → bits ≤ 4095 → type_bits kind + bits < 2 ^ 32
   mode_of_fits File bits le = omega arith
   mode_of_fits Dir bits le = omega arith
+  mode_of_fits Link bits le = omega arith
 
 -- ---- attributes
 

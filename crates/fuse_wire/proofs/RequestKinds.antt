@@ -2,6 +2,7 @@
 use Rattle.std.proofs.Common.{◌≡◌, ℕ, ◌^◌, ◌<◌, eqb, List, [], ◌∷◌, ◌++◌, length, Ok, refl, sym, ap, subst, ◌∙◌, arith}
 use Rattle.std.proofs.lemmas.Bool.{eqb-true}
 use Rattle.std.proofs.lemmas.Bool.Decides.{nat_tests}
+use Rattle.std.proofs.lemmas.List.{nil_from_length}
 use Rattle.eden_base.specs.declared.attr.Perm.{Perm}
 use Rattle.eden_base.specs.declared.number.Number.{Number}
 use Rattle.eden_base.specs.Name.{IsNameText}
@@ -9,7 +10,7 @@ use Rattle.fuse_wire.specs.declared.request.Request.{Request}
 use Rattle.fuse_wire.specs.declared.request.Request.TheVariants as requests
 use Rattle.fuse_wire.specs.declared.fault.WireFault.TheVariants.{BadBody}
 use Rattle.fuse_wire.specs.declared.request.Opcode.{Opcode}
-use Rattle.fuse_wire.specs.declared.request.Opcode.TheVariants.{Lookup, Forget, Getattr, Mkdir, Unlink, Rmdir, Rename, Read, Readdir, Create, BatchForget, Other}
+use Rattle.fuse_wire.specs.declared.request.Opcode.TheVariants.{Lookup, Forget, Getattr, Readlink, Mkdir, Unlink, Rmdir, Rename, Read, Readdir, Create, BatchForget, Other}
 use Rattle.fuse_wire.specs.Field.{u64_bytes, u64_at}
 use Rattle.byte_codec.specs.Reading.{◌>>=◌}
 use Rattle.fuse_wire.specs.Request.{code, opcode_of, opcode, nodeid, IsNodeid, IsSendable}
@@ -81,6 +82,9 @@ what_found Readdir node body what are known e =
 what_found Getattr node body what are known e =
     let t = test_ok (eqb (length body) 16) BadBody (Ok (requests.Getattr node)) what e in
     subst (WhatIs Getattr node body) (ok_is (requests.Getattr node) what t.1) (record { opcode_is = refl; nodeid_is = refl; body_is = eqb-true _ _ t.0 })
+what_found Readlink node body what are known e =
+    let t = test_ok (eqb (length body) 0) BadBody (Ok (requests.Readlink node)) what e in
+    subst (WhatIs Readlink node body) (ok_is (requests.Readlink node) what t.1) (record { opcode_is = refl; nodeid_is = refl; body_is = nil_from_length body (eqb-true _ _ t.0) })
 what_found Forget node body what are known e =
     let b = bind_ok (forget_of node body) (λ item. Ok (requests.Forget item)) what e in
     let found = forget_found node body b.0 are b.1 in
@@ -106,6 +110,7 @@ what_again (requests.Rename dir name to_dir to_name) node body fits n is = rw (n
 what_again (requests.Read m offset size) node body fits n is = rw (number_is node m n, range_again body offset size fits is) refl
 what_again (requests.Readdir dir offset size) node body fits n is = rw (number_is node dir n, range_again body offset size fits is) refl
 what_again (requests.Getattr m) node body fits n is = rw (number_is node m n, is) refl
+what_again (requests.Readlink m) node body fits n is = rw (number_is node m n, is) refl
 what_again (requests.Forget item) node body fits n is = rw (number_is node item.node n, is, forget_again item fits) refl
 what_again (requests.BatchForget items) node body fits n is = rw (batch_again body items fits is) refl
 what_again (requests.Other k m) node body fits n is = rw (number_is node m n) refl

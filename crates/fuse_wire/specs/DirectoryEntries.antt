@@ -4,7 +4,7 @@ use Rattle.std.specs.Prelude.{◌≡◌, ◌<◌, ℕ, ◌+◌, ◌-◌, ◌*◌
 use Rattle.std.specs.List.{flat_map}
 use Rattle.std.specs.Str.{bytes_eq}
 use Rattle.eden_base.specs.declared.attr.Kind.{Kind}
-use Rattle.eden_base.specs.declared.attr.Kind.TheVariants.{File, Dir}
+use Rattle.eden_base.specs.declared.attr.Kind.TheVariants.{File, Dir, Link}
 use Rattle.eden_base.specs.declared.name.NameFault.{NameFault}
 use Rattle.eden_base.specs.declared.name.NameFault.TheVariants.{Dots}
 use Rattle.eden_base.specs.Name.{name_fault}
@@ -38,17 +38,21 @@ IsEntryName bytes = entry_name_fault bytes ≡ None
 
 -- ---- as written
 
--- the types of a directory and of a regular file in an entry (dirent.h)
+-- the types of a directory, of a regular file and of a symbolic link in an entry (dirent.h)
 abbrev pub DT_DIR : ℕ
 DT_DIR = 4
 
 abbrev pub DT_REG : ℕ
 DT_REG = 8
 
+abbrev pub DT_LNK : ℕ
+DT_LNK = 10
+
 -- the type of a kind: the type bits of its mode, shifted to the right by twelve (dirent.h: IFTODT)
 abbrev pub entry_type : Kind → ℕ
 entry_type File = DT_REG
 entry_type Dir = DT_DIR
+entry_type Link = DT_LNK
 
 -- a length made a multiple of 8 (FUSE_DIRENT_ALIGN)
 abbrev pub aligned : ℕ → ℕ
@@ -90,6 +94,7 @@ abbrev pub kind_typed : ℕ → Option Kind
 kind_typed n =
     if n == DT_DIR then Some Dir
     else if n == DT_REG then Some File
+    else if n == DT_LNK then Some Link
     else None
 
 -- the length of the name, as the fixed part tells it

@@ -1,8 +1,8 @@
 -- The mode of a file (inode(7)): the permissions are its low twelve bits, and the bits above say what the file is.
-use Rattle.std.specs.Prelude.{◌≤◌, ℕ, ◌%◌, ◌^◌}
+use Rattle.std.specs.Prelude.{◌≤◌, ℕ, ◌+◌, ◌%◌, ◌^◌}
 use Rattle.std.proofs.Common.{arith}
 use Rattle.eden_base.specs.declared.attr.Kind.{Kind}
-use Rattle.eden_base.specs.declared.attr.Kind.TheVariants.{File, Dir}
+use Rattle.eden_base.specs.declared.attr.Kind.TheVariants.{File, Dir, Link}
 use Rattle.eden_base.specs.declared.attr.Perm.{Perm}
 
 -- the low twelve bits are at most 4095
@@ -21,7 +21,12 @@ S_IFREG = 2 ^ 15
 abbrev pub S_IFDIR : ℕ
 S_IFDIR = 2 ^ 14
 
+-- the type bits of a symbolic link, 0o120000
+abbrev pub S_IFLNK : ℕ
+S_IFLNK = 2 ^ 15 + 2 ^ 13
+
 -- the type bits of a kind
 abbrev pub type_bits : Kind → ℕ
 type_bits File = S_IFREG
 type_bits Dir = S_IFDIR
+type_bits Link = S_IFLNK

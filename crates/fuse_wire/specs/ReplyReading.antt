@@ -5,7 +5,7 @@ use Rattle.std.specs.Prelude.{Bool, ◌&&◌, ℕ, zero, suc, ◌==◌, nat_lt, 
 use Rattle.std.specs.Str.{bytes_eq}
 use Rattle.eden_base.specs.declared.attr.Attr.{Attr}
 use Rattle.eden_base.specs.declared.attr.Kind.{Kind}
-use Rattle.eden_base.specs.declared.attr.Kind.TheVariants.{File, Dir}
+use Rattle.eden_base.specs.declared.attr.Kind.TheVariants.{File, Dir, Link}
 use Rattle.eden_base.specs.declared.errno.Errno.{Errno}
 use Rattle.eden_base.specs.declared.errno.Errno.TheVariants.{ENOENT, EIO, ENOMEM, EEXIST, ENOTDIR, EISDIR, EINVAL, ENOSPC, ENAMETOOLONG, ENOSYS, ENOTEMPTY, EOVERFLOW, ESTALE}
 use Rattle.eden_base.specs.declared.number.Number.{Number}
@@ -17,7 +17,7 @@ use Rattle.fuse_wire.specs.declared.reply.Answer.{Answer}
 use Rattle.fuse_wire.specs.declared.reply.Answer.TheVariants.{Entry, Opened, Attrs, Done, Buffer, Error}
 use Rattle.fuse_wire.specs.declared.reply.Reply.{Reply}
 use Rattle.fuse_wire.specs.Field.{i32_at, u32_at, u64_at}
-use Rattle.fuse_wire.specs.Mode.{S_IFREG, perm_of}
+use Rattle.fuse_wire.specs.Mode.{S_IFREG, S_IFLNK, perm_of}
 use Rattle.fuse_wire.specs.ReplyText.{reply_text}
 
 -- the error with this number, if there is one
@@ -38,9 +38,12 @@ errno_numbered n =
     else if n == 116 then Some ESTALE
     else None
 
--- the kind of a regular file's or a directory's mode; no other mode is in the text of a reply
+-- the kind of a regular file's, a directory's or a symbolic link's mode; no other mode is in the text of a reply
 abbrev pub kind_of : ℕ → Kind
-kind_of mode = if nat_lt mode S_IFREG then Dir else File
+kind_of mode =
+    if nat_lt mode S_IFREG then Dir
+    else if nat_lt mode S_IFLNK then File
+    else Link
 
 -- the number in the bytes of attributes, in which ino is at 0, size at 8, mode at 60, nlink at 64
 abbrev pub number_at : List ℕ → Number

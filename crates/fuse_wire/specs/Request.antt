@@ -10,7 +10,7 @@ use Rattle.fuse_wire.specs.declared.item.Item.{Item}
 use Rattle.fuse_wire.specs.declared.request.Opcode.{Opcode}
 use Rattle.fuse_wire.specs.declared.request.Opcode.TheVariants as opcodes
 use Rattle.fuse_wire.specs.declared.request.Request.{Request}
-use Rattle.fuse_wire.specs.declared.request.Request.TheVariants.{Lookup, Getattr, Create, Mkdir, Unlink, Rmdir, Rename, Read, Readdir, Forget, BatchForget, Other}
+use Rattle.fuse_wire.specs.declared.request.Request.TheVariants.{Lookup, Getattr, Readlink, Create, Mkdir, Unlink, Rmdir, Rename, Read, Readdir, Forget, BatchForget, Other}
 
 -- ---- opcodes
 
@@ -19,6 +19,7 @@ abbrev pub code : Opcode → ℕ
 code opcodes.Lookup = 1
 code opcodes.Forget = 2
 code opcodes.Getattr = 3
+code opcodes.Readlink = 5
 code opcodes.Mkdir = 9
 code opcodes.Unlink = 10
 code opcodes.Rmdir = 11
@@ -35,6 +36,7 @@ opcode_of n =
     if n == 1 then opcodes.Lookup
     else if n == 2 then opcodes.Forget
     else if n == 3 then opcodes.Getattr
+    else if n == 5 then opcodes.Readlink
     else if n == 9 then opcodes.Mkdir
     else if n == 10 then opcodes.Unlink
     else if n == 11 then opcodes.Rmdir
@@ -55,6 +57,7 @@ is_forget opcode = false
 abbrev pub opcode : Request → Opcode
 opcode (Lookup dir name) = opcodes.Lookup
 opcode (Getattr node) = opcodes.Getattr
+opcode (Readlink node) = opcodes.Readlink
 opcode (Create dir name perm) = opcodes.Create
 opcode (Mkdir dir name perm) = opcodes.Mkdir
 opcode (Unlink dir name) = opcodes.Unlink
@@ -87,6 +90,7 @@ other_of n node = other_by (opcode_of n) node
 abbrev pub nodeid : Request → ℕ
 nodeid (Lookup dir name) = dir.0
 nodeid (Getattr node) = node.0
+nodeid (Readlink node) = node.0
 nodeid (Create dir name perm) = dir.0
 nodeid (Mkdir dir name perm) = dir.0
 nodeid (Unlink dir name) = dir.0
@@ -115,6 +119,7 @@ is_ask request = true
 abbrev pub nodes : Request → List Number
 nodes (Lookup dir name) = dir ∷ []
 nodes (Getattr node) = node ∷ []
+nodes (Readlink node) = node ∷ []
 nodes (Create dir name perm) = dir ∷ []
 nodes (Mkdir dir name perm) = dir ∷ []
 nodes (Unlink dir name) = dir ∷ []
@@ -135,6 +140,7 @@ form_of (Getattr node) = Attributes
 form_of (Unlink dir name) = NoValue
 form_of (Rmdir dir name) = NoValue
 form_of (Rename dir name to_dir to_name) = NoValue
+form_of (Readlink node) = FileBytes
 form_of (Read node offset size) = FileBytes
 form_of (Readdir dir offset size) = ABuffer
 form_of request = OnlyAnError

@@ -14,7 +14,7 @@ use Rattle.fuse_wire.specs.declared.item.Item.{Item}
 use Rattle.fuse_wire.specs.declared.request.Opcode.{Opcode}
 use Rattle.fuse_wire.specs.declared.request.Opcode.TheVariants as opcodes
 use Rattle.fuse_wire.specs.declared.request.Request.{Request}
-use Rattle.fuse_wire.specs.declared.request.Request.TheVariants.{Lookup, Getattr, Create, Mkdir, Unlink, Rmdir, Rename, Read, Readdir, Forget, BatchForget, Other}
+use Rattle.fuse_wire.specs.declared.request.Request.TheVariants.{Lookup, Getattr, Readlink, Create, Mkdir, Unlink, Rmdir, Rename, Read, Readdir, Forget, BatchForget, Other}
 use Rattle.fuse_wire.specs.Field.{zeros, u32_bytes, u64_bytes, u32_at, u64_at}
 use Rattle.fuse_wire.specs.Mode.{S_IFREG, perm_of}
 use Rattle.byte_codec.specs.Reading.{◌>>=◌}
@@ -59,6 +59,7 @@ body (Readdir dir offset size) = range_body offset size
 body (Create dir name perm) = made_body 4 (S_IFREG + perm.bits) 8 name
 body (Mkdir dir name perm) = made_body 0 perm.bits 4 name
 body (Getattr node) = zeros 16
+body (Readlink node) = []
 body (Forget item) = u64_bytes item.k
 body (BatchForget items) = batch_body items
 body (Other n node) = []
@@ -113,6 +114,7 @@ IsBody (Readdir dir offset size) bytes = IsRangeBody offset size bytes
 IsBody (Create dir name perm) bytes = IsMadeBody 4 8 name perm bytes
 IsBody (Mkdir dir name perm) bytes = IsMadeBody 0 4 name perm bytes
 IsBody (Getattr node) bytes = length bytes ≡ 16
+IsBody (Readlink node) bytes = bytes ≡ []
 IsBody (Forget item) bytes = bytes ≡ u64_bytes item.k
 IsBody (BatchForget items) bytes = IsBatchBody items bytes
 IsBody (Other n node) bytes = opcode_of n ≡ opcodes.Other n
@@ -216,6 +218,7 @@ what_of opcodes.Rename node body = move_of body >>= λ move. Ok (Rename node mov
 what_of opcodes.Read node body = range_of body >>= λ range. Ok (Read node range.0 range.1)
 what_of opcodes.Readdir node body = range_of body >>= λ range. Ok (Readdir node range.0 range.1)
 what_of opcodes.Getattr node body = if length body == 16 then Ok (Getattr node) else Err BadBody
+what_of opcodes.Readlink node body = if length body == 0 then Ok (Readlink node) else Err BadBody
 what_of opcodes.Forget node body = forget_of node body >>= λ item. Ok (Forget item)
 what_of opcodes.BatchForget node body = batch_of body >>= λ items. Ok (BatchForget items)
 what_of (opcodes.Other opcode) node body = Ok (Other opcode node)

@@ -6,7 +6,7 @@ use eden_base::NoMemory;
 use std::alloc::Global;
 use std::marker::Model;
 
-/// The bytes of an answer, as READ and READDIR have them (libfuse's `fuse_reply_buf`). Contracts see a list.
+/// The bytes of an answer, as READ, READLINK and READDIR have them (libfuse's `fuse_reply_buf`). Contracts see a list.
 pub struct Buffer {
     bytes: Bytes,
 }

@@ -17,6 +17,9 @@ pub(crate) const DT_DIR: u32 = 4;
 /// The type of a regular file.
 pub(crate) const DT_REG: u32 = 8;
 
+/// The type of a symbolic link.
+pub(crate) const DT_LNK: u32 = 10;
+
 /// The longest padding, and one byte more.
 static ZEROS: [u8; DIRENT_ALIGN] = [0; DIRENT_ALIGN];
 
@@ -144,5 +147,6 @@ fn entry_type(kind: Kind) -> u32
     match kind {
         Kind::File => DT_REG,
         Kind::Dir => DT_DIR,
+        Kind::Link => DT_LNK,
     }
 }

@@ -2,7 +2,7 @@
 ghost use Rattle.std.specs.Prelude.{◌≡◌, ◌<◌, ◌≤◌, ◌^◌, ◌+◌, ◌++◌, ℕ, List, length, drop, Some, None, Ok, Err, IfOk, IfErr, IfSome, IsErr};
 ghost use Rattle.fuse_wire.specs.DirectoryEntries.{entry_at, entry_len, entry_text, found_text, kind_typed, name_in, next_entry, padding_len, Dirent, FitsDirent, IsEntryName};
 
-use crate::directory_entry::{DT_DIR, DT_REG, entry_len, name_fault, padding};
+use crate::directory_entry::{DT_DIR, DT_LNK, DT_REG, entry_len, name_fault, padding};
 use crate::layout::DIRENT_FIXED;
 use crate::reader::Reader;
 use crate::{DirectoryEntry, WireFault};
@@ -94,6 +94,7 @@ fn kind_typed(kind: u32) -> Option<Kind>
     match kind {
         DT_DIR => Some(Kind::Dir),
         DT_REG => Some(Kind::File),
+        DT_LNK => Some(Kind::Link),
         _ => None,
     }
 }

@@ -17,7 +17,7 @@ pub enum Form {
     NoValue,
     /// Bytes of any length.
     ABuffer,
-    /// Bytes of a file: the extent that they are, or the bytes themselves.
+    /// Bytes of a file, or of a link's target: the extent that they are, or the bytes themselves.
     FileBytes,
     /// No value: the request is not served and always fails, or it is a forget, which has no reply.
     OnlyAnError,

@@ -14,6 +14,9 @@ const S_IFREG: u32 = 0o100000;
 /// The type bits of a directory.
 const S_IFDIR: u32 = 0o040000;
 
+/// The type bits of a symbolic link.
+const S_IFLNK: u32 = 0o120000;
+
 /// Returns the permissions of a mode.
 pub(crate) fn perm_of(mode: u32) -> Perm
     ensures { result ≡ perm_of mode }
@@ -28,17 +31,21 @@ fn type_bits(kind: Kind) -> u32
     match kind {
         Kind::File => S_IFREG,
         Kind::Dir => S_IFDIR,
+        Kind::Link => S_IFLNK,
     }
 }
 
-/// Returns the kind of a regular file's or a directory's mode. For any other mode, one of the two is returned.
+/// Returns the kind of a regular file's, a directory's or a symbolic link's mode. For any other mode, one of the three
+/// is returned.
 pub(crate) fn kind_of(mode: u32) -> Kind
     ensures { result ≡ kind_of mode }
 {
     if mode < S_IFREG {
         Kind::Dir
-    } else {
+    } else if mode < S_IFLNK {
         Kind::File
+    } else {
+        Kind::Link
     }
 }
 

@@ -26,9 +26,9 @@ pub enum Answer {
     Attrs { number: Number, attr: Attr },
     /// To UNLINK, RMDIR and RENAME.
     Done,
-    /// Bytes of any length. To READDIR, and to READ once the bytes of an extent were fetched.
+    /// Bytes of any length. To READDIR, and to READ and READLINK once the bytes of an extent were fetched.
     Buffer(Buffer),
-    /// To READ, before its bytes are fetched.
+    /// To READ and READLINK, before its bytes are fetched.
     Extent(Extent),
     Error(Errno),
 }

@@ -20,6 +20,10 @@ pub enum Request {
     Getattr {
         node: Number,
     },
+    /// The target of a symbolic link.
+    Readlink {
+        node: Number,
+    },
     Create {
         dir: Number,
         name: Name,
@@ -81,6 +85,7 @@ pub(crate) enum Opcode {
     Lookup,
     Forget,
     Getattr,
+    Readlink,
     Mkdir,
     Unlink,
     Rmdir,
@@ -153,6 +158,7 @@ impl Request {
                 size: *size,
             }),
             Request::Getattr { node } => Ok(Request::Getattr { node: *node }),
+            Request::Readlink { node } => Ok(Request::Readlink { node: *node }),
             Request::Forget(item) => Ok(Request::Forget(*item)),
             Request::BatchForget(batch) => {
                 let batch = memory.copy_batch(batch)?;
@@ -196,6 +202,9 @@ impl Request {
             }
             Request::Getattr { node } => {
                 matches!(other, Request::Getattr { node: second } if node == second)
+            }
+            Request::Readlink { node } => {
+                matches!(other, Request::Readlink { node: second } if node == second)
             }
             Request::Create { dir, name, perm } => {
                 matches!(other, Request::Create { dir: second, name: its, perm: bits }
@@ -266,7 +275,7 @@ impl Request {
             Request::Unlink { .. } | Request::Rmdir { .. } | Request::Rename { .. } => {
                 Form::NoValue
             }
-            Request::Read { .. } => Form::FileBytes,
+            Request::Readlink { .. } | Request::Read { .. } => Form::FileBytes,
             Request::Readdir { .. } => Form::ABuffer,
             Request::Forget(_) | Request::BatchForget(_) | Request::Other { .. } => {
                 Form::OnlyAnError
@@ -281,6 +290,7 @@ impl Request {
         match self {
             Request::Lookup { .. } => Opcode::Lookup,
             Request::Getattr { .. } => Opcode::Getattr,
+            Request::Readlink { .. } => Opcode::Readlink,
             Request::Create { .. } => Opcode::Create,
             Request::Mkdir { .. } => Opcode::Mkdir,
             Request::Unlink { .. } => Opcode::Unlink,
@@ -306,8 +316,10 @@ impl Request {
             | Request::Rmdir { dir, .. }
             | Request::Rename { dir, .. }
             | Request::Readdir { dir, .. } => dir.0,
-            Request::Getattr { node } | Request::Read { node, .. } | Request::Other { node, .. } =>
-                node.0,
+            Request::Getattr { node }
+            | Request::Readlink { node }
+            | Request::Read { node, .. }
+            | Request::Other { node, .. } => node.0,
             Request::Forget(item) => item.node.0,
             Request::BatchForget(_) => 0,
         }
@@ -326,8 +338,10 @@ impl Request {
             | Request::Rmdir { dir, .. }
             | Request::Readdir { dir, .. } => NodeIds::one(*dir),
             Request::Rename { dir, to_dir, .. } => NodeIds::two(*dir, *to_dir),
-            Request::Getattr { node } | Request::Read { node, .. } | Request::Other { node, .. } =>
-                NodeIds::one(*node),
+            Request::Getattr { node }
+            | Request::Readlink { node }
+            | Request::Read { node, .. }
+            | Request::Other { node, .. } => NodeIds::one(*node),
             Request::Forget(_) | Request::BatchForget(_) => NodeIds::none(),
         }
     }
@@ -365,6 +379,7 @@ impl Opcode {
             1 => Opcode::Lookup,
             2 => Opcode::Forget,
             3 => Opcode::Getattr,
+            5 => Opcode::Readlink,
             9 => Opcode::Mkdir,
             10 => Opcode::Unlink,
             11 => Opcode::Rmdir,
@@ -385,6 +400,7 @@ impl Opcode {
             Opcode::Lookup => 1,
             Opcode::Forget => 2,
             Opcode::Getattr => 3,
+            Opcode::Readlink => 5,
             Opcode::Mkdir => 9,
             Opcode::Unlink => 10,
             Opcode::Rmdir => 11,

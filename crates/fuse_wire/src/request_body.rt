@@ -43,7 +43,7 @@ pub(crate) fn body_len(request: &Request) -> usize
         Request::Getattr { .. } => GETATTR_LEN,
         Request::Forget(_) => FORGET_LEN,
         Request::BatchForget(items) => batch_len(items.as_slice()),
-        Request::Other { .. } => 0,
+        Request::Readlink { .. } | Request::Other { .. } => 0,
     }
 }
 
@@ -77,7 +77,7 @@ pub(crate) fn put_body(fields: &mut MessageWriter, request: &Request)
         Request::Getattr { .. } => fields.put_zeros(GETATTR_LEN),
         Request::Forget(item) => fields.put_u64(item.k),
         Request::BatchForget(items) => put_batch(fields, items.as_slice()),
-        Request::Other { .. } => {}
+        Request::Readlink { .. } | Request::Other { .. } => {}
     }
 }
 
@@ -131,7 +131,8 @@ pub(crate) fn read_body<M: Memory>(
             Ok(header.asks(Request::Readdir { dir, offset, size }))
         }
         Opcode::Getattr if body.len() == GETATTR_LEN => Ok(header.asks(Request::Getattr { node })),
-        Opcode::Getattr => Err(WireFault::BadBody),
+        Opcode::Readlink if body.is_empty() => Ok(header.asks(Request::Readlink { node })),
+        Opcode::Getattr | Opcode::Readlink => Err(WireFault::BadBody),
         Opcode::Forget => {
             let item = read_forget(node, body)?;
             Ok(header.asks(Request::Forget(item)))

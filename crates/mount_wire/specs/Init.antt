@@ -41,11 +41,18 @@ ASYNC_READ = 2 ^ 0
 abbrev pub PARALLEL_DIROPS : ℕ
 PARALLEL_DIROPS = 2 ^ 18
 
--- an offer of version 7: its minor version, but at most 31; its read-ahead; and of its flags FUSE_ASYNC_READ and
--- FUSE_PARALLEL_DIROPS alone
+-- the flag FUSE_CACHE_SYMLINKS
+abbrev pub CACHE_SYMLINKS : ℕ
+CACHE_SYMLINKS = 2 ^ 23
+
+-- the flags that are taken; no link here ever has another target, so the kernel may keep one that it read
+abbrev pub TAKEN : ℕ
+TAKEN = bit_or (bit_or ASYNC_READ PARALLEL_DIROPS) CACHE_SYMLINKS
+
+-- an offer of version 7: its minor version, but at most 31; its read-ahead; and of its flags those that are taken
 abbrev pub version_of : Offer → Agreement
 version_of offer =
-    Version (min offer.minor 31) offer.max_readahead (bit_and offer.flags (bit_or ASYNC_READ PARALLEL_DIROPS))
+    Version (min offer.minor 31) offer.max_readahead (bit_and offer.flags TAKEN)
 
 -- what is agreed to: major version 7 alone if the kernel's is later, nothing if its version is below 7.12
 unfoldable pub agreement_of : Offer → Result Agreement KernelMessageFault

@@ -32,6 +32,9 @@ const ASYNC_READ: u32 = 1 << 0;
 /// The flag `FUSE_PARALLEL_DIROPS`: lookups in one directory may overlap.
 const PARALLEL_DIROPS: u32 = 1 << 18;
 
+/// The flag `FUSE_CACHE_SYMLINKS`: the kernel keeps the target of a link that it read. No link here changes its target.
+const CACHE_SYMLINKS: u32 = 1 << 23;
+
 /// Returns what is agreed to where a kernel makes this `offer`, or `TooOld` if its version is below 7.12.
 #[tactic(auto, unfolding(crate::specs::Init::agreement_of))]
 pub fn agree(offer: &Offer) -> Result<Agreement, KernelMessageFault>
@@ -46,6 +49,6 @@ pub fn agree(offer: &Offer) -> Result<Agreement, KernelMessageFault>
     Ok(Agreement::Version {
         minor: offer.minor.min(GREATEST_MINOR),
         max_readahead: offer.max_readahead,
-        flags: offer.flags & (ASYNC_READ | PARALLEL_DIROPS),
+        flags: offer.flags & (ASYNC_READ | PARALLEL_DIROPS | CACHE_SYMLINKS),
     })
 }
