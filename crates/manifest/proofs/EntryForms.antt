@@ -1,14 +1,14 @@
 -- Entries that are read, and the texts that they have.
-use Rattle.std.proofs.Common.{◌≡◌, ℕ, true, false, nat_eq, take, drop, List, [], ◌∷◌, ◌++◌, codes, length, Some, None, is_none, refl, sym, ap, subst, ◌∙◌, if◌then◌else◌}
+use Rattle.std.proofs.Common.{◌≡◌, ℕ, true, false, nat_eq, take, drop, List, [], ◌∷◌, ◌++◌, codes, length, Option, Some, None, is_none, refl, sym, ap, subst, ◌∙◌, if◌then◌else◌}
 use Rattle.manifest.proofs.FieldForms.{mode_text-mode_of, decimal_text-size_of}
 use Rattle.manifest.proofs.PartsLaws.{joined-cut}
 use Rattle.manifest.specs.ManifestForm.{IsSayable, fields_text, mode_text}
-use Rattle.manifest.specs.ManifestText.{ManifestEntry, dir_entry, file_entry, entry_of, entry_fault}
+use Rattle.manifest.specs.ManifestText.{ManifestEntry, dir_entry, file_entry, link_entry, entry_behind, entry_of, entry_fault}
 use Rattle.manifest.specs.Text.{after, front, mode_of, size_of}
-use Rattle.manifest.specs.Tree.{dir_perm}
+use Rattle.manifest.specs.Tree.{dir_perm, link_perm}
 use Rattle.manifest.specs.declared.fault.ManifestFaultKind.TheVariants.{BadMode, BadSize}
 use Rattle.eden_base.specs.Text.{cut}
-use Rattle.eden_base.specs.declared.attr.Kind.TheVariants.{File as RegularFile}
+use Rattle.eden_base.specs.declared.attr.Kind.TheVariants.{File as RegularFile, Link}
 use Rattle.eden_base.specs.declared.attr.Perm.{Perm}
 use Rattle.std.proofs.lemmas.Bool.Decides.{Decides-eqb}
 use Rattle.std.proofs.lemmas.List.{append_assoc}
@@ -16,7 +16,7 @@ use Rattle.std.proofs.lemmas.List.{take-append-drop}
 use Rattle.std.proofs.lemmas.Slice.Eq.{slice_eq-Decides}
 use Rattle.std.specs.Cmp.Lexicographic.{pointwise}
 use Rattle.std.specs.Fmt.{decimal}
-use Rattle.std.specs.Option.{option_map, option_and_then, option_or}
+use Rattle.std.specs.Option.{option_map, option_and_then}
 
 -- what follows a front
 pub append-after : (front text rest : List ℕ) → after front text ≡ Some rest → text ≡ front ++ rest
@@ -60,6 +60,23 @@ module _ (text rest mode more size path : List ℕ) (front_is : text ≡ codes "
         ] refl g
       ] refl h
 
+-- the entry of a link
+abbrev link_with : Option ℕ → List ℕ → ManifestEntry
+link_with size path = record { kind = Link; perm = Some link_perm; size = size; path = path }
+
+module _ (text rest size path : List ℕ) (front_is : text ≡ codes "link " ++ rest) (apart : rest ≡ size ++ 32 ∷ path) where
+  link-is : (n : ℕ) → size_of size ≡ Some n → text ≡ (codes "link " ++ decimal n ++ 32 ∷ []) ++ path
+  link-is n is_size =
+      let b = decimal_text-size_of size n is_size in
+      front_is ∙ ap (λ xs. codes "link " ++ xs) (apart ∙ (λ i. b i ++ 32 ∷ path) ∙ sym (append_assoc (decimal n) (32 ∷ []) path))
+
+  link_form : entry_fault (Some (link_with (size_of size) path)) ≡ None → (perm : Perm) × (n : ℕ) × IsEntry text (link_with (size_of size) path) perm n
+  link_form h =
+      elim (size_of size) as (λ o. size_of size ≡ o → (if is_none o then Some BadSize else None) ≡ None → (perm : Perm) × (n : ℕ) × IsEntry text (link_with (size_of size) path) perm n) [
+        | None ↦ λ k g. absurd (cc)
+        | Some n ↦ λ k g. (link_perm, n, record { perm_is = refl; size_is = k; is = link-is n k; is_sayable = refl })
+      ] refl h
+
 file_entry_form : (text rest : List ℕ) (e : ManifestEntry) → text ≡ codes "file " ++ rest → file_entry rest ≡ Some e → entry_fault (Some e) ≡ None → (perm : Perm) × (n : ℕ) × IsEntry text e perm n
 file_entry_form text rest e front_is h ok =
     elim (cut 32 rest) as (λ o. cut 32 rest ≡ o → option_and_then (λ (m : List ℕ × List ℕ). option_map (λ (s : List ℕ × List ℕ). record { kind = RegularFile; perm = mode_of m.0; size = size_of s.0; path = s.1 }) (cut 32 m.1)) o ≡ Some e → (perm : Perm) × (n : ℕ) × IsEntry text e perm n) [
@@ -74,14 +91,27 @@ file_entry_form text rest e front_is h ok =
       ] refl g
     ] refl h
 
+link_entry_form : (text rest : List ℕ) (e : ManifestEntry) → text ≡ codes "link " ++ rest → link_entry rest ≡ Some e → entry_fault (Some e) ≡ None → (perm : Perm) × (n : ℕ) × IsEntry text e perm n
+link_entry_form text rest e front_is h ok =
+    elim (cut 32 rest) as (λ o. cut 32 rest ≡ o → option_map (λ (s : List ℕ × List ℕ). link_with (size_of s.0) s.1) o ≡ Some e → (perm : Perm) × (n : ℕ) × IsEntry text e perm n) [
+      | None ↦ λ k g. absurd (cc)
+      | Some s ↦ λ k g.
+          let apart = joined-cut 32 rest s.0 s.1 k in
+          let same : link_with (size_of s.0) s.1 ≡ e = cc in
+          subst (λ (x : ManifestEntry). entry_fault (Some x) ≡ None → (perm : Perm) × (n : ℕ) × IsEntry text x perm n) same (link_form text rest s.0 s.1 front_is apart) ok
+    ] refl h
+
 pub entry_form : (text : List ℕ) (e : ManifestEntry) → entry_of text ≡ Some e → entry_fault (Some e) ≡ None → (perm : Perm) × (n : ℕ) × IsEntry text e perm n
 entry_form text e h ok =
-    elim (after (codes "dir ") text) as (λ o. after (codes "dir ") text ≡ o → option_or (option_map dir_entry o) (option_and_then file_entry (after (codes "file ") text)) ≡ Some e → (perm : Perm) × (n : ℕ) × IsEntry text e perm n) [
+    elim (after (codes "dir ") text) as (λ o. after (codes "dir ") text ≡ o → entry_behind o (after (codes "file ") text) (after (codes "link ") text) ≡ Some e → (perm : Perm) × (n : ℕ) × IsEntry text e perm n) [
       | Some path ↦ λ k g.
           let same : dir_entry path ≡ e = cc in
           subst (λ (x : ManifestEntry). (perm : Perm) × (n : ℕ) × IsEntry text x perm n) same (dir_perm, 0, dir_entry-is text path k)
-      | None ↦ λ k g. elim (after (codes "file ") text) as (λ o. after (codes "file ") text ≡ o → option_and_then file_entry o ≡ Some e → (perm : Perm) × (n : ℕ) × IsEntry text e perm n) [
-        | None ↦ λ l w. absurd (cc)
+      | None ↦ λ k g. elim (after (codes "file ") text) as (λ o. after (codes "file ") text ≡ o → entry_behind None o (after (codes "link ") text) ≡ Some e → (perm : Perm) × (n : ℕ) × IsEntry text e perm n) [
         | Some rest ↦ λ l w. file_entry_form text rest e (append-after (codes "file ") text rest l) w ok
+        | None ↦ λ l w. elim (after (codes "link ") text) as (λ o. after (codes "link ") text ≡ o → entry_behind None None o ≡ Some e → (perm : Perm) × (n : ℕ) × IsEntry text e perm n) [
+          | None ↦ λ m z. absurd (cc)
+          | Some rest ↦ λ m z. link_entry_form text rest e (append-after (codes "link ") text rest m) z ok
+        ] refl w
       ] refl g
     ] refl h

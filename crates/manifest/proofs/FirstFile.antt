@@ -8,7 +8,7 @@ use Rattle.std.specs.Option.{option_map}
 use Rattle.directory_index.proofs.Standings.{same-number}
 use Rattle.directory_index.specs.Standing.{Standing, IsFirstFrom as IsFirstNumber, StandsIn as NumberStandsIn}
 use Rattle.eden_base.specs.declared.number.FileId.{FileId}
-use Rattle.manifest.specs.Manifest.{most_lines, line_of, AreLines, Line}
+use Rattle.manifest.specs.Manifest.{most_files, line_of, AreLines, Line}
 use Rattle.manifest.specs.Tree.{link_cmp, links_from, IsFirstFrom, StandsIn}
 use Rattle.manifest.proofs.ManifestTree.{file_with, line_of_link, link_of_line, same_id}
 use Rattle.manifest.proofs.MoreLines.{apart}
@@ -39,7 +39,7 @@ first-file links dir least (Some n) (Some file) first is = (
 )
 
 -- a file of a manifest's lines has one of few ids
-pub first-few : (lines : List Line) → AreLines lines → (dir : FileId) (least : ℕ) (found : Option FileId) → IsFirstFrom (links_from 2 lines) dir least found → IfSome found (λ file. file.0 < most_lines + 2)
+pub first-few : (lines : List Line) → AreLines lines → (dir : FileId) (least : ℕ) (found : Option FileId) → IsFirstFrom (links_from 2 lines) dir least found → IfSome found (λ file. file.0 < most_files + 2)
 first-few lines are dir least None first = tt
 first-few lines are dir least (Some file) first =
     let r = line_of_link lines 2 dir.0 first.0.0 file first.0.1 in

@@ -13,16 +13,17 @@ use Rattle.eden_base.specs.Limits.{greatest_size}
 use Rattle.eden_base.specs.Name.{is_separator, is_dots}
 use Rattle.eden_base.specs.Text.{cut}
 use Rattle.eden_base.specs.declared.attr.Kind.{Kind}
-use Rattle.eden_base.specs.declared.attr.Kind.TheVariants.{Dir, File as RegularFile}
+use Rattle.eden_base.specs.declared.attr.Kind.TheVariants.{Dir, Link, File as RegularFile}
 use Rattle.eden_base.specs.declared.attr.Perm.{Perm}
 use Rattle.eden_base.specs.declared.name.NameFault.TheVariants.{Empty, TooLong, BadByte, Dots}
 use Rattle.eden_base.specs.declared.number.FileId.{FileId}
 use Rattle.manifest.specs.Manifest.{File, Line, Manifest, IsLine, AreLines, IsManifest, most_lines}
 use Rattle.manifest.specs.ManifestForm.{IsManifestForm, IsLineForm, AreLinesForm, IsSayable, fields_text, path_text, mode_text}
-use Rattle.manifest.specs.ManifestText.{ManifestEntry, entry_of, names_of, tree_so_far, only_dir, parent_of, place_fault, placed, line_of_entry, line_of_text, on_line, read_on, fault_at, lines_of, commit_of, after_commit, with_commit, manifest_of_lines, manifest_of}
+use Rattle.manifest.specs.ManifestText.{ManifestEntry, entry_of, line_fault, placed, line_of_entry, line_of_text, on_line, read_on, fault_at, lines_of, commit_of, after_commit, with_commit, manifest_of_lines, manifest_of}
+use Rattle.manifest.specs.Placing.{names_of, tree_so_far, only_dir, parent_of, place_fault}
 use Rattle.manifest.specs.Names.{is_name}
 use Rattle.manifest.specs.Text.{front, last, mode_of, size_of}
-use Rattle.manifest.specs.Tree.{Tree, root, file_at, kind_of, child_of, is_dir, files_from}
+use Rattle.manifest.specs.Tree.{Tree, root, file_at, kind_of, child_of, is_dir, files_from, link_perm}
 use Rattle.hex.specs.Hex.{decode_sized}
 use Rattle.manifest.proofs.FieldForms.{mode_of-mode_text, size_of-decimal_text, size-without, mode-without}
 use Rattle.manifest.proofs.FormLaws.{place_test}
@@ -74,11 +75,18 @@ entry-file perm size path small =
     ∙ ap (option_map (λ (s : List ℕ × List ℕ). entry RegularFile (mode_of (mode_text perm)) (size_of s.0) s.1)) second
     ∙ (λ i. Some (entry RegularFile (mode_of-mode_text perm i) (size_of-decimal_text size small i) path))
 
+entry-link : (size : ℕ) (path : List ℕ) → size ≤ greatest_size → entry_of (fields_text Link link_perm size ++ path) ≡ Some (entry Link (Some link_perm) (Some size) path)
+entry-link size path small =
+    let apart : fields_text Link link_perm size ++ path ≡ codes "link " ++ (decimal size ++ 32 ∷ path) = ap (λ xs. codes "link " ++ xs) (append_assoc (decimal size) (32 ∷ []) path) in
+    ap entry_of apart ∙ ap (option_map (λ (s : List ℕ × List ℕ). entry Link (Some link_perm) (size_of s.0) s.1)) (cut-append 32 (decimal size) path (size-without size small))
+    ∙ (λ i. Some (entry Link (Some link_perm) (size_of-decimal_text size small i) path))
+
 entry-line : (file : File) (path : List ℕ) → IsSayable file.kind file → file.size ≤ greatest_size → entry_of (fields_text file.kind file.perm file.size ++ path) ≡ Some (entry file.kind (Some file.perm) (Some file.size) path)
 entry-line file path sayable small =
     elim file.kind as (λ k. IsSayable k file → entry_of (fields_text k file.perm file.size ++ path) ≡ Some (entry k (Some file.perm) (Some file.size) path)) [
       | Dir ↦ λ h. let back = sym h in λ i. Some (entry Dir (Some (back i).perm) (Some (back i).size) path)
       | RegularFile ↦ λ h. entry-file file.perm file.size path small
+      | Link ↦ λ h. subst (λ (p : Perm). entry_of (fields_text Link p file.size ++ path) ≡ Some (entry Link (Some p) (Some file.size) path)) (sym h) (entry-link file.size path small)
     ] sayable
 
 -- ---- places
@@ -96,7 +104,7 @@ longer : (xs : List Line) (y : Line) (ys : List Line) → length xs < length (xs
 longer [] y ys = omega arith
 longer (x ∷ xs) y ys = let h = longer xs y ys in omega (arith, h)
 
-module _ (above : List Line) (line : Line) (below : List Line) (are : AreLines (above ++ line ∷ below)) where
+module _ (above : List Line) (line : Line) (below : List Line) (are : AreLines (above ++ line ∷ below)) (all_few : length (above ++ line ∷ below) ≤ most_lines) where
   abbrev tree : Tree
   tree = tree_so_far above
 
@@ -120,7 +128,7 @@ module _ (above : List Line) (line : Line) (below : List Line) (are : AreLines (
       absurd (is_line.place_is_new r.place r.line lt (slice_get-left above (line ∷ below) r.place lt ∙ r.here) (same_id r.line.dir line.dir r.dir_is) r.name_is)
 
   few : nat_le most_lines (length above) ≡ false
-  few = let h = longer above line below in let m = are.few in grind (arith, nat_tests)
+  few = let h = longer above line below in let m = all_few in grind (arith, nat_tests)
 
   -- the line is read where its path is these names
   module _ (names : List (List ℕ)) (lead : file_at tree root names ≡ Some line.dir) (are_names : list_all is_name (names ++ line.name ∷ []) ≡ true) where
@@ -141,13 +149,13 @@ module _ (above : List Line) (line : Line) (below : List Line) (are : AreLines (
     child_is : child_of tree (unwrap_or (parent_of above path) root) (last (names_of path)) ≡ None
     child_is = (λ i. child_of tree (unwrap_or (parent_is i) root) (last_is i)) ∙ is_new _ refl
 
-    no_fault : place_fault above path ≡ None
+    no_fault : place_fault most_lines above path ≡ None
     no_fault = λ i. place_test ((ap (list_all is_name) parted ∙ are_names) i) (parent_is i) (child_is i) (few i)
 
     entry_read : line_of_entry above (Some (entry line.file.kind (Some line.file.perm) (Some line.file.size) path)) ≡ Ok line
     entry_read =
         let e = entry line.file.kind (Some line.file.perm) (Some line.file.size) path in
-        ap (placed above e) no_fault ∙ (λ i. Ok (record { dir = unwrap_or (parent_is i) root; name = last_is i; file = line.file }))
+        ap (λ o. placed above e (option_map line_fault o)) no_fault ∙ (λ i. Ok (record { dir = unwrap_or (parent_is i) root; name = last_is i; file = line.file }))
 
   pub line_read : (text : List ℕ) → IsLineForm above line text → line_of_text above text ≡ Ok line
   line_read text f =
@@ -156,15 +164,15 @@ module _ (above : List Line) (line : Line) (below : List Line) (are : AreLines (
 
 -- ---- lines
 
-lines_read : (lines above : List Line) (n : ℕ) (text : List ℕ) → AreLines (above ++ lines) → AreLinesForm above lines text → read_on above n (lines_of text) ≡ Ok (above ++ lines)
-lines_read [] above n text are is = ap (λ t. read_on above n (lines_of t)) is ∙ ap (λ ls. Ok ls) (sym (append-nil above))
-lines_read (line ∷ lines) above n text are (first, rest, form, is, others) =
+lines_read : (lines above : List Line) (n : ℕ) (text : List ℕ) → AreLines (above ++ lines) → length (above ++ lines) ≤ most_lines → AreLinesForm above lines text → read_on above n (lines_of text) ≡ Ok (above ++ lines)
+lines_read [] above n text are all_few is = ap (λ t. read_on above n (lines_of t)) is ∙ ap (λ ls. Ok ls) (sym (append-nil above))
+lines_read (line ∷ lines) above n text are all_few (first, rest, form, is, others) =
     let whole = ap lines_of is ∙ parts-append 10 first rest form.is_one_line in
     let again : (above ++ line ∷ []) ++ lines ≡ above ++ line ∷ lines = append_assoc above (line ∷ []) lines in
-    let read = line_read above line lines are first form in
+    let read = line_read above line lines are all_few first form in
     ap (read_on above n) whole ∙ read_on-more above n first rest
     ∙ ap (λ r. on_line r (λ (l : Line). read_on (above ++ l ∷ []) (n + 1) (lines_of rest)) (λ fault. Err (fault_at n fault))) read
-    ∙ lines_read lines (above ++ line ∷ []) (n + 1) rest (subst AreLines (sym again) are) others ∙ ap (λ ls. Ok ls) again
+    ∙ lines_read lines (above ++ line ∷ []) (n + 1) rest (subst AreLines (sym again) are) (subst (λ (ls : List Line). length ls ≤ most_lines) (sym again) all_few) others ∙ ap (λ ls. Ok ls) again
 
 -- ---- the whole
 
@@ -176,6 +184,6 @@ read_of_form text m is form =
     let line = codes "commit " ++ form.digits in
     let whole = ap lines_of form.is ∙ parts-append 10 line form.rest (hex-one_line m.commit form.digits form.is_hex) in
     let commit = commit_read m.commit form.digits is.commit (sized_of_hex m.commit form.digits is.commit form.is_hex) in
-    let lines = lines_read m.lines [] 2 form.rest is.lines form.are_lines in
+    let lines = lines_read m.lines [] 2 form.rest is.lines form.few form.are_lines in
     ap (λ digest. manifest_of_lines digest (lines_of text)) form.has_digest ∙ ap (manifest_of_lines m.digest) whole
     ∙ ap (λ o. after_commit m.digest o (lines_of form.rest)) commit ∙ after_commit-some m.digest m.commit form.rest ∙ ap (with_commit m.digest m.commit) lines

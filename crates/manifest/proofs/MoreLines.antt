@@ -7,7 +7,7 @@ use Rattle.std.specs.FinMap.{get}
 use Rattle.eden_base.specs.Limits.{greatest_size}
 use Rattle.eden_base.specs.Name.{IsNameText}
 use Rattle.eden_base.specs.declared.number.FileId.{FileId}
-use Rattle.manifest.specs.Manifest.{Line, IsDirBefore, AreLines, most_lines}
+use Rattle.manifest.specs.Manifest.{Line, IsDirBefore, AreLines, most_files}
 use Rattle.manifest.specs.Tree.{links_from}
 use Rattle.manifest.proofs.ManifestTree.{AreApart, link_of_line}
 
@@ -31,7 +31,7 @@ dir_before-front lines l i dir (inl e) = inl e
 dir_before-front lines l i dir (inr w) = inr (w.0, w.1, w.2, w.3, slice_get-front lines l w.0 w.1 w.4, w.5)
 
 -- a line at a new place, in a directory that is there
-pub AreLines-push : (lines : List Line) (l : Line) → AreLines lines → length lines < most_lines → l.file.size ≤ greatest_size → IsNameText l.name → IsDirBefore lines (length lines) l.dir → get (links_from 2 lines) (l.dir.0, l.name) ≡ None → AreLines (lines ++ l ∷ [])
+pub AreLines-push : (lines : List Line) (l : Line) → AreLines lines → length lines < most_files → l.file.size ≤ greatest_size → IsNameText l.name → IsDirBefore lines (length lines) l.dir → get (links_from 2 lines) (l.dir.0, l.name) ≡ None → AreLines (lines ++ l ∷ [])
 AreLines-push lines l are few size name dir new = record {
   few = let e = length_push lines l in omega arith;
   each = λ i x here. elim (slice_get-push lines l i x here) [

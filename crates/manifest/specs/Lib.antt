@@ -5,6 +5,7 @@ pub mod ManifestForm
 pub mod ManifestText
 pub mod Names
 pub mod Places
+pub mod Placing
 pub mod Tally
 pub mod Text
 pub mod Tree

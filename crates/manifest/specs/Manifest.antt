@@ -24,9 +24,13 @@ pub record Manifest : Type 0 where
   pub digest : List ℕ
   pub lines : List Line
 
--- how many lines may follow the commit's
+-- how many lines may follow the commit's in a text
 abbrev pub most_lines : ℕ
 most_lines = 65535
+
+-- how many lines a manifest may have, wherever it is from
+abbrev pub most_files : ℕ
+most_files = 16777215
 
 -- the directory is the root, or that of a line before line i
 abbrev pub IsDirBefore : List Line → ℕ → FileId → Type 0
@@ -45,7 +49,7 @@ pub record IsLine (lines : List Line) (i : ℕ) (line : Line) : Type 0 where
 
 -- each line stands in the root or in the directory of an earlier line, and no two lines at one place
 pub record AreLines (lines : List Line) : Type 0 where
-  pub few : length lines ≤ most_lines
+  pub few : length lines ≤ most_files
   pub each : (i : ℕ) (line : Line) → slice_get lines i ≡ Some line → IsLine lines i line
 
 -- a manifest has a commit of twenty bytes, and such lines

@@ -1,15 +1,16 @@
 -- Which texts say a manifest. There are several, since the commit's digits may be of either case. (This project's own
 -- format.)
-use Rattle.std.specs.Prelude.{◌≡◌, ◌<◌, ◌≤◌, ◌⊎◌, ℕ, ◌+◌, ◌/◌, ◌%◌, ◌==◌, true, false, List, [], ◌∷◌, ◌++◌, codes, Some, Ok}
+use Rattle.std.specs.Prelude.{◌≡◌, ◌<◌, ◌≤◌, ◌⊎◌, ℕ, ◌+◌, ◌/◌, ◌%◌, ◌==◌, true, false, List, [], ◌∷◌, ◌++◌, length, codes, Some, Ok}
 use Rattle.std.specs.Fmt.{decimal}
 use Rattle.std.specs.List.{list_all, list_any}
 use Rattle.eden_base.specs.declared.attr.Kind.{Kind}
-use Rattle.eden_base.specs.declared.attr.Kind.TheVariants.{Dir, File as RegularFile}
+use Rattle.eden_base.specs.declared.attr.Kind.TheVariants.{Dir, Link, File as RegularFile}
 use Rattle.eden_base.specs.declared.attr.Perm.{Perm}
-use Rattle.manifest.specs.Manifest.{File, Line, Manifest, IsManifest}
-use Rattle.manifest.specs.ManifestText.{digest_of, manifest_of, tree_so_far}
+use Rattle.manifest.specs.Manifest.{File, Line, Manifest, IsManifest, most_lines}
+use Rattle.manifest.specs.ManifestText.{digest_of, manifest_of}
 use Rattle.manifest.specs.Names.{is_name}
-use Rattle.manifest.specs.Tree.{file_at, root, root_file}
+use Rattle.manifest.specs.Placing.{tree_so_far}
+use Rattle.manifest.specs.Tree.{file_at, root, root_file, link_perm}
 
 -- this is the hexadecimal digit of a value below sixteen, in either case
 abbrev pub IsHexDigit : ℕ → ℕ → Type 0
@@ -43,11 +44,14 @@ path_text names = joined 47 names
 abbrev pub fields_text : Kind → Perm → ℕ → List ℕ
 fields_text Dir perm size = codes "dir "
 fields_text RegularFile perm size = codes "file " ++ mode_text perm ++ 32 ∷ decimal size ++ 32 ∷ []
+fields_text Link perm size = codes "link " ++ decimal size ++ 32 ∷ []
 
--- a line can say this file; of a directory it says no more than its kind, so permissions and size are the root's
+-- a line can say this file; of a directory it says no more than its kind, so permissions and size are the root's, and
+-- of a symbolic link it says no permissions
 abbrev pub IsSayable : Kind → File → Type 0
 IsSayable Dir file = file ≡ root_file
 IsSayable RegularFile file = Unit {0}
+IsSayable Link file = file.perm ≡ link_perm
 
 -- the text of a line that follows these, without its LF: its fields, and the names that lead to it
 pub record IsLineForm (above : List Line) (line : Line) (text : List ℕ) : Type 0 where
@@ -71,6 +75,7 @@ pub record IsManifestForm (m : Manifest) (text : List ℕ) : Type 0 where
   pub rest : List ℕ
   pub is_hex : IsHexText m.commit digits
   pub are_lines : AreLinesForm [] m.lines rest
+  pub few : length m.lines ≤ most_lines
   pub is : text ≡ codes "commit " ++ digits ++ 10 ∷ rest
   pub has_digest : digest_of text ≡ m.digest
 

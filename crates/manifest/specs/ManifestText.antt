@@ -1,23 +1,23 @@
 -- The text of a manifest, line by line. (This project's own format. A commit is named by the twenty bytes of a hash,
 -- as in Git and EdenFS.)
-use Rattle.std.specs.Prelude.{◌≡◌, ℕ, ◌+◌, ◌<◌, ◌≤◌, not, nat_le, List, [], ◌∷◌, ◌++◌, length, take, codes, Option, Some, None, is_none, is_some, Result, Ok, Err, IsOk, IfErr, unwrap_or, if◌then◌else◌}
+use Rattle.std.specs.Prelude.{◌≡◌, ℕ, ◌+◌, ◌<◌, ◌≤◌, List, [], ◌∷◌, ◌++◌, length, take, codes, Option, Some, None, is_none, Result, Ok, Err, IsOk, IfErr, unwrap_or, if◌then◌else◌}
 use Rattle.std.specs.Option.{option_map, option_and_then, option_or}
 use Rattle.std.specs.Result.{result_ok}
-use Rattle.std.specs.List.{list_all}
 use Rattle.hex.specs.Hex.{decode_sized}
 use Rattle.sha2.specs.Sha256.{sha256}
 use Rattle.eden_base.specs.declared.attr.Kind.{Kind}
-use Rattle.eden_base.specs.declared.attr.Kind.TheVariants.{Dir, File as RegularFile}
+use Rattle.eden_base.specs.declared.attr.Kind.TheVariants.{Dir, Link, File as RegularFile}
 use Rattle.eden_base.specs.declared.attr.Perm.{Perm}
-use Rattle.eden_base.specs.declared.number.FileId.{FileId}
 use Rattle.manifest.specs.declared.fault.ManifestFault.{ManifestFault}
 use Rattle.manifest.specs.declared.fault.ManifestFaultKind.{ManifestFaultKind}
 use Rattle.manifest.specs.declared.fault.ManifestFaultKind.TheVariants.{NoCommit, BadLine, BadMode, BadSize, BadPath, NoParent, Twice, TooManyLines, NoMemory}
+use Rattle.manifest.specs.declared.fault.PlaceFault.{PlaceFault}
+use Rattle.manifest.specs.declared.fault.PlaceFault.TheVariants as place
 use Rattle.manifest.specs.Manifest.{Line, Manifest, most_lines}
-use Rattle.manifest.specs.Names.{is_name}
+use Rattle.manifest.specs.Placing.{line_at, place_fault}
 use Rattle.eden_base.specs.Text.{cut}
-use Rattle.manifest.specs.Text.{after, parts, front, last, mode_of, size_of}
-use Rattle.manifest.specs.Tree.{Tree, tree_of, kind_of, child_of, file_at, root, dir_perm, is_dir}
+use Rattle.manifest.specs.Text.{after, parts, mode_of, size_of}
+use Rattle.manifest.specs.Tree.{dir_perm, link_perm}
 
 -- the lines of a text that are ended by LF, and then what follows the last LF
 abbrev pub lines_of : List ℕ → List (List ℕ)
@@ -48,15 +48,23 @@ file_entry rest =
     (cut 32 m.1))
     (cut 32 rest)
 
--- the entry that a line says, if the line is a directory's or a file's
-abbrev pub entry_of : List ℕ → Option ManifestEntry
-entry_of line =
-    option_or (option_map dir_entry (after (codes "dir ") line))
-    (option_and_then file_entry (after (codes "file ") line))
+-- the entry of what follows `link ` in a line, `SIZE PATH`, if it has these fields
+abbrev pub link_entry : List ℕ → Option ManifestEntry
+link_entry rest =
+    option_map
+    (λ (s : List ℕ × List ℕ). record { kind = Link; perm = Some link_perm; size = size_of s.0; path = s.1 })
+    (cut 32 rest)
 
--- the names of a path
-abbrev pub names_of : List ℕ → List (List ℕ)
-names_of path = parts 47 path
+-- the entry of what follows a line's first word, which is that of a directory, a file or a link
+abbrev pub entry_behind : Option (List ℕ) → Option (List ℕ) → Option (List ℕ) → Option ManifestEntry
+entry_behind (Some path) file link = Some (dir_entry path)
+entry_behind None (Some rest) link = file_entry rest
+entry_behind None None (Some rest) = link_entry rest
+entry_behind None None None = None
+
+-- the entry that a line says, if the line is a directory's, a file's or a symbolic link's
+abbrev pub entry_of : List ℕ → Option ManifestEntry
+entry_of line = entry_behind (after (codes "dir ") line) (after (codes "file ") line) (after (codes "link ") line)
 
 -- the first fault of a line's fields, in this order, if there is one
 abbrev pub entry_fault : Option ManifestEntry → Option ManifestFaultKind
@@ -66,39 +74,18 @@ entry_fault (Some e) =
     else if is_none e.size then Some BadSize
     else None
 
--- the tree of the lines so far
-abbrev pub tree_so_far : List Line → Tree
-tree_so_far lines = tree_of (record { commit = []; digest = []; lines = lines })
-
--- the file, if it is a directory
-abbrev pub only_dir : Tree → FileId → Option FileId
-only_dir tree file = if is_dir (kind_of tree file) then Some file else None
-
--- the directory at a path, if there is one
-abbrev pub dir_at : Tree → List (List ℕ) → Option FileId
-dir_at tree names = option_and_then (only_dir tree) (file_at tree root names)
-
--- the directory that holds the last name of a path, if there is one
-abbrev pub parent_of : List Line → List ℕ → Option FileId
-parent_of lines path = dir_at (tree_so_far lines) (front (names_of path))
-
--- the first fault of a path after these lines, in this order, if there is one
-abbrev pub place_fault : List Line → List ℕ → Option ManifestFaultKind
-place_fault lines path =
-    if not (list_all is_name (names_of path)) then Some BadPath
-    else if is_none (parent_of lines path) then Some NoParent
-    else if is_some (child_of (tree_so_far lines) (unwrap_or (parent_of lines path) root) (last (names_of path)))
-    then Some Twice
-    else if nat_le most_lines (length lines) then Some TooManyLines
-    else None
+-- a fault of a path, as one of the path's line
+abbrev pub line_fault : PlaceFault → ManifestFaultKind
+line_fault place.BadPath = BadPath
+line_fault place.NoParent = NoParent
+line_fault place.Twice = Twice
+line_fault place.TooManyFiles = TooManyLines
+line_fault place.NoMemory = NoMemory
 
 -- the line that an entry makes after these lines
 abbrev pub line_said : List Line → ManifestEntry → Line
-line_said lines e = record {
-  dir = unwrap_or (parent_of lines e.path) root;
-  name = last (names_of e.path);
-  file = record { kind = e.kind; perm = unwrap_or e.perm dir_perm; size = unwrap_or e.size 0 };
-}
+line_said lines e =
+    line_at lines e.path (record { kind = e.kind; perm = unwrap_or e.perm dir_perm; size = unwrap_or e.size 0 })
 
 -- the line that an entry makes after these lines, or this fault if there is one
 abbrev pub placed : List Line → ManifestEntry → Option ManifestFaultKind → Result Line ManifestFaultKind
@@ -108,7 +95,9 @@ placed lines e (Some fault) = Err fault
 -- the line that an entry makes after these lines, or its first fault
 abbrev pub line_of_entry : List Line → Option ManifestEntry → Result Line ManifestFaultKind
 line_of_entry lines None = Err BadLine
-line_of_entry lines (Some e) = placed lines e (option_or (entry_fault (Some e)) (place_fault lines e.path))
+line_of_entry lines (Some e) =
+    placed lines e
+    (option_or (entry_fault (Some e)) (option_map line_fault (place_fault most_lines lines e.path)))
 
 -- the line that a text makes after these lines, or its first fault
 abbrev pub line_of_text : List Line → List ℕ → Result Line ManifestFaultKind

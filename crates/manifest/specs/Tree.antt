@@ -9,8 +9,10 @@ use Rattle.std.specs.declared.cmp.Ordering.{Ordering}
 use Rattle.std.specs.FinMap.{FinMap, get, insert, empty}
 use Rattle.eden_base.specs.Limits.{end_of_files}
 use Rattle.eden_base.specs.Name.{IsNameText}
+use Rattle.eden_base.specs.Kinds.{kind_made}
 use Rattle.eden_base.specs.declared.attr.Kind.{Kind}
-use Rattle.eden_base.specs.declared.attr.Kind.TheVariants.{Dir, File as RegularFile}
+use Rattle.eden_base.specs.declared.attr.Kind.TheVariants.{Dir, Link, File as RegularFile}
+use Rattle.eden_base.specs.declared.attr.MadeKind.{MadeKind}
 use Rattle.eden_base.specs.declared.attr.Perm.{Perm}
 use Rattle.eden_base.specs.declared.number.FileId.{FileId}
 use Rattle.std.proofs.Common.{lit≤}
@@ -56,11 +58,13 @@ abbrev pub is_dir : Option Kind → Bool
 is_dir None = false
 is_dir (Some RegularFile) = false
 is_dir (Some Dir) = true
+is_dir (Some Link) = false
 
 -- the link count that stat(2) has for a linked file of this kind; a directory names itself
 abbrev pub nlink_of_kind : Kind → ℕ
 nlink_of_kind RegularFile = 1
 nlink_of_kind Dir = 2
+nlink_of_kind Link = 1
 
 -- the file at a path, from this directory down, if any
 abbrev pub file_at : Tree → FileId → List (List ℕ) → Option FileId
@@ -74,6 +78,10 @@ root = record { 0 = 1 }
 -- the permissions of each directory of a manifest: all may read and search it, and its owner alone may write (0o755)
 abbrev pub dir_perm : Perm
 dir_perm = record { bits = 493; in_range = lit≤ tt }
+
+-- the permissions of each symbolic link: all may do all, since Linux follows a link whatever they are (symlink(7))
+abbrev pub link_perm : Perm
+link_perm = record { bits = 511; in_range = lit≤ tt }
 
 -- the root of a manifest's tree, as a file
 abbrev pub root_file : File
@@ -98,6 +106,10 @@ tree_of manifest = record {
   next_file = length manifest.lines + 2;
 }
 
+-- a file that a request made: it is empty, and a regular file or a directory
+abbrev pub IsMadeFile : File → Type 0
+IsMadeFile f = (kind : MadeKind) × (f.kind ≡ kind_made kind) × (f.size ≡ 0)
+
 -- files and links make a tree of the manifest
 pub record IsTree (tree : Tree) : Type 0 where
   pub root_is_dir : kind_of tree root ≡ Some Dir
@@ -106,9 +118,9 @@ pub record IsTree (tree : Tree) : Type 0 where
   -- the manifest's files are as the manifest says, and so is the root
   pub has_manifest_files : (file : FileId) (f : File) → file_of (tree_of tree.manifest) file ≡ Some f →
       file_of tree file ≡ Some f
-  -- all other files were made later, and are empty
+  -- all other files were made later
   pub others_are_later : (file : FileId) (f : File) → file_of tree file ≡ Some f →
-      (file_of (tree_of tree.manifest) file ≡ Some f) ⊎ ((length tree.manifest.lines + 2 ≤ file.0) × (f.size ≡ 0))
+      (file_of (tree_of tree.manifest) file ≡ Some f) ⊎ ((length tree.manifest.lines + 2 ≤ file.0) × IsMadeFile f)
   pub links_have_names : (dir : FileId) (name : List ℕ) (file : FileId) → child_of tree dir name ≡ Some file →
       IsNameText name
   pub links_give_files : (dir : FileId) (name : List ℕ) (file : FileId) → child_of tree dir name ≡ Some file →

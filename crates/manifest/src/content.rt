@@ -10,7 +10,7 @@ use eden_base::{Kind, Perm};
 pub struct Content {
     pub kind: Kind,
     pub perm: Perm,
-    /// The size in bytes; 0 for a directory.
+    /// The size in bytes; 0 for a directory. A symbolic link has that of its target.
     pub size: u64,
 }
 
@@ -21,5 +21,6 @@ pub fn nlink_of_kind(kind: Kind) -> u32
     match kind {
         Kind::File => 1,
         Kind::Dir => 2,
+        Kind::Link => 1,
     }
 }

@@ -1,7 +1,7 @@
 //! What one line of a manifest says.
 ghost use Rattle.std.specs.Prelude.{◌≡◌, ◌≤◌, IfErr, IfOk, Some};
 ghost use Rattle.eden_base.specs.Limits.{greatest_size};
-ghost use Rattle.manifest.specs.ManifestText.{dir_entry, entry_of, file_entry, entry_fault};
+ghost use Rattle.manifest.specs.ManifestText.{dir_entry, entry_of, file_entry, link_entry, entry_fault};
 
 use crate::ManifestFaultKind;
 use crate::field::{after, mode_of, size_of};
@@ -39,6 +39,9 @@ impl<'a> ManifestEntry<'a> {
         if let Some(rest) = after(b"file ".as_slice(), line) {
             return ManifestEntry::of_file(rest);
         }
+        if let Some(rest) = after(b"link ".as_slice(), line) {
+            return ManifestEntry::of_link(rest);
+        }
         Err(ManifestFaultKind::BadLine)
     }
 
@@ -68,6 +71,31 @@ impl<'a> ManifestEntry<'a> {
         Ok(ManifestEntry {
             kind: Kind::File,
             perm,
+            size,
+            path,
+        })
+    }
+
+    /// Reads what follows `link ` in a line: `SIZE PATH`.
+    fn of_link(rest: &'a [u8]) -> Result<ManifestEntry<'a>, ManifestFaultKind>
+        ensures entry { IfOk result (λ e. link_entry rest.now ≡ Some (record {
+          kind = e.kind;
+          perm = Some e.perm;
+          size = Some e.size;
+          path = e.path.now;
+        })) }
+        ensures small { IfOk result (λ e. e.size ≤ greatest_size) }
+        ensures refused { IfErr result (λ fault. entry_fault (link_entry rest.now) ≡ Some fault) }
+    {
+        let Some((size, path)) = cut(rest, b' ') else {
+            return Err(ManifestFaultKind::BadLine);
+        };
+        let Some(size) = size_of(size) else {
+            return Err(ManifestFaultKind::BadSize);
+        };
+        Ok(ManifestEntry {
+            kind: Kind::Link,
+            perm: Perm::LINK,
             size,
             path,
         })

@@ -1,5 +1,6 @@
-//! Why bytes are no manifest.
-ghost use Rattle.std.specs.Prelude.{Some};
+//! Why bytes are no manifest, and why a file can't be one of a manifest.
+ghost use Rattle.std.specs.Prelude.{◌≡◌, Some};
+ghost use Rattle.manifest.specs.ManifestText.{line_fault};
 ghost use Rattle.manifest.specs.Words.{kind_text};
 
 use std::fmt;
@@ -14,12 +15,42 @@ pub struct ManifestFault {
     pub kind: ManifestFaultKind,
 }
 
+/// Why no file can be added at a path. If several variants apply, the first in this order is the fault.
+#[derive(Clone, Copy, Debug, PartialEq, Eq, Error)]
+pub enum PlaceFault {
+    #[error("a part of the path, between slashes, is no name")]
+    BadPath,
+    #[error("no earlier file is the directory that holds the file")]
+    NoParent,
+    #[error("an earlier file has the same path")]
+    Twice,
+    #[error("there are as many files as there may be")]
+    TooManyFiles,
+    #[error("out of memory")]
+    NoMemory,
+}
+
+impl PlaceFault {
+    /// Returns this fault of a path as one of the path's line.
+    pub(crate) fn of_line(self) -> ManifestFaultKind
+        ensures fault { result ≡ line_fault self }
+    {
+        match self {
+            PlaceFault::BadPath => ManifestFaultKind::BadPath,
+            PlaceFault::NoParent => ManifestFaultKind::NoParent,
+            PlaceFault::Twice => ManifestFaultKind::Twice,
+            PlaceFault::TooManyFiles => ManifestFaultKind::TooManyLines,
+            PlaceFault::NoMemory => ManifestFaultKind::NoMemory,
+        }
+    }
+}
+
 /// What is wrong with a line. If several variants apply, the first in this order is the fault.
 #[derive(Clone, Copy, Debug, PartialEq, Eq)]
 pub enum ManifestFaultKind {
     /// The first line isn't `commit ` and forty hexadecimal digits.
     NoCommit,
-    /// The line isn't ended, or is neither `dir PATH` nor `file MODE SIZE PATH`.
+    /// The line isn't ended, or is none of `dir PATH`, `file MODE SIZE PATH` and `link SIZE PATH`.
     BadLine,
     /// The mode isn't four octal digits.
     BadMode,

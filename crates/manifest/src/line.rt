@@ -16,7 +16,7 @@ pub struct Line {
     pub name: Name,
     pub kind: Kind,
     pub perm: Perm,
-    /// The size in bytes; 0 for a directory.
+    /// The size in bytes; 0 for a directory. A symbolic link has that of its target.
     pub size: u64,
 }
 

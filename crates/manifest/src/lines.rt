@@ -1,9 +1,10 @@
 //! The lines of a manifest, and the places that they take.
-ghost use Rattle.std.specs.Prelude.{◌≡◌, [], ◌∷◌, ◌++◌, ◌+◌, ◌<◌, ◌≤◌, IfErr, IfOk, IfSome, IsOkAnd, MatchOption, OnOk, length, Some, None};
+ghost use Rattle.std.specs.Prelude.{◌≡◌, [], ◌∷◌, ◌++◌, ◌+◌, ◌<◌, ◌≤◌, IfErr, IfOk, IfSome, IsOkAnd, MatchOption, OnErr, OnOk, length, Some, None};
 ghost use Rattle.std.specs.FinMap.{get};
 ghost use Rattle.eden_base.specs.Limits.{greatest_size};
-ghost use Rattle.manifest.specs.Manifest.{AreLines, IsDirBefore, most_lines, kids_in};
-ghost use Rattle.manifest.specs.ManifestText.{line_of_text, IsLineRefusal, parent_of, place_fault, names_of, tree_so_far};
+ghost use Rattle.manifest.specs.Manifest.{AreLines, IsDirBefore, most_files, kids_in};
+ghost use Rattle.manifest.specs.ManifestText.{line_of_text, IsLineRefusal};
+ghost use Rattle.manifest.specs.Placing.{line_at, names_of, parent_of, place_fault, tree_so_far, IsPlaceRefusal};
 ghost use Rattle.manifest.specs.Text.{front, last};
 ghost use Rattle.manifest.specs.Tree.{file_at, links_from, root, IsFirstFrom};
 
@@ -12,7 +13,7 @@ use crate::field::is_path;
 use crate::line::{kind_of, line_of};
 use crate::places::LinePlaces;
 use crate::tally::Tally;
-use crate::{Line, ManifestFaultKind};
+use crate::{Content, Line, ManifestFaultKind, PlaceFault};
 use directory_index::DirectoryIndex;
 use eden_base::{FileId, Kind, Name, NoMemory, cut};
 use std::alloc::Global;
@@ -47,7 +48,7 @@ impl Model for Lines {
 }
 
 impl Lines {
-    /// How many lines may follow the line of the commit.
+    /// How many lines may follow the line of the commit in a text.
     const MAX_LINES: usize = 65535;
 
     /// Makes an empty list of lines.
@@ -64,7 +65,7 @@ impl Lines {
     /// Returns how many lines there are.
     pub fn len(&self) -> usize
         ensures len { result ≡ length self.now }
-        ensures few { result ≤ most_lines }
+        ensures few { result ≤ most_files }
     {
         self.lines.len()
     }
@@ -91,7 +92,7 @@ impl Lines {
     /// Looks first whether `least` stands there itself: lines of one directory mostly follow one another.
     pub fn first_from(&self, dir: FileId, least: FileId) -> Option<FileId>
         ensures first { IsFirstFrom (links_from 2 self.now) dir least.0 result }
-        ensures few { IfSome result (λ file. file.0 < most_lines + 2) }
+        ensures few { IfSome result (λ file. file.0 < most_files + 2) }
     {
         if let Some(line) = line_of(self.lines.as_slice(), least)
             && line.dir.0 == dir.0
@@ -108,53 +109,80 @@ impl Lines {
         self.kids.count(dir.0)
     }
 
-    /// Reads one more line, which is given without its LF, and appends it.
-    pub fn add(&mut self, alloc: Global, text: &[u8]) -> Result<(), ManifestFaultKind>
+    /// Reads one more line of a text, which is given without its LF, and appends it.
+    pub fn read(&mut self, alloc: Global, text: &[u8]) -> Result<(), ManifestFaultKind>
         ensures added { OnOk result (IsOkAnd (line_of_text self.old text.now) (λ line.
             self.new ≡ self.old ++ line ∷ [])) }
         ensures refused { IfErr result (IsLineRefusal (line_of_text self.old text.now)) }
     {
         let entry = ManifestEntry::read(text)?;
-        let (dir, bytes) = self.place(entry.path)?;
-        let Ok(name) = Name::parse(alloc, bytes) else {
-            return Err(ManifestFaultKind::NoMemory);
-        };
-        let line = Line {
-            dir,
-            name,
+        let file = Content {
             kind: entry.kind,
             perm: entry.perm,
             size: entry.size,
         };
+        match self.add(alloc, Lines::MAX_LINES, entry.path, file) {
+            Ok(()) => Ok(()),
+            Err(fault) => Err(fault.of_line()),
+        }
+    }
+
+    /// Appends the line of one more file, at a path from the root, if there are fewer than `most` lines.
+    pub fn add(
+        &mut self,
+        alloc: Global,
+        most: usize,
+        path: &[u8],
+        file: Content,
+    ) -> Result<(), PlaceFault>
+        requires most { most ≤ most_files }
+        requires size { file.size ≤ greatest_size }
+        ensures fits { OnOk result (place_fault most self.old path.now ≡ None) }
+        ensures added { OnOk result (self.new ≡ self.old ++ line_at self.old path.now file ∷ []) }
+        ensures refused { IfErr result (IsPlaceRefusal (place_fault most self.old path.now)) }
+        ensures same { OnErr result (self.new ≡ self.old) }
+    {
+        let (dir, bytes) = self.place(most, path)?;
+        let Ok(name) = Name::parse(alloc, bytes) else {
+            return Err(PlaceFault::NoMemory);
+        };
+        let line = Line {
+            dir,
+            name,
+            kind: file.kind,
+            perm: file.perm,
+            size: file.size,
+        };
         match self.push(alloc, line) {
             Ok(()) => Ok(()),
-            Err(_) => Err(ManifestFaultKind::NoMemory),
+            Err(_) => Err(PlaceFault::NoMemory),
         }
     }
 
     /// Returns the directory and the name with which `path` ends, if the next line may stand there, or else why not.
-    fn place<'a>(&self, path: &'a [u8]) -> Result<(FileId, &'a [u8]), ManifestFaultKind>
-        ensures fits { OnOk result (place_fault self.now path.now ≡ None) }
+    fn place<'a>(&self, most: usize, path: &'a [u8]) -> Result<(FileId, &'a [u8]), PlaceFault>
+        ensures fits { OnOk result (place_fault most self.now path.now ≡ None) }
         ensures dir { IfOk result (λ p. parent_of self.now path.now ≡ Some p.0) }
         ensures name { IfOk result (λ p. p.1.now ≡ last (names_of path.now)) }
         ensures before { IfOk result (λ p. IsDirBefore self.now (length self.now) p.0) }
         ensures new { IfOk result (λ p. get (links_from 2 self.now) (p.0.0, p.1.now) ≡ None) }
-        ensures refused { IfErr result (λ fault. place_fault self.now path.now ≡ Some fault) }
+        ensures room { OnOk result (length self.now < most) }
+        ensures refused { IfErr result (λ fault. place_fault most self.now path.now ≡ Some fault) }
     {
         if !is_path(path) {
-            return Err(ManifestFaultKind::BadPath);
+            return Err(PlaceFault::BadPath);
         }
         let Some((dir, name)) = self.walk(path) else {
-            return Err(ManifestFaultKind::NoParent);
+            return Err(PlaceFault::NoParent);
         };
         if kind_of(self.lines.as_slice(), dir) != Some(Kind::Dir) {
-            return Err(ManifestFaultKind::NoParent);
+            return Err(PlaceFault::NoParent);
         }
         if self.child(dir, name).is_some() {
-            return Err(ManifestFaultKind::Twice);
+            return Err(PlaceFault::Twice);
         }
-        if self.len() >= Lines::MAX_LINES {
-            return Err(ManifestFaultKind::TooManyLines);
+        if self.len() >= most {
+            return Err(PlaceFault::TooManyFiles);
         }
         Ok((dir, name))
     }
@@ -177,11 +205,12 @@ impl Lines {
 
     /// Appends a line, whose place is new.
     fn push(&mut self, alloc: Global, line: Line) -> Result<(), NoMemory>
-        requires room { length self.old < most_lines }
+        requires room { length self.old < most_files }
         requires size { line.file.size ≤ greatest_size }
         requires dir { IsDirBefore self.old (length self.old) line.dir }
         requires new { get (links_from 2 self.old) (line.dir.0, line.name) ≡ None }
-        ensures { IfOk result (λ _. self.new ≡ self.old ++ line ∷ []) }
+        ensures added { OnOk result (self.new ≡ self.old ++ line ∷ []) }
+        ensures same { OnErr result (self.new ≡ self.old) }
     {
         let file = self.len() as u64 + 2;
         self.lines.reserve(1)?;

@@ -1,7 +1,7 @@
 //! The list of what a commit contains.
 ghost use Rattle.std.specs.Prelude.{◌≡◌, ◌+◌, ◌<◌, [], IfErr, IfOk, IfSome, Ok, length};
 ghost use Rattle.std.specs.FinMap.{get};
-ghost use Rattle.manifest.specs.Manifest.{most_lines, IsManifest, kids_in};
+ghost use Rattle.manifest.specs.Manifest.{most_files, IsManifest, kids_in};
 ghost use Rattle.manifest.specs.ManifestForm.{AreFormsRead, IsManifestForm};
 ghost use Rattle.manifest.specs.ManifestText.{commit_of, digest_of, lines_of, manifest_of, read_on, with_commit, IsAmongLines, IsAtLine, IsManifestRefusal, IsRefusal};
 
@@ -49,8 +49,8 @@ impl Model for Manifest {
 impl Manifest {
     ghost use Rattle.manifest.specs.Tree.{IsFirstFrom, IsTree, tree_of, files_from, links_from};
 
-    /// Reads a manifest: a line `commit ` with forty hexadecimal digits, and then lines `dir PATH` and `file MODE SIZE
-    /// PATH`. Each line is ended by LF.
+    /// Reads a manifest: a line `commit ` with forty hexadecimal digits, and then lines `dir PATH`, `file MODE SIZE PATH`
+    /// and `link SIZE PATH`. Each line is ended by LF.
     pub fn read(alloc: Global, bytes: &[u8]) -> Result<Manifest, ManifestFault>
         ensures manifest { IfOk result (λ manifest. manifest_of bytes.now ≡ Ok manifest) }
         ensures form { IfOk result (λ manifest. IsManifestForm manifest bytes.now) }
@@ -65,17 +65,32 @@ impl Manifest {
         };
         let lines = read_lines(alloc, rest)?;
         let line = lines.len() + 1;
-        match Arc::new(alloc, lines) {
-            Ok(lines) => Ok(Manifest {
-                commit,
-                digest: digest_of(bytes),
-                lines,
-            }),
-            Err(_) => Err(ManifestFault {
+        match Manifest::of(alloc, commit, digest_of(bytes), lines) {
+            Ok(manifest) => Ok(manifest),
+            Err(NoMemory) => Err(ManifestFault {
                 line,
                 kind: ManifestFaultKind::NoMemory,
             }),
         }
+    }
+
+    /// Makes the manifest with this commit, this digest and these lines.
+    pub(crate) fn of(
+        alloc: Global,
+        commit: [u8; 20],
+        digest: [u8; 20],
+        lines: Lines,
+    ) -> Result<Manifest, NoMemory>
+        ensures manifest { IfOk result (λ manifest. manifest
+            ≡ record { commit = commit; digest = digest; lines = lines }) }
+        ensures is_manifest { IfOk result IsManifest }
+    {
+        let lines = Arc::new(alloc, lines)?;
+        Ok(Manifest {
+            commit,
+            digest,
+            lines,
+        })
     }
 
     /// Returns the name of the commit, as Git and EdenFS name it: the twenty bytes of a hash.
@@ -135,7 +150,7 @@ impl Manifest {
     /// Returns the first file from the id `least` on that the manifest has in the directory `dir`, by rising id, or none.
     pub fn first_from(&self, dir: FileId, least: FileId) -> Option<FileId>
         ensures first { IsFirstFrom (links_from 2 self.now.lines) dir least.0 result }
-        ensures few { IfSome result (λ file. file.0 < most_lines + 2) }
+        ensures few { IfSome result (λ file. file.0 < most_files + 2) }
     {
         self.lines.first_from(dir, least)
     }
@@ -211,7 +226,7 @@ fn read_lines(alloc: Global, bytes: &[u8]) -> Result<Lines, ManifestFault>
                 kind: ManifestFaultKind::BadLine,
             });
         };
-        match lines.add(alloc, text) {
+        match lines.read(alloc, text) {
             Ok(()) => rest = after,
             Err(kind) => return Err(ManifestFault { line, kind }),
         }

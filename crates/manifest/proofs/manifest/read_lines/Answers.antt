@@ -17,7 +17,7 @@ returns-in_default-clause-refused c =
 pub loop-rest-preserved : goal.loop-rest-preserved
 loop-rest-preserved c =
     let old = c.loop-rest.lines in
-    let new = c.add.new.self in
+    let new = c.read.new.self in
     let text = c.in-Some.text.now in
     let after = c.in-Some.after.now in
     let taken = read_on-taken old (length old + 2) text after new c.in-Ok.ensures.added in

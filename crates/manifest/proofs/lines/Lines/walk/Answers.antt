@@ -4,7 +4,7 @@ use Rattle.std.specs.Option.{option_and_then}
 use Rattle.eden_base.specs.declared.number.FileId.{FileId}
 use Rattle.manifest.specs.Text.{front, last}
 use Rattle.manifest.specs.Tree.{file_at}
-use Rattle.manifest.specs.ManifestText.{names_of, tree_so_far}
+use Rattle.manifest.specs.Placing.{names_of, tree_so_far}
 use Rattle.manifest.proofs.TextLemmas.{parts-cut, parts-no_cut, front-more, last-more}
 use Rattle.manifest.proofs.lines.Lines.walk.Goals as goal
 

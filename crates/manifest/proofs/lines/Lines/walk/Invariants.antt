@@ -2,7 +2,7 @@
 use Rattle.std.proofs.Common.{◌≡◌, length}
 use Rattle.manifest.specs.Text.{front, last}
 use Rattle.manifest.specs.Tree.{file_at, root}
-use Rattle.manifest.specs.ManifestText.{names_of, tree_so_far}
+use Rattle.manifest.specs.Placing.{names_of, tree_so_far}
 use Rattle.manifest.proofs.lines.Lines.walk.Given as goal
 
 abbrev pub invariant-loop-first : goal.invariant-loop-first

@@ -4,8 +4,8 @@ use Rattle.manifest.proofs.FormLaws.{form_of_read}
 use Rattle.manifest.proofs.FormReads.{read_of_form}
 use Rattle.manifest.proofs.manifest.Manifest.read.Goals as goal
 
-pub returns-in-Ok-new-clause-form : goal.returns-in-Ok-new-clause-form
-returns-in-Ok-new-clause-form c = form_of_read c.args.bytes.now _ (search rules)
+pub returns-in-Ok-of-clause-form : goal.returns-in-Ok-of-clause-form
+returns-in-Ok-of-clause-form c = form_of_read c.args.bytes.now _ (search rules)
 
 pub returns-in-Err-clause-forms_are_read : goal.returns-in-Err-clause-forms_are_read
 returns-in-Err-clause-forms_are_read c = read_of_form c.args.bytes.now
@@ -13,8 +13,8 @@ returns-in-Err-clause-forms_are_read c = read_of_form c.args.bytes.now
 pub returns-in_err-lines-clause-forms_are_read : goal.returns-in_err-lines-clause-forms_are_read
 returns-in_err-lines-clause-forms_are_read c = read_of_form c.args.bytes.now
 
-pub returns-in-Ok-new-clause-forms_are_read : goal.returns-in-Ok-new-clause-forms_are_read
-returns-in-Ok-new-clause-forms_are_read c = read_of_form c.args.bytes.now
+pub returns-in-Ok-of-clause-forms_are_read : goal.returns-in-Ok-of-clause-forms_are_read
+returns-in-Ok-of-clause-forms_are_read c = read_of_form c.args.bytes.now
 
-pub returns-clause-forms_are_read : goal.returns-clause-forms_are_read
-returns-clause-forms_are_read c = read_of_form c.args.bytes.now
+pub returns-in-Err-of-clause-forms_are_read : goal.returns-in-Err-of-clause-forms_are_read
+returns-in-Err-of-clause-forms_are_read c = read_of_form c.args.bytes.now
