@@ -1,0 +1,3 @@
+pub mod FieldTexts
+pub mod FormReads
+pub mod RecordLaws
