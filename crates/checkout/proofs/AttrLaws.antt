@@ -3,7 +3,7 @@ use Rattle.std.proofs.Common.{◌≡◌, ℕ, ◌==◌, ◌&&◌, not, Bool, tru
 use Rattle.std.proofs.Math.Bool.{and-false}
 use Rattle.std.specs.Option.{option_map}
 use Rattle.eden_base.specs.declared.attr.Attr.{Attr}
-use Rattle.eden_base.specs.declared.attr.Kind.{Kind}
+use Rattle.eden_base.specs.declared.attr.MadeKind.{MadeKind}
 use Rattle.eden_base.specs.declared.attr.Perm.{Perm}
 use Rattle.eden_base.specs.declared.number.FileId.{FileId}
 use Rattle.manifest.specs.Manifest.{File}
@@ -16,7 +16,7 @@ use Rattle.checkout.proofs.LinkLaws.{linked_from_child, child_from_linked}
 abbrev pub told : Bool → File → Attr
 told unlinked f = record { kind = f.kind; perm = f.perm; size = f.size; nlink = if unlinked then 0 else nlink_of_kind f.kind }
 
-module _ (tree : Tree) (dir : FileId) (name : List ℕ) (kind : Kind) (perm : Perm) where
+module _ (tree : Tree) (dir : FileId) (name : List ℕ) (kind : MadeKind) (perm : Perm) where
   abbrev new : Tree
   new = created tree dir name kind perm
 

@@ -1,6 +1,6 @@
 -- One bad value for each cause, its neighbours in the order of causes, and values that are good in spite of their looks.
 use Rattle.std.proofs.Common.{◌≡◌, ◌<◌, ◌^◌, ℕ, zero, suc, List, [], ◌∷◌, codes, Some, None, refl, inl, arith, slice_get}
-use Rattle.eden_base.specs.declared.attr.Kind.TheVariants.{Dir, File as RegularFile}
+use Rattle.eden_base.specs.declared.attr.MadeKind.TheVariants.{Dir, File as RegularFile}
 use Rattle.checkout.specs.declared.changes.Changes.{Changes}
 use Rattle.manifest.specs.declared.link_change.LinkChange.{LinkChange}
 use Rattle.checkout.specs.BadChanges.{Link, changed_links, IsAboveItself, IsBadChange}

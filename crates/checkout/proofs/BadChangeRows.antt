@@ -4,6 +4,8 @@ use Rattle.std.specs.List.{AllByRecursion}
 use Rattle.std.specs.Option.{option_and_then}
 use Rattle.eden_base.specs.declared.attr.Kind.{Kind}
 use Rattle.eden_base.specs.declared.attr.Kind.TheVariants.{Dir, File as RegularFile}
+use Rattle.eden_base.specs.declared.attr.MadeKind.{MadeKind}
+use Rattle.eden_base.specs.declared.attr.MadeKind.TheVariants as made_kind
 use Rattle.eden_base.specs.declared.number.FileId.{FileId}
 use Rattle.checkout.specs.declared.changes.Changes.{Changes}
 use Rattle.manifest.specs.declared.link_change.LinkChange.{LinkChange}
@@ -19,7 +21,7 @@ abbrev line : ℕ → List ℕ → Kind → Line
 line dir name kind = record { dir = file dir; name = name; file = record { kind = kind; perm = perm_of 493; size = 0 } }
 
 -- a made file
-abbrev pub made : ℕ → Kind → Made
+abbrev pub made : ℕ → MadeKind → Made
 made id kind = record { file = file id; kind = kind; perm = perm_of 420 }
 
 -- a name that gives a file now
@@ -78,7 +80,7 @@ nothing_changed = else_cut (changes [] [] 6) None refl tt
 
 -- a file was made, and a name is gone
 abbrev first_work : Changes
-first_work = changes (made 6 RegularFile ∷ []) (gives 1 (codes "a") 6 ∷ gone 2 (codes "a") ∷ []) 7
+first_work = changes (made 6 made_kind.File ∷ []) (gives 1 (codes "a") 6 ∷ gone 2 (codes "a") ∷ []) 7
 
 made_and_gone : IsBadChange small first_work None
 made_and_gone =
@@ -101,5 +103,5 @@ full_directory : IsBadChange small without_src (Some 1)
 full_directory = else_cut without_src (Some 1) refl (gone_is_not (changed_links small without_src) 1 (codes "src"), tt)
 
 -- 6 and 7 stand in each other
-circle : IsBadChange small (changes (made 6 Dir ∷ made 7 Dir ∷ []) (gives 6 (codes "x") 7 ∷ gives 7 (codes "y") 6 ∷ []) 8) (Some 3)
+circle : IsBadChange small (changes (made 6 made_kind.Dir ∷ made 7 made_kind.Dir ∷ []) (gives 6 (codes "x") 7 ∷ gives 7 (codes "y") 6 ∷ []) 8) (Some 3)
 circle = inl (0, gives 6 (codes "x") 7, refl, refl, (file 7, codes "y" ∷ [], refl, refl), λ j other below. absurd (omega (arith, below)))

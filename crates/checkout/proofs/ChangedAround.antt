@@ -8,7 +8,7 @@ use Rattle.std.specs.List.{Contains}
 use Rattle.std.specs.Option.{option_map, option_or}
 use Rattle.eden_base.proofs.MemberLemmas.{some-is, some-IsSome}
 use Rattle.eden_base.specs.declared.attr.Kind.{Kind}
-use Rattle.eden_base.specs.declared.attr.Kind.TheVariants.{Dir, File as RegularFile}
+use Rattle.eden_base.specs.declared.attr.Kind.TheVariants.{Dir, File as RegularFile, Link as SymbolicLink}
 use Rattle.eden_base.specs.declared.number.FileId.{FileId}
 use Rattle.checkout.specs.declared.changes.Changes.{Changes}
 use Rattle.manifest.specs.declared.link_change.LinkChange.{LinkChange}
@@ -36,6 +36,7 @@ holds_of_none test c none x h =
 dir_if_so : (k : Option Kind) → is_dir k ≡ true → k ≡ Some Dir
 dir_if_so None h = absurd (cc)
 dir_if_so (Some RegularFile) h = absurd (cc)
+dir_if_so (Some SymbolicLink) h = absurd (cc)
 dir_if_so (Some Dir) h = refl
 
 pub kind_there : (o : Option File) → is_some (option_map (λ (f : File). f.kind) o) ≡ true → IsSome o

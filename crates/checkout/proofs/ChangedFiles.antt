@@ -10,6 +10,7 @@ use Rattle.std.specs.List.Sorted.{IsStrictlySortedBy}
 use Rattle.std.specs.Option.{option_map, option_or}
 use Rattle.std.specs.Ordering.{is_eq, nat_cmp}
 use Rattle.std.specs.declared.cmp.Ordering.TheVariants.{Less}
+use Rattle.eden_base.specs.Kinds.{kind_made}
 use Rattle.eden_base.specs.declared.attr.Kind.{Kind}
 use Rattle.eden_base.specs.declared.attr.Kind.TheVariants.{Dir}
 use Rattle.eden_base.specs.declared.number.FileId.{FileId}
@@ -21,6 +22,7 @@ use Rattle.checkout.specs.Changes.{AreMade, IsMade, file_ids}
 use Rattle.manifest.specs.Manifest.{File, Line, Manifest, line_of}
 use Rattle.manifest.specs.Tree.{Tree, files_from}
 use Rattle.checkout.specs.ChangedTree.{made_file}
+use Rattle.checkout.proofs.KindLemmas.{made_kinds_same}
 use Rattle.checkout.proofs.FirstBadLaws.{IsGoodMade, ids_rise, made_good}
 use Rattle.manifest.proofs.ManifestTree.{file_from_line, no_file, no_later_file, root_of_files, same_id}
 use Rattle.manifest.proofs.MapLemmas.{get-insert_other, get-insert_same}
@@ -110,14 +112,14 @@ module _ (m : Manifest) (c : Changes) (none : first_bad (is_bad_made m c.next_fi
   pub changed_kind : (id : ℕ) → option_map (λ (f : File). f.kind) (get (files_with (files_from 2 m.lines) c.made) id) ≡ kind_with m c.made (record { 0 = id })
   changed_kind id =
       ap (option_map (λ (f : File). f.kind)) (changed_files id) ∙ kinds (get (files_from 2 m.lines) id) (made_under id c.made)
-      ∙ ap (λ k. option_or k (option_map (λ (x : Made). x.kind) (made_under id c.made))) (manifest_kind m.lines (record { 0 = id }))
-      ∙ root_first (id == 1) (option_map (λ (line : Line). line.file.kind) (line_of m.lines (record { 0 = id }))) (option_map (λ (x : Made). x.kind) (made_under id c.made))
+      ∙ ap (λ k. option_or k (option_map (λ (x : Made). kind_made x.kind) (made_under id c.made))) (manifest_kind m.lines (record { 0 = id }))
+      ∙ root_first (id == 1) (option_map (λ (line : Line). line.file.kind) (line_of m.lines (record { 0 = id }))) (option_map (λ (x : Made). kind_made x.kind) (made_under id c.made))
     where
       root_first : (b : Bool) (o p : Option Kind) → option_or (if b then Some Dir else o) p ≡ (if b then Some Dir else option_or o p)
       root_first true o p = refl
       root_first false o p = refl
 
-      kinds : (o : Option File) (p : Option Made) → option_map (λ (f : File). f.kind) (option_or o (option_map file_of_made p)) ≡ option_or (option_map (λ (f : File). f.kind) o) (option_map (λ (x : Made). x.kind) p)
+      kinds : (o : Option File) (p : Option Made) → option_map (λ (f : File). f.kind) (option_or o (option_map file_of_made p)) ≡ option_or (option_map (λ (f : File). f.kind) o) (option_map (λ (x : Made). kind_made x.kind) p)
       kinds None None = refl
       kinds None (Some x) = refl
       kinds (Some f) p = refl
@@ -143,7 +145,8 @@ module _ (m : Manifest) (c : Changes) (none : first_bad (is_bad_made m c.next_fi
             let found = found_made c.made x.file.0 y e in
             let same : file_of_made y ≡ file_of_made x = cc in
             let id = same_id y.file x.file found.1 in
-            let is_x : y ≡ x = λ i. record { file = id i; kind = (same i).kind; perm = (same i).perm } in
+            let kinds_same = made_kinds_same y.kind x.kind (ap (λ (f : File). f.kind) same) in
+            let is_x : y ≡ x = λ i. record { file = id i; kind = kinds_same i; perm = (same i).perm } in
             subst (Contains c.made) is_x found.0
       ] refl there
 

@@ -12,7 +12,7 @@ use Rattle.checkout.specs.BadChanges.{Else, IsAboveItself, IsBadAround, IsBadCha
 use Rattle.checkout.specs.Changed.{changed}
 use Rattle.checkout.specs.Changes.{AreChanges}
 use Rattle.manifest.specs.Manifest.{File, IsManifest, Manifest}
-use Rattle.manifest.specs.Tree.{IsTree, Tree, child_of, file_at, file_of, kind_of, links_from, root, tree_of}
+use Rattle.manifest.specs.Tree.{IsMadeFile, IsTree, Tree, child_of, file_at, file_of, kind_of, links_from, root, tree_of}
 use Rattle.checkout.proofs.ChangedAround.{changed_apart, dir_stays, file_cases, first_stays, id_within, kind_there}
 use Rattle.checkout.proofs.ChangedCircles.{not_in_a_circle}
 use Rattle.checkout.proofs.ChangedFiles.{changed_has_made, made_is_good}
@@ -58,14 +58,14 @@ module _ (m : Manifest) (c : Changes) (is : IsManifest m) (none : IsBadChange m 
   alone : IsGoodItself m c
   alone = good_itself m c good.itself
 
-  later_or_first : (file : FileId) (f : File) → file_of tree file ≡ Some f → (file_of (tree_of m) file ≡ Some f) ⊎ ((length m.lines + 2 ≤ file.0) × (f.size ≡ 0))
+  later_or_first : (file : FileId) (f : File) → file_of tree file ≡ Some f → (file_of (tree_of m) file ≡ Some f) ⊎ ((length m.lines + 2 ≤ file.0) × IsMadeFile f)
   later_or_first file f h =
       elim (file_cases m c is good.itself file f h) [
         | inl e ↦ inl e
         | inr r ↦
             let later = (made_is_good m c alone.made r.made r.listed).later in
             let id = r.id in
-            inr (omega (arith, later, id), sym (ap (λ (g : File). g.size) r.is))
+            inr (omega (arith, later, id), (r.made.kind, sym (ap (λ (g : File). g.kind) r.is), sym (ap (λ (g : File). g.size) r.is)))
       ]
 
   have_names : AllByRecursion (λ link. IsNameText link.name) c.links → (dir : FileId) (name : List ℕ) (file : FileId) → child_of tree dir name ≡ Some file → IsNameText name

@@ -38,8 +38,8 @@ files_of t u c tree other one has too q f here =
     elim (tree.others_are_later (file_with q) f here) [
       | inl first ↦ other.has_manifest_files (file_with q) f (ap (λ (m : Manifest). file_of (tree_of m) (file_with q)) one ∙ first)
       | inr w ↦
-          let made : Made = record { file = file_with q; kind = f.kind; perm = f.perm } in
-          let empty : f ≡ made_file f.kind f.perm = λ i. record { kind = f.kind; perm = f.perm; size = w.1 i } in
+          let made : Made = record { file = file_with q; kind = w.1.0; perm = f.perm } in
+          let empty : f ≡ made_file w.1.0 f.perm = λ i. record { kind = w.1.1 i; perm = f.perm; size = w.1.2 i } in
           let there = (has.made.each made).1 (record { later = w.0; file = here ∙ ap (λ x. Some x) empty }) in
           ((too.made.each made).0 there).file ∙ ap (λ x. Some x) (sym empty)
     ]

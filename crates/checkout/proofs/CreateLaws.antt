@@ -7,7 +7,7 @@ use Rattle.std.specs.Option.{option_map}
 use Rattle.eden_base.proofs.MemberLemmas.{some-IsSome, some-is}
 use Rattle.eden_base.specs.Limits.{end_of_files}
 use Rattle.eden_base.specs.Name.{IsNameText}
-use Rattle.eden_base.specs.declared.attr.Kind.{Kind}
+use Rattle.eden_base.specs.declared.attr.MadeKind.{MadeKind}
 use Rattle.eden_base.specs.declared.attr.Kind.TheVariants.{Dir}
 use Rattle.eden_base.specs.declared.attr.Perm.{Perm}
 use Rattle.eden_base.specs.declared.number.FileId.{FileId}
@@ -24,7 +24,7 @@ use Rattle.manifest.proofs.PathLaws.{file_at-below, file_at-stays}
 abbrev pub IsElsewhere : FileId → List ℕ → FileId → List ℕ → Type 0
 IsElsewhere d n dir name = (d ≡ dir) × (n ≡ name) → ⊥
 
-module _ (tree : Tree) (dir : FileId) (name : List ℕ) (kind : Kind) (perm : Perm) where
+module _ (tree : Tree) (dir : FileId) (name : List ℕ) (kind : MadeKind) (perm : Perm) where
   abbrev new : Tree
   new = created tree dir name kind perm
 
@@ -98,7 +98,7 @@ module _ (tree : Tree) (is : IsTree tree) where
             is.links_are_reached at.0 at.1 file at.2
       ] refl h
 
-module _ (tree : Tree) (dir : FileId) (name : List ℕ) (kind : Kind) (perm : Perm) (is : IsTree tree) (is_dir : kind_of tree dir ≡ Some Dir) (is_reached : is_unlinked tree dir ≡ false) (free : child_of tree dir name ≡ None) (is_name : IsNameText name) (fits : tree.next_file < end_of_files) where
+module _ (tree : Tree) (dir : FileId) (name : List ℕ) (kind : MadeKind) (perm : Perm) (is : IsTree tree) (is_dir : kind_of tree dir ≡ Some Dir) (is_reached : is_unlinked tree dir ≡ false) (free : child_of tree dir name ≡ None) (is_name : IsNameText name) (fits : tree.next_file < end_of_files) where
   abbrev more : Tree
   more = created tree dir name kind perm
 
@@ -144,7 +144,7 @@ module _ (tree : Tree) (dir : FileId) (name : List ℕ) (kind : Kind) (perm : Pe
     next_fits = omega (arith, fits);
     has_manifest_files = λ file f h. file_stays file f (is.has_manifest_files file f h);
     others_are_later = λ file f h. elim (file_of-created_cases tree dir name kind perm file f h) [
-      | inl w ↦ inr (omega (arith, w.0, next_is_later tree is), ap (λ (x : File). x.size) (sym w.1))
+      | inl w ↦ inr (omega (arith, w.0, next_is_later tree is), (kind, ap (λ (x : File). x.kind) (sym w.1), ap (λ (x : File). x.size) (sym w.1)))
       | inr old ↦ is.others_are_later file f old
     ];
     links_have_names = λ d n file h. elim (child_of-created_cases tree dir name kind perm d n file h) [ inl w ↦ subst IsNameText (sym w.1) is_name | inr old ↦ is.links_have_names d n file old ];

@@ -13,10 +13,11 @@ use Rattle.checkout.specs.declared.changes.Made.{Made}
 use Rattle.checkout.specs.declared.made.MadeFile.{MadeFile}
 use Rattle.checkout.specs.Changes.{AreMade, IsMade, file_ids}
 use Rattle.checkout.specs.Listing.{listed_file}
-use Rattle.manifest.specs.Manifest.{Manifest}
+use Rattle.manifest.specs.Manifest.{File, Manifest}
 use Rattle.checkout.specs.Overlay.{file_made, tree_over, AreParts}
 use Rattle.manifest.specs.Tree.{Tree, link_cmp, files_from}
 use Rattle.checkout.specs.ChangedTree.{made_file}
+use Rattle.checkout.proofs.KindLemmas.{made_kinds_same}
 use Rattle.checkout.proofs.ChangeLists.{all_entries, all-map, contains_found, keys_rise}
 use Rattle.manifest.proofs.ManifestTree.{no_later_file}
 use Rattle.checkout.proofs.UnionLaws.{get-files_over}
@@ -44,7 +45,8 @@ module _ (m : Manifest) (made : FinMap nat_cmp MadeFile) (added : FinMap link_cm
         | Some f ↦ λ e k.
             let same : file_made f ≡ made_file x.kind x.perm = cc in
             let found = contains_found nat_cmp nat_cmp-IsAntisymmetric listed_file x.file.0 f (entries made) (sym (get-entries made x.file.0) ∙ e) in
-            let is_x : listed_file (x.file.0, f) ≡ x = λ i. record { file = x.file; kind = (same i).kind; perm = (same i).perm } in
+            let kinds = made_kinds_same f.kind x.kind (ap (λ (g : File). g.kind) same) in
+            let is_x : listed_file (x.file.0, f) ≡ x = λ i. record { file = x.file; kind = kinds i; perm = (same i).perm } in
             subst (Contains (map listed_file (entries made))) is_x found
       ] refl only
 

@@ -7,7 +7,7 @@ use Rattle.std.specs.FinMap.{FinMap, get, insert, get-insert, same_map, nat_cmp-
 use Rattle.eden_base.proofs.MemberLemmas.{some-IsSome, some-is}
 use Rattle.eden_base.specs.Limits.{end_of_files}
 use Rattle.eden_base.specs.Name.{IsNameText}
-use Rattle.eden_base.specs.declared.attr.Kind.{Kind}
+use Rattle.eden_base.specs.declared.attr.MadeKind.{MadeKind}
 use Rattle.eden_base.specs.declared.attr.Kind.TheVariants.{Dir}
 use Rattle.eden_base.specs.declared.attr.Perm.{Perm}
 use Rattle.eden_base.specs.declared.number.FileId.{FileId}
@@ -24,7 +24,7 @@ use Rattle.checkout.proofs.OverlayLaws.{child-over, none_added}
 use Rattle.checkout.proofs.UnionLaws.{get-files_over, get-links_over}
 
 -- the file as it is kept
-abbrev pub kept_file : Kind → Perm → MadeFile
+abbrev pub kept_file : MadeKind → Perm → MadeFile
 kept_file kind perm = record { kind = kind; perm = perm }
 
 files_over-insert : (made : FinMap nat_cmp MadeFile) (base : FinMap nat_cmp File) (k : ℕ) (v : MadeFile) → files_over (insert made k v) base ≡ insert (files_over made base) k (file_made v)
@@ -46,7 +46,7 @@ links_over-insert added gone base k v =
     at : (q : ℕ × List ℕ) → option_or (cond (eq_by_cmp link_cmp q k) (Some v) (get added q)) (still gone (get base q)) ≡ cond (eq_by_cmp link_cmp q k) (Some v) (option_or (get added q) (still gone (get base q)))
     at q = elim (eq_by_cmp link_cmp q k) as (λ b. option_or (cond b (Some v) (get added q)) (still gone (get base q)) ≡ cond b (Some v) (option_or (get added q) (still gone (get base q)))) [ true ↦ refl | false ↦ refl ]
 
-pub tree_over-created : (m : Manifest) (made : FinMap nat_cmp MadeFile) (added : FinMap link_cmp FileId) (gone : ℕ → Bool) (next : ℕ) (dir : FileId) (name : List ℕ) (kind : Kind) (perm : Perm) →
+pub tree_over-created : (m : Manifest) (made : FinMap nat_cmp MadeFile) (added : FinMap link_cmp FileId) (gone : ℕ → Bool) (next : ℕ) (dir : FileId) (name : List ℕ) (kind : MadeKind) (perm : Perm) →
     tree_over m (insert made next (kept_file kind perm)) (insert added (dir.0, name) (file_with next)) gone (next + 1) ≡ created (tree_over m made added gone next) dir name kind perm
 tree_over-created m made added gone next dir name kind perm =
     let files = files_over-insert made (files_from 2 m.lines) next (kept_file kind perm) in
@@ -57,7 +57,7 @@ module _ (m : Manifest) (made : FinMap nat_cmp MadeFile) (added : FinMap link_cm
   abbrev tree : Tree
   tree = tree_over m made added gone next
 
-  module _ (dir : FileId) (name : List ℕ) (kind : Kind) (perm : Perm) (is_dir : kind_of tree dir ≡ Some Dir) (is_reached : is_unlinked tree dir ≡ false) (free : child_of tree dir name ≡ None) (is_name : IsNameText name) (fits : next < end_of_files) where
+  module _ (dir : FileId) (name : List ℕ) (kind : MadeKind) (perm : Perm) (is_dir : kind_of tree dir ≡ Some Dir) (is_reached : is_unlinked tree dir ≡ false) (free : child_of tree dir name ≡ None) (is_name : IsNameText name) (fits : next < end_of_files) where
     abbrev made' : FinMap nat_cmp MadeFile
     made' = insert made next (kept_file kind perm)
 

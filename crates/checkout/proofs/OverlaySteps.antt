@@ -7,13 +7,13 @@ use Rattle.std.specs.FinMap.{FinMap, get, insert, remove, empty, get-empty}
 use Rattle.eden_base.proofs.MemberLemmas.{some-IsSome, some-is}
 use Rattle.eden_base.specs.Limits.{end_of_files}
 use Rattle.eden_base.specs.Name.{IsNameText}
-use Rattle.eden_base.specs.declared.attr.Kind.{Kind}
+use Rattle.eden_base.specs.declared.attr.MadeKind.{MadeKind}
 use Rattle.eden_base.specs.declared.attr.Kind.TheVariants.{Dir}
 use Rattle.eden_base.specs.declared.attr.Perm.{Perm}
 use Rattle.eden_base.specs.declared.number.FileId.{FileId}
 use Rattle.checkout.specs.declared.made.MadeFile.{MadeFile}
 use Rattle.checkout.specs.Added.{gives}
-use Rattle.manifest.specs.Manifest.{Manifest, IsManifest}
+use Rattle.manifest.specs.Manifest.{Manifest, IsManifest, most_files}
 use Rattle.checkout.specs.Overlay.{file_made, tree_over, AreParts, IsOverlay}
 use Rattle.manifest.specs.Tree.{Tree, IsTree, link_cmp, kind_of, child_of, tree_of, files_from, links_from}
 use Rattle.checkout.specs.ChangedTree.{is_unlinked, is_full_dir, created, removed}
@@ -82,7 +82,7 @@ module _ (m : Manifest) (made : FinMap nat_cmp MadeFile) (added : FinMap link_cm
     pub undone : (file : FileId) (added' added'' : FinMap link_cmp FileId) → added' ≡ insert added (dir.0, name) file → added'' ≡ remove added' (dir.0, name) → added'' ≡ added
     undone file added' added'' a a' = a' ∙ ap (λ x. remove x (dir.0, name)) a ∙ removed_again link_cmp_total link_cmp-same added (dir.0, name) file none_there
 
-    pub create-step : (kind : Kind) (perm : Perm) (made' : FinMap nat_cmp MadeFile) (added' : FinMap link_cmp FileId) → kind_of self dir ≡ Some Dir → is_unlinked self dir ≡ false → IsNameText name → next < end_of_files →
+    pub create-step : (kind : MadeKind) (perm : Perm) (made' : FinMap nat_cmp MadeFile) (added' : FinMap link_cmp FileId) → kind_of self dir ≡ Some Dir → is_unlinked self dir ≡ false → IsNameText name → next < end_of_files →
         made' ≡ insert made next (kept_file kind perm) → added' ≡ insert added (dir.0, name) (file_with next) →
         IsOverlay m made' added' gone lost (next + 1) × (tree_over m made' added' gone (next + 1) ≡ created self dir name kind perm)
     create-step kind perm made' added' is_dir is_reached is_name fits f a =
@@ -128,7 +128,7 @@ module _ (m : Manifest) (made : FinMap nat_cmp MadeFile) (added : FinMap link_cm
         pub left : gone file.0 ≡ false
         pub file_within : file.0 < length m.lines + 2
         pub dir_within : dir.0 < length m.lines + 2
-        pub fits : lost dir.0 ≤ 65535
+        pub fits : lost dir.0 ≤ most_files
 
       pub found-is : (found : Option FileId) (file : FileId) → IsSome (child_of self dir name) → found ≡ get (links_from 2 m.lines) (dir.0, bytes) → found ≡ Some file → IsFound file
       found-is found file there f g =

@@ -69,8 +69,8 @@ module _ (t : Tree) (c : Changes) (is : IsTree t) (has : AreChanges t c) where
         | Some f ↦ λ e. elim (is.others_are_later file f e) [
           | inl g ↦ absurd (cc (none, g))
           | inr w ↦
-              let made : Made = record { file = file; kind = f.kind; perm = f.perm } in
-              let empty : f ≡ made_file f.kind f.perm = λ i. record { kind = f.kind; perm = f.perm; size = w.1 i } in
+              let made : Made = record { file = file; kind = w.1.0; perm = f.perm } in
+              let empty : f ≡ made_file w.1.0 f.perm = λ i. record { kind = w.1.1 i; perm = f.perm; size = w.1.2 i } in
               let there = (has.made.each made).1 (record { later = w.0; file = e ∙ ap (λ x. Some x) empty }) in
               ap (option_map file_of_made) (found_listed c.made has.made.rising made there) ∙ ap (λ x. Some x) (sym empty)
         ]

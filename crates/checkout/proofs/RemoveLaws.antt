@@ -1,7 +1,7 @@
 -- A tree from which a link was taken.
 use Rattle.std.proofs.Common.{not, ◌≡◌, ℕ, ◌&&◌, true, false, List, Some, None, refl, sym, ap, ◌∙◌}
 use Rattle.std.proofs.lemmas.Bool.{and_parts, and_right, not-true}
-use Rattle.eden_base.specs.declared.attr.Kind.TheVariants.{File as RegularFile}
+use Rattle.eden_base.specs.declared.attr.Kind.TheVariants.{File as RegularFile, Link as SymbolicLink}
 use Rattle.eden_base.specs.declared.number.FileId.{FileId}
 use Rattle.manifest.specs.Tree.{kind_of, Tree, root, child_of, is_dir, IsTree}
 use Rattle.checkout.specs.ChangedTree.{has_links, is_empty_dir, is_full_dir, is_linked, removed}
@@ -99,4 +99,7 @@ not_full-from_empty tree file h =
 pub not_full-from_file : (tree : Tree) (file : FileId) → kind_of tree file ≡ Some RegularFile → is_full_dir tree file ≡ false
 not_full-from_file tree file h = ap (λ k. is_dir k && has_links tree file) h
 
-pub ruleset not_full_rules = (not_full-from_empty, not_full-from_file)
+pub not_full-from_link : (tree : Tree) (file : FileId) → kind_of tree file ≡ Some SymbolicLink → is_full_dir tree file ≡ false
+not_full-from_link tree file h = ap (λ k. is_dir k && has_links tree file) h
+
+pub ruleset not_full_rules = (not_full-from_empty, not_full-from_file, not_full-from_link)

@@ -6,6 +6,7 @@ use Rattle.std.specs.List.{filter, filter_map, find, list_any}
 use Rattle.std.specs.Option.{option_and_then, option_map, option_or}
 use Rattle.std.specs.Ordering.{is_eq, is_lt}
 use Rattle.eden_base.specs.Limits.{end_of_files}
+use Rattle.eden_base.specs.Kinds.{kind_made}
 use Rattle.eden_base.specs.declared.attr.Kind.{Kind}
 use Rattle.eden_base.specs.declared.attr.Kind.TheVariants.{Dir}
 use Rattle.eden_base.specs.declared.number.FileId.{FileId}
@@ -56,7 +57,7 @@ abbrev pub kind_with : Manifest → List Made → FileId → Option Kind
 kind_with m made file =
     if file.0 == 1 then Some Dir
     else option_or (option_map (λ (line : Line). line.file.kind) (line_of m.lines file))
-    (option_map (λ (x : Made). x.kind) (find (λ (x : Made). x.file.0 == file.0) made))
+    (option_map (λ (x : Made). kind_made x.kind) (find (λ (x : Made). x.file.0 == file.0) made))
 
 -- whether some link gives the file
 abbrev pub is_given : List Link → FileId → Bool

@@ -4,9 +4,11 @@ use Rattle.std.specs.Prelude.{ℕ, ◌+◌, Bool, true, false, ◌&&◌, ◌==�
 use Rattle.std.specs.Option.{option_map}
 use Rattle.std.specs.List.{list_any}
 use Rattle.std.specs.FinMap.{insert, remove, entries}
+use Rattle.eden_base.specs.Kinds.{kind_made}
 use Rattle.eden_base.specs.declared.attr.Attr.{Attr}
 use Rattle.eden_base.specs.declared.attr.Kind.{Kind}
-use Rattle.eden_base.specs.declared.attr.Kind.TheVariants.{File as RegularFile, Dir}
+use Rattle.eden_base.specs.declared.attr.Kind.TheVariants.{File as RegularFile, Dir, Link}
+use Rattle.eden_base.specs.declared.attr.MadeKind.{MadeKind}
 use Rattle.eden_base.specs.declared.attr.Perm.{Perm}
 use Rattle.eden_base.specs.declared.number.FileId.{FileId}
 use Rattle.manifest.specs.Manifest.{File}
@@ -21,6 +23,7 @@ abbrev pub is_regular : Option Kind → Bool
 is_regular None = false
 is_regular (Some RegularFile) = true
 is_regular (Some Dir) = false
+is_regular (Some Link) = false
 
 -- whether a file is unlinked: it is not the root, and no link gives it
 abbrev pub is_unlinked : Tree → FileId → Bool
@@ -58,11 +61,11 @@ abbrev pub next_file : Tree → FileId
 next_file tree = record { 0 = tree.next_file }
 
 -- a file as it is made: without content
-abbrev pub made_file : Kind → Perm → File
-made_file kind perm = record { kind = kind; perm = perm; size = 0 }
+abbrev pub made_file : MadeKind → Perm → File
+made_file kind perm = record { kind = kind_made kind; perm = perm; size = 0 }
 
 -- the tree after its next file was made, under a name in a directory
-abbrev pub created : Tree → FileId → List ℕ → Kind → Perm → Tree
+abbrev pub created : Tree → FileId → List ℕ → MadeKind → Perm → Tree
 created tree dir name kind perm = record {
   manifest = tree.manifest;
   files = insert tree.files tree.next_file (made_file kind perm);

@@ -11,7 +11,7 @@ mod cut;
 pub(crate) mod laid;
 mod laying;
 
-use eden_base::{FileId, Kind, Perm};
+use eden_base::{FileId, MadeKind, Perm};
 use manifest::LinkChange;
 use std::marker::Model;
 
@@ -19,7 +19,7 @@ use std::marker::Model;
 #[derive(Clone, Copy, PartialEq, Eq)]
 pub struct Made {
     pub file: FileId,
-    pub kind: Kind,
+    pub kind: MadeKind,
     pub perm: Perm,
 }
 

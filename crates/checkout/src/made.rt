@@ -11,14 +11,14 @@ ghost use Rattle.checkout.specs.Listing.{listed_file};
 ghost use Rattle.checkout.specs.declared.changes.Made.{Made as MadeState};
 
 use crate::Made;
-use eden_base::{FileId, Kind, NoMemory, Perm};
+use eden_base::{FileId, MadeKind, NoMemory, Perm};
 use std::alloc::Global;
 use std::marker::Model;
 
 /// What is kept of a file that was made. It stays when its link is removed.
 #[derive(Clone, Copy)]
 pub struct MadeFile {
-    pub kind: Kind,
+    pub kind: MadeKind,
     pub perm: Perm,
 }
 

@@ -4,6 +4,7 @@ ghost use Rattle.std.specs.FinMap.{entries};
 ghost use Rattle.std.specs.List.{AllByRecursion, list_any};
 ghost use Rattle.std.specs.Option.{option_map};
 ghost use Rattle.eden_base.specs.Name.{IsNameText};
+ghost use Rattle.eden_base.specs.Kinds.{kind_made};
 ghost use Rattle.eden_base.specs.declared.attr.Kind.TheVariants.{Dir};
 ghost use Rattle.checkout.specs.Around.{IsDirAbove};
 ghost use Rattle.checkout.specs.BadChanges.{IsBadChange};
@@ -23,7 +24,7 @@ use crate::made::{MadeFile, MadeFiles};
 use crate::order::sort;
 use crate::unlinked_files::UnlinkedFiles;
 use crate::{ChangeFault, Changes, CreateFault, LinkList, MadeList, overlay};
-use eden_base::{Attr, END_OF_FILES, FileId, Kind, Name, NoMemory, Perm};
+use eden_base::{Attr, END_OF_FILES, FileId, Kind, MadeKind, Name, NoMemory, Perm};
 use manifest::{Content, Manifest, Tally, nlink_of_kind};
 use std::alloc::Global;
 use std::marker::Model;
@@ -157,7 +158,7 @@ impl Tree {
         }
         let made = self.made.get(file)?;
         Some(Content {
-            kind: made.kind,
+            kind: made.kind.kind(),
             perm: made.perm,
             size: 0,
         })
@@ -218,7 +219,7 @@ impl Tree {
     {
         match self.kind(dir) {
             Some(Kind::Dir) => !self.has_links(dir),
-            Some(Kind::File) => false,
+            Some(Kind::File | Kind::Link) => false,
             None => false,
         }
     }
@@ -314,7 +315,7 @@ impl Tree {
         &mut self,
         dir: FileId,
         name: &Name,
-        kind: Kind,
+        kind: MadeKind,
         perm: Perm,
     ) -> Result<FileId, CreateFault>
         requires dir { kind_of self.old dir ≡ Some Dir }
@@ -323,7 +324,12 @@ impl Tree {
         ensures created { OnOk result (self.new ≡ created self.old dir name.now kind perm) }
         ensures file { IfOk result (λ file. file ≡ next_file self.old) }
         ensures attr { IfOk result (λ file. attr_of self.new file
-            ≡ Some (record { kind = kind; perm = perm; size = 0; nlink = nlink_of_kind kind })) }
+            ≡ Some (record {
+              kind = kind_made kind;
+              perm = perm;
+              size = 0;
+              nlink = nlink_of_kind (kind_made kind);
+            })) }
         ensures refused { IfErr result (IsCreateRefusal self.old) }
         ensures unchanged { OnErr result (self.new ≡ self.old) }
         ensures is_tree { IsTree self.new }
@@ -399,6 +405,6 @@ fn is_regular(kind: Kind) -> bool
 {
     match kind {
         Kind::File => true,
-        Kind::Dir => false,
+        Kind::Dir | Kind::Link => false,
     }
 }

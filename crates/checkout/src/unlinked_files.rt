@@ -107,7 +107,7 @@ impl UnlinkedFiles {
 }
 
 /// The most files that one mark counts. The last file of the longest manifest has this id, and is joined with none.
-const MOST: u32 = 65536;
+const MOST: u32 = 1 << 24;
 
 /// Joins marks around a file that is new among what is gone. Where both halves of a block of 2, 4, 8 and so on are gone,
 /// the mark of its first file counts the whole block. So a walk over the marks passes many files at a step.

@@ -7,6 +7,7 @@ ghost use Rattle.std.specs.Ordering.{nat_cmp};
 ghost use Rattle.checkout.specs.declared.changes.Made.{Made};
 ghost use Rattle.checkout.specs.BadChanges.{bad_itself, first_bad, gives_same, is_bad_link, is_bad_made, is_bad_next, is_behind, is_target, kind_with, last_file, manifest_target, rises};
 ghost use Rattle.checkout.specs.Changes.{file_ids};
+ghost use Rattle.eden_base.specs.Kinds.{kind_made};
 ghost use Rattle.manifest.specs.Tree.{is_dir};
 
 use super::{Changes, Made};
@@ -76,12 +77,12 @@ fn is_behind(before: Option<&LinkChange>, change: &LinkChange) -> bool
 }
 
 /// Returns the kind of a made file, or none if `files` doesn't contain the file.
-fn kind_made(files: &[Made], file: FileId) -> Option<Kind>
+fn kind_among(files: &[Made], file: FileId) -> Option<Kind>
     requires rising { IsStrictlySortedBy nat_cmp (file_ids files.now) }
-    ensures { result ≡ option_map (λ (x : Made). x.kind) (find (λ (x : Made). x.file.0 == file.0) files.now) }
+    ensures { result ≡ option_map (λ (x : Made). kind_made x.kind) (find (λ (x : Made). x.file.0 == file.0) files.now) }
 {
     let made = made_at(files, file)?;
-    Some(made.kind)
+    Some(made.kind.kind())
 }
 
 /// Returns the kind of the root, of a file of the manifest, or of a made file; none for any other id.
@@ -91,7 +92,7 @@ fn kind_with(manifest: &Manifest, files: &[Made], file: FileId) -> Option<Kind>
 {
     match manifest.content(file) {
         Some(content) => Some(content.kind),
-        None => kind_made(files, file),
+        None => kind_among(files, file),
     }
 }
 
@@ -101,7 +102,7 @@ fn is_dir(kind: Option<Kind>) -> bool
 {
     match kind {
         Some(Kind::Dir) => true,
-        Some(Kind::File) => false,
+        Some(Kind::File | Kind::Link) => false,
         None => false,
     }
 }

@@ -11,4 +11,4 @@ invariant-loop-half l = record {
 }
 
 abbrev pub decreases-loop-half : goal.decreases-loop-half
-decreases-loop-half l = 65536 - l.half
+decreases-loop-half l = 16777216 - l.half

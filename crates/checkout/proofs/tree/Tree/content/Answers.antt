@@ -28,4 +28,4 @@ returns c =
     let i = c.self.inside in
     let base = files_from 2 i.manifest.lines in
     let there = sym c.get.ensures ∙ c.in_ok-made.was in
-    record { content = rw (← c.self.view_is) (sym (get-files_over i.made base c.args.file.0 ∙ ap (λ o. option_or (option_map file_made o) (get base c.args.file.0)) there)) }
+    record { content = rw (← c.self.view_is) (rw c.kind.ensures.kind (sym (get-files_over i.made base c.args.file.0 ∙ ap (λ o. option_or (option_map file_made o) (get base c.args.file.0)) there))) }
