@@ -5,7 +5,7 @@ use Rattle.std.specs.Option.{option_map_or}
 use Rattle.std.specs.Prelude.{◌≤◌, nat_le, OnErr, if◌then◌else◌}
 use Rattle.eden_base.specs.Limits.{end_of_numbers}
 use Rattle.eden_base.specs.declared.attr.Kind.{Kind}
-use Rattle.eden_base.specs.declared.attr.Kind.TheVariants.{Dir, File}
+use Rattle.eden_base.specs.declared.attr.Kind.TheVariants.{Dir, File, Link}
 use Rattle.eden_base.specs.declared.errno.Errno.{Errno}
 use Rattle.eden_base.specs.declared.errno.Errno.TheVariants.{EIO, ENOENT, ENOSPC}
 use Rattle.eden_base.specs.declared.number.FileId.{FileId}
@@ -45,6 +45,7 @@ found-not_eio tree (Some dir) name e = by_kind (kind_of tree dir) e where
   by_kind : (kind : Option Kind) → found_in_dir tree dir name kind ≡ Err EIO → ⊥
   by_kind (Some Dir) h = by_child (child_of tree dir name) h
   by_kind (Some File) h = let none : ⊥ = cc in none
+  by_kind (Some Link) h = let none : ⊥ = cc in none
   by_kind None h = let none : ⊥ = cc in none
 
 pub fault-not_eio : (fault : GiveFault) → errno_of fault ≡ EIO → ⊥

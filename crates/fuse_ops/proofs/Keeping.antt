@@ -2,7 +2,7 @@
 use Rattle.std.proofs.Common.{◌≡◌, ℕ, Bool, true, false, List, Option, Some, None, Ok, Err, refl, sym, ap, ◌∙◌, subst, inl, inr, ◌⊎◌}
 use Rattle.std.specs.Option.{option_map_or}
 use Rattle.eden_base.specs.declared.attr.Kind.{Kind}
-use Rattle.eden_base.specs.declared.attr.Kind.TheVariants.{Dir, File}
+use Rattle.eden_base.specs.declared.attr.Kind.TheVariants.{Dir, File, Link}
 use Rattle.eden_base.specs.declared.errno.Errno.TheVariants.{ENOENT}
 use Rattle.eden_base.specs.declared.number.FileId.{FileId}
 use Rattle.eden_base.specs.declared.number.Number.{Number}
@@ -29,6 +29,7 @@ found-child tree dir file name found = by_kind (kind_of tree dir) found where
   by_kind : (kind : Option Kind) → found_in_dir tree dir name kind ≡ Ok file → child_of tree dir name ≡ Some file
   by_kind (Some Dir) e = by_child (child_of tree dir name) e
   by_kind (Some File) e = absurd (let none : ⊥ = cc in none)
+  by_kind (Some Link) e = absurd (let none : ⊥ = cc in none)
   by_kind None e = absurd (let none : ⊥ = cc in none)
 
 -- what a daemon knows fits together after an item of a forget

@@ -1,7 +1,7 @@
 -- What is answered to a request that lists a directory is a step of the replay.
 use Rattle.std.proofs.Common.{◌≡◌, ℕ, List, [], Option, Some, None, Ok, Err, refl, sym, ap, ◌∙◌, subst, inl, inr}
 use Rattle.eden_base.specs.declared.attr.Kind.{Kind}
-use Rattle.eden_base.specs.declared.attr.Kind.TheVariants.{Dir, File}
+use Rattle.eden_base.specs.declared.attr.Kind.TheVariants.{Dir, File, Link}
 use Rattle.eden_base.specs.declared.errno.Errno.{Errno}
 use Rattle.eden_base.specs.declared.errno.Errno.TheVariants.{ENOTDIR, ESTALE, ENOMEM}
 use Rattle.eden_base.specs.declared.number.FileId.{FileId}
@@ -48,6 +48,7 @@ lists_kind_in : (old : ServedState) (request : Request) (dir : Number) (offset s
     Legally old request (lists_dir old.tree file offset size kind) answer new
 lists_kind_in old request dir offset size file (Some Dir) answer new does lists same = listed-legally old request dir offset size (range_of file offset size) answer new does lists same
 lists_kind_in old request dir offset size file (Some File) answer new does e same = told-legally old request ENOTDIR answer new e same
+lists_kind_in old request dir offset size file (Some Link) answer new does e same = told-legally old request ENOTDIR answer new e same
 lists_kind_in old request dir offset size file None answer new does e same = told-legally old request ENOTDIR answer new e same
 
 lists_in : (old : ServedState) (request : Request) (dir : Number) (offset size : ℕ) (o : Option FileId) (answer : Answer) (new : ServedState) → deed_of request ≡ list_dir dir offset size → ListsFile old o offset size answer → new ≡ old →

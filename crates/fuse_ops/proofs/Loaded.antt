@@ -7,7 +7,7 @@ use Rattle.eden_base.proofs.MemberLemmas.{some-IsSome}
 use Rattle.eden_base.proofs.NumberTests.{eq-false, false-ne}
 use Rattle.eden_base.specs.First.{changed_where}
 use Rattle.eden_base.specs.declared.attr.Attr.{Attr}
-use Rattle.eden_base.specs.declared.attr.Kind.{Kind}
+use Rattle.eden_base.specs.declared.attr.MadeKind.{MadeKind}
 use Rattle.eden_base.specs.declared.attr.Perm.{Perm}
 use Rattle.eden_base.specs.declared.number.FileId.{FileId}
 use Rattle.eden_base.specs.declared.number.Number.{Number}
@@ -170,6 +170,6 @@ taken-loaded served number dir name file map tree may m t right =
           (left_with-loaded served (after (Some kept)) (left_of_use (changed_where (has_number kept.number.0) (marked file) served.map.entries)) (λ g c h. h) refl refl k.sound k.names right)
 
 -- the files of a tree stay where one is made
-pub created-has : (tree : Tree) (dir : FileId) (name : List ℕ) (kind : Kind) (perm : Perm) → IsTree tree → HasFiles (created tree dir name kind perm) tree
+pub created-has : (tree : Tree) (dir : FileId) (name : List ℕ) (kind : MadeKind) (perm : Perm) → IsTree tree → HasFiles (created tree dir name kind perm) tree
 created-has tree dir name kind perm is file f e =
     file_of-created_other tree dir name kind perm file (λ same. let low : file.0 < tree.next_file = is.ids_below_next file (some-IsSome (tree_file tree file) f e) in let none : ⊥ = omega arith in none) ∙ e

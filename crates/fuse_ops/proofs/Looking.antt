@@ -34,7 +34,7 @@ done-same tree files others (move_name dir name to_dir to_name) (e, (f, _)) =
     ap (λ (o : Option FileId). moves_between tree o name (files to_dir.0) to_name) e ∙ ap (λ (o : Option FileId). moves_between tree (others dir.0) name o to_name) f
 done-same tree files others (show_file node) (e, _) = ap (shows tree) e
 done-same tree files others (list_dir dir offset size) (e, _) = ap (λ (o : Option FileId). lists_from tree o offset size) e
-done-same tree files others (read_file node offset size) (e, _) = ap (λ (o : Option FileId). reads_from tree o offset size) e
+done-same tree files others (read_file node reading) (e, _) = ap (λ (o : Option FileId). reads_from tree o reading) e
 done-same tree files others unserved all = refl
 
 -- one of these numbers names no file
@@ -55,13 +55,13 @@ done-stale tree files (move_name dir name to_dir to_name) (inr (inl e)) = ap (λ
 done-stale tree files (move_name dir name to_dir to_name) (inr (inr none)) = absurd none
 done-stale tree files (show_file node) (inl e) = ap (shows tree) e
 done-stale tree files (list_dir dir offset size) (inl e) = ap (λ (o : Option FileId). lists_from tree o offset size) e
-done-stale tree files (read_file node offset size) (inl e) = ap (λ (o : Option FileId). reads_from tree o offset size) e
+done-stale tree files (read_file node reading) (inl e) = ap (λ (o : Option FileId). reads_from tree o reading) e
 done-stale tree files (find_name dir name) (inr none) = absurd none
 done-stale tree files (make_file dir name kind perm) (inr none) = absurd none
 done-stale tree files (take_name dir name kind) (inr none) = absurd none
 done-stale tree files (show_file node) (inr none) = absurd none
 done-stale tree files (list_dir dir offset size) (inr none) = absurd none
-done-stale tree files (read_file node offset size) (inr none) = absurd none
+done-stale tree files (read_file node reading) (inr none) = absurd none
 done-stale tree files unserved none = absurd none
 
 -- ---- which of them a daemon knows

@@ -6,7 +6,8 @@ use Rattle.eden_base.proofs.MemberLemmas.{some-IsSome, first-passes}
 use Rattle.eden_base.specs.Limits.{end_of_files, end_of_numbers}
 use Rattle.eden_base.specs.declared.attr.Attr.{Attr}
 use Rattle.eden_base.specs.declared.attr.Kind.{Kind}
-use Rattle.eden_base.specs.declared.attr.Kind.TheVariants.{Dir, File}
+use Rattle.eden_base.specs.declared.attr.Kind.TheVariants.{Dir, File, Link}
+use Rattle.eden_base.specs.declared.attr.MadeKind.{MadeKind}
 use Rattle.eden_base.specs.declared.attr.Perm.{Perm}
 use Rattle.eden_base.specs.declared.errno.Errno.{Errno}
 use Rattle.eden_base.specs.declared.errno.Errno.TheVariants.{ENOENT, EEXIST, ENOSPC}
@@ -66,6 +67,7 @@ free-place tree (Some dir) name above e = by_kind (kind_of tree dir) refl e wher
   by_kind : (kind : Option Kind) → kind_of tree dir ≡ kind → free_in_dir tree dir name kind ≡ Ok above → (Some dir ≡ Some above) × IsFreePlace tree above name
   by_kind None k h = absurd (let none : ⊥ = cc in none)
   by_kind (Some File) k h = absurd (let none : ⊥ = cc in none)
+  by_kind (Some Link) k h = absurd (let none : ⊥ = cc in none)
   by_kind (Some Dir) k h = by_tests k (is_unlinked tree dir) (is_some (child_of tree dir name)) (nat_le end_of_files tree.next_file) refl refl refl h
 
 -- no number has a place at which nothing stands in the tree
@@ -113,7 +115,7 @@ module _ (served : ServedState) (dir : Number) (name : List ℕ) (above : FileId
   pub absent : entry_at served.map.entries dir.0 name ≡ None
   absent = free-absent served dir.0 above name may.sound at (place.1).free
 
-  makes_so : (kind : Kind) (perm : Perm) (told : Result (Number × Attr) Errno) (new : ServedState) → MakesIn served dir name kind perm (Ok above) told new → Makes served dir name kind perm told new
+  makes_so : (kind : MadeKind) (perm : Perm) (told : Result (Number × Attr) Errno) (new : ServedState) → MakesIn served dir name kind perm (Ok above) told new → Makes served dir name kind perm told new
   makes_so kind perm told new m = record {
     dir_file = (may.free).dir_file;
     located = (may.free).located;
@@ -121,16 +123,16 @@ module _ (served : ServedState) (dir : Number) (name : List ℕ) (above : FileId
   }
 
   -- nothing was made
-  pub next-refused : (kind : Kind) (perm : Perm) (errno : Errno) (new : ServedState) → IsNextRefusal served.map.next errno → IsSamePlainly served new → Makes served dir name kind perm (Err errno) new
+  pub next-refused : (kind : MadeKind) (perm : Perm) (errno : Errno) (new : ServedState) → IsNextRefusal served.map.next errno → IsSamePlainly served new → Makes served dir name kind perm (Err errno) new
   next-refused kind perm errno new (inl (e, many)) same = makes_so kind perm (Err errno) new ((NoNumber, full_next served.map dir.0 name absent many, e), same)
   next-refused kind perm errno new (inr (e, few)) same = makes_so kind perm (Err errno) new ((NoMemory, (absent, clear_next served.map dir.0 name absent few), e), same)
 
   -- what every number names stays as it was
-  pub made-keeps : (kind : Kind) (perm : Perm) → KeepsNames served (record served { tree = created served.tree above name kind perm })
+  pub made-keeps : (kind : MadeKind) (perm : Perm) → KeepsNames served (record served { tree = created served.tree above name kind perm })
   made-keeps kind perm = making-keeps served above name kind perm may.is_tree may.sound (place.1).free
 
   -- what the daemon knows then fits together
-  pub made-gave : (kind : Kind) (perm : Perm) → served.map.next < end_of_numbers → IsTree (created served.tree above name kind perm) →
+  pub made-gave : (kind : MadeKind) (perm : Perm) → served.map.next < end_of_numbers → IsTree (created served.tree above name kind perm) →
       Gave (created served.tree above name kind perm) served.map (given served.map dir name) (number_given served.map dir.0 name).0 (next_file served.tree)
   made-gave kind perm few is =
       gives-well (record served { tree = created served.tree above name kind perm }) dir name above (next_file served.tree) (record {

@@ -2,7 +2,7 @@
 use Rattle.std.proofs.Common.{◌≡◌, ℕ, ◌<◌, List, Some, None, refl, sym, ap, ◌∙◌, subst, inl, inr, ◌⊎◌, arith, not, ◌&&◌, ◌==◌}
 use Rattle.std.specs.Prelude.{IsSome}
 use Rattle.eden_base.proofs.MemberLemmas.{some-IsSome}
-use Rattle.eden_base.specs.declared.attr.Kind.{Kind}
+use Rattle.eden_base.specs.declared.attr.MadeKind.{MadeKind}
 use Rattle.eden_base.specs.declared.attr.Perm.{Perm}
 use Rattle.eden_base.specs.declared.number.FileId.{FileId}
 use Rattle.checkout.proofs.AttrLaws.{is_linked-created_other}
@@ -17,7 +17,7 @@ use Rattle.fuse_ops.specs.Changes.{MakingLaw}
 use Rattle.fuse_ops.proofs.Fits.{Fits, sound-fits, sound-of_use, fits-sound, root-named}
 use Rattle.fuse_ops.proofs.FitsOver.{IsCarried, named-before, fits-over}
 
-module _ (tree : Tree) (next : ℕ) (es : List Kept) (dir : FileId) (name : List ℕ) (kind : Kind) (perm : Perm) (is : IsTree tree) (fits : Fits tree next es) (free : child_of tree dir name ≡ None) where
+module _ (tree : Tree) (next : ℕ) (es : List Kept) (dir : FileId) (name : List ℕ) (kind : MadeKind) (perm : Perm) (is : IsTree tree) (fits : Fits tree next es) (free : child_of tree dir name ≡ None) where
   -- a name that gave a file still gives it
   pub stays : (n : ℕ) (f : FileId) → IsFileOf tree es n f → IsFileOf (created tree dir name kind perm) es n f
   stays n f (is_root _ _ one same) = is_root n f one same

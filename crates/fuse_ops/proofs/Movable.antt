@@ -4,7 +4,7 @@ use Rattle.std.specs.Prelude.{if◌then◌else◌, ◌==◌}
 use Rattle.std.specs.Option.{option_map_or, option_and_then}
 use Rattle.eden_base.proofs.NumberTests.{eq-true}
 use Rattle.eden_base.specs.declared.attr.Kind.{Kind}
-use Rattle.eden_base.specs.declared.attr.Kind.TheVariants.{Dir, File}
+use Rattle.eden_base.specs.declared.attr.Kind.TheVariants.{Dir, File, Link}
 use Rattle.eden_base.specs.declared.errno.Errno.{Errno}
 use Rattle.eden_base.specs.declared.errno.Errno.TheVariants.{ENOENT, ENOTDIR, EINVAL}
 use Rattle.eden_base.specs.declared.number.FileId.{FileId}
@@ -39,6 +39,7 @@ pub record IsMovable (tree : Tree) (dir : FileId) (name : List ℕ) (to_dir file
 kind_is : (o : Option Kind) → is_dir o ≡ true → o ≡ Some Dir
 kind_is None e = absurd (let none : ⊥ = cc in none)
 kind_is (Some File) e = absurd (let none : ⊥ = cc in none)
+kind_is (Some Link) e = absurd (let none : ⊥ = cc in none)
 kind_is (Some Dir) e = refl
 
 into-found : (tree : Tree) (to_dir f file : FileId) → movable_into tree to_dir f ≡ Ok file → (f ≡ file) × (is_unlinked tree to_dir ≡ false) × ((is_dir (kind_of tree file) && is_at_or_above tree file to_dir) ≡ false)

@@ -3,7 +3,8 @@ use Rattle.std.proofs.Common.{◌≡◌, inl, inr, ℕ, Bool, true, false, List,
 use Rattle.std.specs.Prelude.{◌↔◌, nat_lt}
 use Rattle.eden_base.specs.declared.attr.Attr.{Attr}
 use Rattle.eden_base.specs.declared.attr.Kind.{Kind}
-use Rattle.eden_base.specs.declared.attr.Kind.TheVariants.{Dir, File}
+use Rattle.eden_base.specs.declared.attr.Kind.TheVariants.{Dir, File, Link}
+use Rattle.eden_base.specs.declared.attr.MadeKind.{MadeKind}
 use Rattle.eden_base.specs.declared.attr.Perm.{Perm}
 use Rattle.eden_base.specs.declared.errno.Errno.{Errno}
 use Rattle.eden_base.specs.declared.errno.Errno.TheVariants.{EIO, ENOMEM}
@@ -20,8 +21,8 @@ use Rattle.fuse_wire.specs.declared.request.Request.{Request}
 use Rattle.fuse_wire.specs.ReplyText.{is_buffer}
 use Rattle.fuse_wire.specs.Request.{form_of}
 use Rattle.fuse_wire.specs.Sharing.{StandsFor}
-use Rattle.fuse_ops.specs.Answers.{Answers, AnswersCounted, AnswersEffect, AnswersFile, AnswersNone, AnswersShown, Deed, Effect, NameChange, NumberFault, Numbers, Tells, none_lost, one_lost, one_moved, find_name, make_file, take_name, move_name, show_file, list_dir, read_file, unserved, deed_of, done_to, comes_to, told_as, found_in, free_in, enters, shows, makes, takes, takes_from, moves_between, lists_dir, lists_from, reads_few, reads_kind, reads_file, reads_from, Contents, lists_range, reads_extent, unless, against_taking}
-use Rattle.fuse_ops.specs.Extents.{extent_of, most_read}
+use Rattle.fuse_ops.specs.Answers.{Answers, AnswersCounted, AnswersEffect, AnswersFile, AnswersNone, AnswersShown, Deed, Effect, NameChange, NumberFault, Numbers, Tells, none_lost, one_lost, one_moved, find_name, make_file, take_name, move_name, show_file, list_dir, read_file, unserved, deed_of, done_to, comes_to, told_as, found_in, free_in, enters, shows, makes, takes, takes_from, moves_between, lists_dir, lists_from, reads_unless, reads_file, reads_from, Contents, lists_range, reads_extent, unless, against_taking}
+use Rattle.fuse_ops.specs.Extents.{Reading, extent_read, against_reading}
 use Rattle.fuse_ops.specs.Served.{Replay, ServedState, map_after, names_changed, numbers_at, place_told, plain, served_after}
 use Rattle.fuse_ops.proofs.Movable.{by-move}
 use Rattle.fuse_ops.proofs.Shapes.{error-after, none-changed, none-given}
@@ -78,7 +79,7 @@ shows-still : (tree : Tree) (o : Option FileId) → IsStillIn tree (shows tree o
 shows-still tree (Some file) = tt
 shows-still tree None = tt
 
-makes-still : (tree : Tree) (name : List ℕ) (kind : Kind) (perm : Perm) (r : Result FileId Errno) → IsStillIn tree (makes tree name kind perm r)
+makes-still : (tree : Tree) (name : List ℕ) (kind : MadeKind) (perm : Perm) (r : Result FileId Errno) → IsStillIn tree (makes tree name kind perm r)
 makes-still tree name kind perm (Ok dir) = tt
 makes-still tree name kind perm (Err errno) = tt
 
@@ -97,27 +98,24 @@ moves-still tree o name p to_name (Err errno) is = tt
 lists_dir-still : (tree : Tree) (dir : FileId) (offset size : ℕ) (kind : Option Kind) → IsStillIn tree (lists_dir tree dir offset size kind)
 lists_dir-still tree dir offset size (Some Dir) = (refl, refl)
 lists_dir-still tree dir offset size (Some File) = tt
+lists_dir-still tree dir offset size (Some Link) = tt
 lists_dir-still tree dir offset size None = tt
 
 lists_from-still : (tree : Tree) (o : Option FileId) (offset size : ℕ) → IsStillIn tree (lists_from tree o offset size)
 lists_from-still tree (Some dir) offset size = lists_dir-still tree dir offset size (kind_of tree dir)
 lists_from-still tree None offset size = tt
 
-reads_few-still : (tree : Tree) (extent : FilePart) (b : Bool) → IsStillIn tree (reads_few tree extent b)
-reads_few-still tree extent true = tt
-reads_few-still tree extent false = (refl, refl)
+reads_unless-still : (tree : Tree) (extent : FilePart) (against : Option Errno) → IsStillIn tree (reads_unless tree extent against)
+reads_unless-still tree extent (Some errno) = tt
+reads_unless-still tree extent None = (refl, refl)
 
-reads_kind-still : (tree : Tree) (file : FileId) (file_size offset size : ℕ) (kind : Kind) → IsStillIn tree (reads_kind tree file file_size offset size kind)
-reads_kind-still tree file file_size offset size File = reads_few-still tree (extent_of file file_size offset size) (nat_lt most_read size)
-reads_kind-still tree file file_size offset size Dir = tt
+reads_file-still : (tree : Tree) (file : FileId) (reading : Reading) (o : Option Content) → IsStillIn tree (reads_file tree file reading o)
+reads_file-still tree file reading (Some content) = reads_unless-still tree (extent_read file content.size reading) (against_reading reading content.kind content.size)
+reads_file-still tree file reading None = tt
 
-reads_file-still : (tree : Tree) (file : FileId) (offset size : ℕ) (o : Option Content) → IsStillIn tree (reads_file tree file offset size o)
-reads_file-still tree file offset size (Some content) = reads_kind-still tree file content.size offset size content.kind
-reads_file-still tree file offset size None = tt
-
-reads_from-still : (tree : Tree) (o : Option FileId) (offset size : ℕ) → IsStillIn tree (reads_from tree o offset size)
-reads_from-still tree (Some file) offset size = reads_file-still tree file offset size (file_of tree file)
-reads_from-still tree None offset size = tt
+reads_from-still : (tree : Tree) (o : Option FileId) (reading : Reading) → IsStillIn tree (reads_from tree o reading)
+reads_from-still tree (Some file) reading = reads_file-still tree file reading (file_of tree file)
+reads_from-still tree None reading = tt
 
 done-still : (tree : Tree) (files : ℕ → Option FileId) (deed : Deed) → IsStillIn tree (done_to tree files deed)
 done-still tree files (find_name dir name) = enters-still tree (found_in tree (files dir.0) name)
@@ -126,7 +124,7 @@ done-still tree files (take_name dir name kind) = takes_from-still tree (against
 done-still tree files (move_name dir name to_dir to_name) = moves-still tree (files dir.0) name (files to_dir.0) to_name (moves_between tree (files dir.0) name (files to_dir.0) to_name) refl
 done-still tree files (show_file node) = shows-still tree (files node.0)
 done-still tree files (list_dir dir offset size) = lists_from-still tree (files dir.0) offset size
-done-still tree files (read_file node offset size) = reads_from-still tree (files node.0) offset size
+done-still tree files (read_file node reading) = reads_from-still tree (files node.0) reading
 done-still tree files unserved = tt
 
 -- ---- memory for a second owner was refused

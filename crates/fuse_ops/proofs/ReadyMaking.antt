@@ -4,7 +4,7 @@ use Rattle.std.specs.Prelude.{if◌then◌else◌}
 use Rattle.eden_base.specs.First.{changed_where}
 use Rattle.eden_base.specs.Limits.{end_of_numbers}
 use Rattle.eden_base.specs.declared.attr.Attr.{Attr}
-use Rattle.eden_base.specs.declared.attr.Kind.{Kind}
+use Rattle.eden_base.specs.declared.attr.MadeKind.{MadeKind}
 use Rattle.eden_base.specs.declared.attr.Perm.{Perm}
 use Rattle.eden_base.specs.declared.number.FileId.{FileId}
 use Rattle.eden_base.specs.declared.number.Number.{Number}
@@ -50,7 +50,7 @@ given-spare tree map dir name = in_ (is_some (entry_at map.entries dir.0 name)) 
 
 -- ---- as the code makes it
 
-module _ (served : ServedState) (dir : Number) (name : List ℕ) (above : FileId) (may : MayMake served dir name above) (kind : Kind) (perm : Perm) (few : served.map.next < end_of_numbers) where
+module _ (served : ServedState) (dir : Number) (name : List ℕ) (above : FileId) (may : MayMake served dir name above) (kind : MadeKind) (perm : Perm) (few : served.map.next < end_of_numbers) where
   -- in that room nothing stands against the number
   pub ready-clear : (map : MapState) → map ≡ record served.map { spare = 1 } → give_fault map dir.0 name ≡ None
   ready-clear map e = ap (λ (m : MapState). give_fault m dir.0 name) e ∙ clear_next served.map dir.0 name (absent served dir name above may) few

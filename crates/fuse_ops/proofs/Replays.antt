@@ -4,6 +4,7 @@ use Rattle.std.specs.Prelude.{Contains, ◌==◌, if◌then◌else◌}
 use Rattle.std.specs.List.{AllByRecursion}
 use Rattle.eden_base.specs.declared.attr.Attr.{Attr}
 use Rattle.eden_base.specs.declared.attr.Kind.{Kind}
+use Rattle.eden_base.specs.declared.attr.MadeKind.{MadeKind}
 use Rattle.eden_base.specs.declared.attr.Perm.{Perm}
 use Rattle.eden_base.specs.declared.errno.Errno.{Errno}
 use Rattle.eden_base.specs.declared.errno.Errno.TheVariants.{ENOSYS, ESTALE, EIO, ENOMEM}
@@ -136,7 +137,7 @@ abbrev pub made_answer : Request → Result (Number × Attr) Errno → Answer
 made_answer request (Ok (number, attr)) = telling request number attr
 made_answer request (Err errno) = Error errno
 
-makes_in : (old : ServedState) (request : Request) (dir : Number) (name : List ℕ) (kind : Kind) (perm : Perm) (free : Result FileId Errno) (told : Result (Number × Attr) Errno) (new : ServedState) → TellsEntry request dir name →
+makes_in : (old : ServedState) (request : Request) (dir : Number) (name : List ℕ) (kind : MadeKind) (perm : Perm) (free : Result FileId Errno) (told : Result (Number × Attr) Errno) (new : ServedState) → TellsEntry request dir name →
     (o : Option FileId) × (free_in old.tree o name ≡ free) → MakesIn old dir name kind perm free told new → Legally old request (makes old.tree name kind perm free) (made_answer request told) new
 makes_in old request dir name kind perm (Err errno) told new tells free (e, same) = subst (λ (t : Result (Number × Attr) Errno). Legally old request (Err errno) (made_answer request t) new) (sym e) (error-legally old request errno new same)
 makes_in old request dir name kind perm (Ok above) (Ok (number, attr)) new tells free (clear, is, attr_is, is_name, same) =
@@ -147,7 +148,7 @@ makes_in old request dir name kind perm (Ok above) (Err errno) new tells free ((
     unentered-legally old request dir name (created old.tree above name kind perm) (next_file old.tree) errno new tells (refused_in old request dir name (created old.tree above name kind perm) (next_file old.tree) errno fault refusal e) same
 
 -- making a file is a legal step
-pub make-replay : (old : ServedState) (request : Request) (dir : Number) (name : List ℕ) (kind : Kind) (perm : Perm) (told : Result (Number × Attr) Errno) (new : ServedState) → deed_of request ≡ make_file dir name kind perm → Makes old dir name kind perm told new →
+pub make-replay : (old : ServedState) (request : Request) (dir : Number) (name : List ℕ) (kind : MadeKind) (perm : Perm) (told : Result (Number × Attr) Errno) (new : ServedState) → deed_of request ≡ make_file dir name kind perm → Makes old dir name kind perm told new →
     Replay old request (Some (made_answer request told)) new
 make-replay old request dir name kind perm told new does m =
     replays old request (make_file dir name kind perm) (λ n. m.dir_file) _ new does (looks-ask request dir [] (ap looked_at does)) (m.located, tt) (makes_in old request dir name kind perm (free_in old.tree m.dir_file name) told new (make-tells request dir name kind perm does) (m.dir_file, refl) m.makes)

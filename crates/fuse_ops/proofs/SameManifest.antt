@@ -2,18 +2,19 @@
 use Rattle.std.proofs.Common.{◌≡◌, ℕ, Bool, true, false, List, Option, Some, None, Result, Ok, Err, refl, ap, ◌∙◌}
 use Rattle.std.specs.Prelude.{if◌then◌else◌, nat_lt}
 use Rattle.eden_base.specs.declared.attr.Kind.{Kind}
-use Rattle.eden_base.specs.declared.attr.Kind.TheVariants.{Dir, File}
+use Rattle.eden_base.specs.declared.attr.Kind.TheVariants.{Dir, File, Link}
+use Rattle.eden_base.specs.declared.attr.MadeKind.{MadeKind}
 use Rattle.eden_base.specs.declared.attr.Perm.{Perm}
 use Rattle.eden_base.specs.declared.errno.Errno.{Errno}
 use Rattle.eden_base.specs.declared.number.FileId.{FileId}
 use Rattle.manifest.specs.Tree.{Tree, child_of, file_of, kind_of}
 use Rattle.manifest.specs.declared.content.Content.{Content}
 use Rattle.fuse_wire.specs.declared.reply.Extent.{Extent as FilePart}
-use Rattle.fuse_ops.specs.Extents.{extent_of, most_read}
+use Rattle.fuse_ops.specs.Extents.{Reading, extent_read, against_reading}
 use Rattle.fuse_wire.specs.declared.request.Request.{Request}
 use Rattle.fuse_wire.specs.declared.reply.Answer.{Answer}
 use Rattle.fuse_wire.specs.declared.reply.Answer.TheVariants.{Entry, Opened, Attrs, Done, Buffer, Extent, Error}
-use Rattle.fuse_ops.specs.Answers.{none_lost, Effect, Deed, find_name, make_file, take_name, move_name, show_file, list_dir, read_file, unserved, deed_of, done_to, comes_to, found_in, free_in, enters, shows, lists_dir, lists_from, reads_few, reads_kind, reads_file, reads_from, makes, takes, takes_from, movable, against_replacing, is_there, moves, moves_to, moves_between, unless, against_taking, tree_after}
+use Rattle.fuse_ops.specs.Answers.{none_lost, Effect, Deed, find_name, make_file, take_name, move_name, show_file, list_dir, read_file, unserved, deed_of, done_to, comes_to, found_in, free_in, enters, shows, lists_dir, lists_from, reads_unless, reads_file, reads_from, makes, takes, takes_from, movable, against_replacing, is_there, moves, moves_to, moves_between, unless, against_taking, tree_after}
 use Rattle.fuse_ops.specs.Served.{ServedState, PlainState, Replay}
 
 -- a success is over a tree of the same manifest
@@ -29,7 +30,7 @@ shows-over : (tree : Tree) (o : Option FileId) → IsOver tree (shows tree o)
 shows-over tree (Some file) = refl
 shows-over tree None = tt
 
-makes-over : (tree : Tree) (name : List ℕ) (kind : Kind) (perm : Perm) (r : Result FileId Errno) → IsOver tree (makes tree name kind perm r)
+makes-over : (tree : Tree) (name : List ℕ) (kind : MadeKind) (perm : Perm) (r : Result FileId Errno) → IsOver tree (makes tree name kind perm r)
 makes-over tree name kind perm (Ok dir) = refl
 makes-over tree name kind perm (Err errno) = tt
 
@@ -57,27 +58,24 @@ moves_between-over tree None name p to_name = tt
 lists_dir-over : (tree : Tree) (dir : FileId) (offset size : ℕ) (kind : Option Kind) → IsOver tree (lists_dir tree dir offset size kind)
 lists_dir-over tree dir offset size (Some Dir) = refl
 lists_dir-over tree dir offset size (Some File) = tt
+lists_dir-over tree dir offset size (Some Link) = tt
 lists_dir-over tree dir offset size None = tt
 
 lists_from-over : (tree : Tree) (o : Option FileId) (offset size : ℕ) → IsOver tree (lists_from tree o offset size)
 lists_from-over tree (Some dir) offset size = lists_dir-over tree dir offset size (kind_of tree dir)
 lists_from-over tree None offset size = tt
 
-reads_few-over : (tree : Tree) (extent : FilePart) (b : Bool) → IsOver tree (reads_few tree extent b)
-reads_few-over tree extent true = tt
-reads_few-over tree extent false = refl
+reads_unless-over : (tree : Tree) (extent : FilePart) (against : Option Errno) → IsOver tree (reads_unless tree extent against)
+reads_unless-over tree extent (Some errno) = tt
+reads_unless-over tree extent None = refl
 
-reads_kind-over : (tree : Tree) (file : FileId) (file_size offset size : ℕ) (kind : Kind) → IsOver tree (reads_kind tree file file_size offset size kind)
-reads_kind-over tree file file_size offset size File = reads_few-over tree (extent_of file file_size offset size) (nat_lt most_read size)
-reads_kind-over tree file file_size offset size Dir = tt
+reads_file-over : (tree : Tree) (file : FileId) (reading : Reading) (o : Option Content) → IsOver tree (reads_file tree file reading o)
+reads_file-over tree file reading (Some content) = reads_unless-over tree (extent_read file content.size reading) (against_reading reading content.kind content.size)
+reads_file-over tree file reading None = tt
 
-reads_file-over : (tree : Tree) (file : FileId) (offset size : ℕ) (o : Option Content) → IsOver tree (reads_file tree file offset size o)
-reads_file-over tree file offset size (Some content) = reads_kind-over tree file content.size offset size content.kind
-reads_file-over tree file offset size None = tt
-
-reads_from-over : (tree : Tree) (o : Option FileId) (offset size : ℕ) → IsOver tree (reads_from tree o offset size)
-reads_from-over tree (Some file) offset size = reads_file-over tree file offset size (file_of tree file)
-reads_from-over tree None offset size = tt
+reads_from-over : (tree : Tree) (o : Option FileId) (reading : Reading) → IsOver tree (reads_from tree o reading)
+reads_from-over tree (Some file) reading = reads_file-over tree file reading (file_of tree file)
+reads_from-over tree None reading = tt
 
 done-over : (tree : Tree) (files : ℕ → Option FileId) (deed : Deed) → IsOver tree (done_to tree files deed)
 done-over tree files (find_name dir name) = enters-over tree (found_in tree (files dir.0) name)
@@ -86,7 +84,7 @@ done-over tree files (take_name dir name kind) = takes_from-over tree (against_t
 done-over tree files (move_name dir name to_dir to_name) = moves_between-over tree (files dir.0) name (files to_dir.0) to_name
 done-over tree files (show_file node) = shows-over tree (files node.0)
 done-over tree files (list_dir dir offset size) = lists_from-over tree (files dir.0) offset size
-done-over tree files (read_file node offset size) = reads_from-over tree (files node.0) offset size
+done-over tree files (read_file node reading) = reads_from-over tree (files node.0) reading
 done-over tree files unserved = tt
 
 after-over : (tree : Tree) (r : Result Effect Errno) (answer : Answer) → IsOver tree r → (tree_after tree r answer).manifest ≡ tree.manifest

@@ -6,7 +6,8 @@ use Rattle.eden_base.specs.First.{changed_where}
 use Rattle.std.specs.Option.{option_map_or}
 use Rattle.eden_base.specs.declared.attr.Attr.{Attr}
 use Rattle.eden_base.specs.declared.attr.Kind.{Kind}
-use Rattle.eden_base.specs.declared.attr.Kind.TheVariants.{Dir, File}
+use Rattle.eden_base.specs.declared.attr.Kind.TheVariants.{Dir, File, Link}
+use Rattle.eden_base.specs.declared.attr.MadeKind.{MadeKind}
 use Rattle.eden_base.specs.declared.attr.Perm.{Perm}
 use Rattle.eden_base.specs.declared.errno.Errno.{Errno}
 use Rattle.eden_base.specs.declared.errno.Errno.TheVariants.{EISDIR, ENOTDIR, ENOTEMPTY}
@@ -25,6 +26,7 @@ use Rattle.fuse_wire.specs.declared.reply.Extent.{Extent as FilePart}
 use Rattle.entry_table.specs.Entries.{entry_at, stands_at, once_more, new_entry}
 use Rattle.inode_map.specs.InodeMap.{MapState, given, unlinked, relinked}
 use Rattle.entry_table.specs.declared.kept.Kept.{Kept}
+use Rattle.fuse_ops.specs.Extents.{Reading}
 use Rattle.fuse_ops.specs.Answers.{lists_range, reads_extent, NameChange, none_lost, one_lost, one_moved, Effect, Deed, find_name, make_file, take_name, move_name, show_file, list_dir, read_file, deed_of, unless, against_unlink, against_rmdir, against_taking, telling, tree_after, name_change}
 use Rattle.fuse_ops.specs.Listing.{Range}
 use Rattle.fuse_ops.specs.Served.{ServedState, place_entered, place_told, name_taken, map_after, names_changed, served_after}
@@ -89,14 +91,14 @@ pub list-form : (request : Request) (dir : Number) (offset size : ℕ) → deed_
 list-form (Other opcode node) dir offset size e = absurd (let none : ⊥ = cc in none)
 list-form request dir offset size e = cc
 
-pub read-form : (request : Request) (node : Number) (offset size : ℕ) → deed_of request ≡ read_file node offset size → form_of request ≡ FileBytes
-read-form (Other opcode other) node offset size e = absurd (let none : ⊥ = cc in none)
-read-form request node offset size e = cc
+pub read-form : (request : Request) (node : Number) (reading : Reading) → deed_of request ≡ read_file node reading → form_of request ≡ FileBytes
+read-form (Other opcode other) node reading e = absurd (let none : ⊥ = cc in none)
+read-form request node reading e = cc
 
 pub find-tells : (request : Request) (dir : Number) (name : List ℕ) → deed_of request ≡ find_name dir name → TellsEntry request dir name
 find-tells request dir name e = record { told = ap place_entered e; stays = λ map change. ap (λ (d : Deed). names_changed map d change) e; gives = entry-gives request dir name (ap place_entered e) }
 
-pub make-tells : (request : Request) (dir : Number) (name : List ℕ) (kind : Kind) (perm : Perm) → deed_of request ≡ make_file dir name kind perm → TellsEntry request dir name
+pub make-tells : (request : Request) (dir : Number) (name : List ℕ) (kind : MadeKind) (perm : Perm) → deed_of request ≡ make_file dir name kind perm → TellsEntry request dir name
 make-tells request dir name kind perm e = record { told = ap place_entered e; stays = λ map change. ap (λ (d : Deed). names_changed map d change) e; gives = entry-gives request dir name (ap place_entered e) }
 
 pub take-takes : (request : Request) (dir : Number) (name : List ℕ) (kind : Kind) → deed_of request ≡ take_name dir name kind → TakesPlace request dir name
@@ -123,6 +125,7 @@ rmdir-frees tree file e = in_ (is_dir (kind_of tree file)) (has_links tree file)
 
 pub take-frees : (kind : Kind) (tree : Tree) (file : FileId) → against_taking kind tree file ≡ None → is_full_dir tree file ≡ false
 take-frees File tree file e = unlink-frees tree file e
+take-frees Link tree file e = unlink-frees tree file e
 take-frees Dir tree file e = rmdir-frees tree file e
 
 abbrev good : FileId → Result FileId Errno
@@ -185,8 +188,8 @@ listed-after old request dir offset size effect bytes does stays = λ i. record 
   map_is = ap (λ (d : Deed). names_changed (map_after old.map (place_entered d) None) d effect.names) does
 
 -- nor does a file that is read
-pub read-after : (old : ServedState) (request : Request) (node : Number) (offset size : ℕ) (effect : Effect) (extent : FilePart) → deed_of request ≡ read_file node offset size → effect.tree ≡ old.tree → served_after old request (Ok effect) (Extent extent) ≡ old
-read-after old request node offset size effect extent does stays = λ i. record { map = map_is i; tree = stays i } where
+pub read-after : (old : ServedState) (request : Request) (node : Number) (reading : Reading) (effect : Effect) (extent : FilePart) → deed_of request ≡ read_file node reading → effect.tree ≡ old.tree → served_after old request (Ok effect) (Extent extent) ≡ old
+read-after old request node reading effect extent does stays = λ i. record { map = map_is i; tree = stays i } where
   map_is : names_changed (map_after old.map (place_told request) None) (deed_of request) effect.names ≡ old.map
   map_is = ap (λ (d : Deed). names_changed (map_after old.map (place_entered d) None) d effect.names) does
 

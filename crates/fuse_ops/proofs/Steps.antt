@@ -26,7 +26,7 @@ Does old request (take_name dir name kind) answer new = Takes old dir name (agai
 Does old request (move_name dir name to_dir to_name) answer new = Moves old dir name to_dir to_name answer new
 Does old request (show_file node) answer new = Shows old node answer × IsSamePlainly old new
 Does old request (list_dir dir offset size) answer new = ListsDir old dir offset size answer × (new ≡ old)
-Does old request (read_file node offset size) answer new = Reads old node offset size answer × (new ≡ old)
+Does old request (read_file node reading) answer new = Reads old request node reading answer × (new ≡ old)
 Does old request unserved answer new = (answer ≡ Error ENOSYS) × (new ≡ old)
 
 pub does-legal : (old : ServedState) (request : Request) (answer : Answer) (new : ServedState) → is_ask request ≡ true → Does old request (deed_of request) answer new → IsLegal old request answer new
@@ -38,7 +38,7 @@ does-legal old request answer new ask does = in_ (deed_of request) refl does whe
   in_ (move_name dir name to_dir to_name) is d = (move-replay old request dir name to_dir to_name answer new is d).1
   in_ (show_file node) is (d, same) = (show-replay old request node answer new is d same).1
   in_ (list_dir dir offset size) is (d, same) = (list-replay old request dir offset size answer new is d same).1
-  in_ (read_file node offset size) is (d, same) = (read-replay old request node offset size is answer new d same).1
+  in_ (read_file node reading) is (d, same) = (read-replay old request node reading is answer new d same).1
   in_ unserved is (e, same) = subst (λ (a : Answer). IsLegal old request a new) (sym e) (subst (λ (s : ServedState). IsLegal old request (Error ENOSYS) s) (sym same) (unserved-replay old request ask is).1)
 
 pub ruleset steps = (does-legal, replay-manifest, finds-asks, shows-asks)

@@ -6,7 +6,9 @@ use Rattle.std.specs.Option.{option_map_or}
 use Rattle.eden_base.specs.Limits.{end_of_files}
 use Rattle.eden_base.specs.declared.attr.Attr.{Attr}
 use Rattle.eden_base.specs.declared.attr.Kind.{Kind}
-use Rattle.eden_base.specs.declared.attr.Kind.TheVariants.{Dir, File}
+use Rattle.eden_base.specs.declared.attr.Kind.TheVariants.{Dir, File, Link}
+use Rattle.eden_base.specs.declared.attr.MadeKind.{MadeKind}
+use Rattle.eden_base.specs.declared.attr.MadeKind.TheVariants as made
 use Rattle.eden_base.specs.declared.attr.Perm.{Perm}
 use Rattle.eden_base.specs.declared.errno.Errno.{Errno}
 use Rattle.eden_base.specs.declared.errno.Errno.TheVariants.{ESTALE, ENOTDIR, EISDIR, ENOENT, EEXIST, EINVAL, ENOTEMPTY, ENOSPC, EOVERFLOW, EIO, ENOMEM, ENOSYS}
@@ -18,7 +20,7 @@ use Rattle.checkout.specs.ChangedTree.{attr_of, has_links, is_unlinked, next_fil
 use Rattle.checkout.specs.RenamedTree.{renamed}
 use Rattle.fuse_wire.specs.Request.{nodes, form_of}
 use Rattle.fuse_wire.specs.declared.request.Request.{Request}
-use Rattle.fuse_wire.specs.declared.request.Request.TheVariants.{Lookup, Getattr, Create, Mkdir, Unlink, Rmdir, Rename, Read, Readdir}
+use Rattle.fuse_wire.specs.declared.request.Request.TheVariants.{Lookup, Getattr, Readlink, Create, Mkdir, Unlink, Rmdir, Rename, Read, Readdir}
 use Rattle.fuse_wire.specs.declared.form.Form.{Form}
 use Rattle.fuse_wire.specs.declared.form.Form.TheVariants.{AnEntry, AnOpenEntry, Attributes}
 use Rattle.fuse_wire.specs.declared.reply.Answer.{Answer}
@@ -27,7 +29,7 @@ use Rattle.fuse_wire.specs.declared.reply.Answer.TheVariants.{Entry, Opened, Att
 use Rattle.fuse_wire.specs.declared.reply.Extent.{Extent}
 use Rattle.fuse_wire.specs.DirectoryEntries.{Dirent, entries_text}
 use Rattle.fuse_ops.specs.Above.{is_at_or_above}
-use Rattle.fuse_ops.specs.Extents.{extent_of, most_read}
+use Rattle.fuse_ops.specs.Extents.{Reading, bytes_from, whole_target, against_reading, extent_read}
 use Rattle.fuse_ops.specs.Listing.{Range, Lists, range_of}
 
 -- ---- by the tree
@@ -60,6 +62,7 @@ abbrev pub found_in_dir : Tree → FileId → List ℕ → Option Kind → Resul
 found_in_dir tree dir name (Some Dir) =
     option_map_or (λ (file : FileId). Ok file) (child_of tree dir name) (Err ENOENT)
 found_in_dir tree dir name (Some File) = Err ENOTDIR
+found_in_dir tree dir name (Some Link) = Err ENOTDIR
 found_in_dir tree dir name None = Err ENOTDIR
 
 -- the file under a name in the directory that a number names, if it names one, or the error
@@ -85,6 +88,7 @@ free_in_dir tree dir name (Some Dir) =
     else if nat_le end_of_files tree.next_file then Err ENOSPC
     else Ok dir
 free_in_dir tree dir name (Some File) = Err ENOTDIR
+free_in_dir tree dir name (Some Link) = Err ENOTDIR
 free_in_dir tree dir name None = Err ENOTDIR
 
 -- the directory that a number names, if it names one and a new file may get this name in it, else the error
@@ -93,7 +97,7 @@ free_in tree (Some dir) name = free_in_dir tree dir name (kind_of tree dir)
 free_in tree None name = Err ESTALE
 
 -- a success that makes a file under this name and answers with an entry for it, or the error
-abbrev pub makes : Tree → List ℕ → Kind → Perm → Result FileId Errno → Result Effect Errno
+abbrev pub makes : Tree → List ℕ → MadeKind → Perm → Result FileId Errno → Result Effect Errno
 makes tree name kind perm (Ok dir) = Ok (record {
   tree = created tree dir name kind perm;
   file = Some (next_file tree);
@@ -128,9 +132,11 @@ abbrev pub takes_from : Tree → (FileId → Option Errno) → Option FileId →
 takes_from tree against (Some dir) name = takes tree dir name (unless against (found_in tree (Some dir) name))
 takes_from tree against None name = Err ESTALE
 
--- why a name may not be taken from this file, by the kind of file that the request is for
+-- why a name may not be taken from this file, by the kind of file that the request is for; a symbolic link is taken as a
+-- regular file is
 abbrev pub against_taking : Kind → Tree → FileId → Option Errno
 against_taking File = against_unlink
+against_taking Link = against_unlink
 against_taking Dir = against_rmdir
 
 -- ---- a move
@@ -197,6 +203,7 @@ lists_dir tree dir offset size (Some Dir) = Ok (record {
   contents = Some (lists_range (range_of dir offset size));
 })
 lists_dir tree dir offset size (Some File) = Err ENOTDIR
+lists_dir tree dir offset size (Some Link) = Err ENOTDIR
 lists_dir tree dir offset size None = Err ENOTDIR
 
 -- a success that lists part of the directory that a number names, if it names one, or the error
@@ -206,10 +213,10 @@ lists_from tree None offset size = Err ESTALE
 
 -- ---- a file that is read
 
--- a success that reads an extent, for which so many bytes were asked, unless these are more than an answer may have
-abbrev pub reads_few : Tree → Extent → Bool → Result Effect Errno
-reads_few tree extent true = Err EINVAL
-reads_few tree extent false = Ok (record {
+-- a success that reads an extent, unless something stands against it
+abbrev pub reads_unless : Tree → Extent → Option Errno → Result Effect Errno
+reads_unless tree extent (Some errno) = Err errno
+reads_unless tree extent None = Ok (record {
   tree = tree;
   file = None;
   counts = false;
@@ -217,35 +224,30 @@ reads_few tree extent false = Ok (record {
   contents = Some (reads_extent extent);
 })
 
--- a success that reads part of a file with this content, if it is no directory, else the error
-abbrev pub reads_kind : Tree → FileId → ℕ → ℕ → ℕ → Kind → Result Effect Errno
-reads_kind tree file file_size offset size File =
-    reads_few tree (extent_of file file_size offset size) (nat_lt most_read size)
-reads_kind tree file file_size offset size Dir = Err EISDIR
+-- a success that reads a file, if there is one, or the error
+abbrev pub reads_file : Tree → FileId → Reading → Option Content → Result Effect Errno
+reads_file tree file reading (Some content) =
+    reads_unless tree (extent_read file content.size reading) (against_reading reading content.kind content.size)
+reads_file tree file reading None = Err ESTALE
 
--- a success that reads part of a file, if there is one, or the error
-abbrev pub reads_file : Tree → FileId → ℕ → ℕ → Option Content → Result Effect Errno
-reads_file tree file offset size (Some content) = reads_kind tree file content.size offset size content.kind
-reads_file tree file offset size None = Err ESTALE
-
--- a success that reads part of the file that a number names, if it names one, or the error
-abbrev pub reads_from : Tree → Option FileId → ℕ → ℕ → Result Effect Errno
-reads_from tree (Some file) offset size = reads_file tree file offset size (file_of tree file)
-reads_from tree None offset size = Err ESTALE
+-- a success that reads the file that a number names, if it names one, or the error
+abbrev pub reads_from : Tree → Option FileId → Reading → Result Effect Errno
+reads_from tree (Some file) reading = reads_file tree file reading (file_of tree file)
+reads_from tree None reading = Err ESTALE
 
 -- ---- what is done
 
 -- what is done for a request: a name in the directory of a number is found, is given to a file that is made, is taken
 -- from its file, or moves to another name; the file of a number is shown; or part of the directory of a number is
--- listed, or of the file of a number read
+-- listed, or the file of a number is read
 pub data Deed : Type 0 where
   find_name : (dir : Number) (name : List ℕ) → Deed
-  make_file : (dir : Number) (name : List ℕ) (kind : Kind) (perm : Perm) → Deed
+  make_file : (dir : Number) (name : List ℕ) (kind : MadeKind) (perm : Perm) → Deed
   take_name : (dir : Number) (name : List ℕ) (kind : Kind) → Deed
   move_name : (dir : Number) (name : List ℕ) (to_dir : Number) (to_name : List ℕ) → Deed
   show_file : (node : Number) → Deed
   list_dir : (dir : Number) (offset size : ℕ) → Deed
-  read_file : (node : Number) (offset size : ℕ) → Deed
+  read_file : (node : Number) (reading : Reading) → Deed
   -- nothing: the request is not served
   unserved : Deed
 
@@ -253,12 +255,13 @@ pub data Deed : Type 0 where
 abbrev pub deed_of : Request → Deed
 deed_of (Lookup dir name) = find_name dir name
 deed_of (Getattr node) = show_file node
-deed_of (Create dir name perm) = make_file dir name File perm
-deed_of (Mkdir dir name perm) = make_file dir name Dir perm
+deed_of (Readlink node) = read_file node whole_target
+deed_of (Create dir name perm) = make_file dir name made.File perm
+deed_of (Mkdir dir name perm) = make_file dir name made.Dir perm
 deed_of (Unlink dir name) = take_name dir name File
 deed_of (Rmdir dir name) = take_name dir name Dir
 deed_of (Rename dir name to_dir to_name) = move_name dir name to_dir to_name
-deed_of (Read node offset size) = read_file node offset size
+deed_of (Read node offset size) = read_file node (bytes_from offset size)
 deed_of (Readdir dir offset size) = list_dir dir offset size
 deed_of request = unserved
 
@@ -270,7 +273,7 @@ looked_at (take_name dir name kind) = dir ∷ []
 looked_at (move_name dir name to_dir to_name) = dir ∷ to_dir ∷ []
 looked_at (show_file node) = node ∷ []
 looked_at (list_dir dir offset size) = dir ∷ []
-looked_at (read_file node offset size) = node ∷ []
+looked_at (read_file node reading) = node ∷ []
 looked_at unserved = []
 
 -- what a deed comes to, if `files` says which file each number names; one row a deed
@@ -282,7 +285,7 @@ done_to tree files (move_name dir name to_dir to_name) =
     moves_between tree (files dir.0) name (files to_dir.0) to_name
 done_to tree files (show_file node) = shows tree (files node.0)
 done_to tree files (list_dir dir offset size) = lists_from tree (files dir.0) offset size
-done_to tree files (read_file node offset size) = reads_from tree (files node.0) offset size
+done_to tree files (read_file node reading) = reads_from tree (files node.0) reading
 done_to tree files unserved = Err ENOSYS
 
 -- the numbers whose files are looked at for a request

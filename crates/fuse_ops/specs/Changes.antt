@@ -2,7 +2,7 @@
 -- inode lifetime: a number names its file though the file's name is gone.)
 use Rattle.std.specs.Prelude.{◌≡◌, ℕ, false, List, Some, None}
 use Rattle.eden_base.specs.declared.attr.Kind.TheVariants.{Dir}
-use Rattle.eden_base.specs.declared.attr.Kind.{Kind}
+use Rattle.eden_base.specs.declared.attr.MadeKind.{MadeKind}
 use Rattle.eden_base.specs.declared.attr.Perm.{Perm}
 use Rattle.eden_base.specs.declared.number.FileId.{FileId}
 use Rattle.eden_base.specs.declared.number.Number.{Number}
@@ -24,7 +24,7 @@ pub record KeepsNames (old new : ServedState) : Type 0 where
 -- the law of making a file under a free name
 abbrev pub MakingLaw : Type 0
 MakingLaw =
-    (served : ServedState) (dir : FileId) (name : List ℕ) (kind : Kind) (perm : Perm) →
+    (served : ServedState) (dir : FileId) (name : List ℕ) (kind : MadeKind) (perm : Perm) →
     IsTree served.tree → IsSound served → child_of served.tree dir name ≡ None →
     KeepsNames served (record served { tree = created served.tree dir name kind perm })
 

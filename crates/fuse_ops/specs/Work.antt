@@ -4,7 +4,8 @@ use Rattle.std.specs.Option.{option_map}
 use Rattle.eden_base.specs.Limits.{end_of_numbers}
 use Rattle.eden_base.specs.Name.{IsNameText}
 use Rattle.eden_base.specs.declared.attr.Kind.{Kind}
-use Rattle.eden_base.specs.declared.attr.Kind.TheVariants.{Dir, File}
+use Rattle.eden_base.specs.declared.attr.Kind.TheVariants.{Dir, File, Link}
+use Rattle.eden_base.specs.declared.attr.MadeKind.{MadeKind}
 use Rattle.eden_base.specs.declared.attr.Perm.{Perm}
 use Rattle.eden_base.specs.declared.attr.Attr.{Attr}
 use Rattle.eden_base.specs.declared.errno.Errno.{Errno}
@@ -14,7 +15,7 @@ use Rattle.eden_base.specs.declared.number.Number.{Number}
 use Rattle.manifest.specs.Tree.{Tree, IsTree, StandsIn, child_of, file_of, kind_of, root}
 use Rattle.checkout.specs.ChangedTree.{attr_of, next_file, created, removed}
 use Rattle.fuse_wire.specs.DirectoryEntries.{Dirent, Listed, entries_text}
-use Rattle.fuse_wire.specs.declared.request.Request.TheVariants.{Read}
+use Rattle.fuse_wire.specs.declared.request.Request.{Request}
 use Rattle.fuse_wire.specs.declared.reply.Answer.{Answer}
 use Rattle.fuse_wire.specs.declared.reply.Answer.TheVariants.{Entry, Attrs, Done, Error}
 use Rattle.inode_map.specs.InodeMap.{IsGiveRefusal, give_fault, given, number_given}
@@ -23,6 +24,7 @@ use Rattle.inode_map.specs.declared.inode_map.GiveFault.TheVariants.{NoNumber, T
 use Rattle.checkout.specs.RenamedTree.{renamed}
 use Rattle.entry_table.specs.Entries.{IsFileOf}
 use Rattle.fuse_ops.specs.Answers.{Answers, AnswersListed, reads_from, one_moved, Effect, found_in, free_in, unless, movable, against_replacing, is_there, moves_between, move_name}
+use Rattle.fuse_ops.specs.Extents.{Reading}
 use Rattle.fuse_ops.specs.Listing.{IsEnd, IsFirstEntry, Lists, range_of}
 use Rattle.fuse_ops.specs.Served.{ServedState, IsInode, IsLocated, IsUnloaded, numbers_at, plain, name_taken, name_moved, names_changed}
 use Rattle.fuse_ops.specs.declared.served.Found.{Found}
@@ -109,6 +111,7 @@ abbrev pub ListsKind : ServedState → FileId → ℕ → ℕ → Option Kind �
 ListsKind served dir offset size (Some Dir) answer =
     AnswersListed (IsInode served) served.tree (range_of dir offset size) answer
 ListsKind served dir offset size (Some File) answer = answer ≡ Error ENOTDIR
+ListsKind served dir offset size (Some Link) answer = answer ≡ Error ENOTDIR
 ListsKind served dir offset size None answer = answer ≡ Error ENOTDIR
 
 -- this is an answer with part of the directory that a number names, if it names one
@@ -123,11 +126,12 @@ pub record ListsDir (served : ServedState) (dir : Number) (offset size : ℕ) (a
   pub located : IsLocated served dir.0 dir_file
   pub lists : ListsFile served dir_file offset size answer
 
--- this is an answer to a READ
-pub record Reads (served : ServedState) (node : Number) (offset size : ℕ) (answer : Answer) : Type 0 where
+-- this is an answer to a request that reads the file that a number names
+pub record Reads (served : ServedState) (request : Request) (node : Number) (reading : Reading)
+    (answer : Answer) : Type 0 where
   pub file : Option FileId
   pub located : IsLocated served node.0 file
-  pub answers : Answers (numbers_at served None) (Read node offset size) (reads_from served.tree file offset size) answer
+  pub answers : Answers (numbers_at served None) request (reads_from served.tree file reading) answer
 
 -- this is the first entry of a directory from a position on, if there is one
 abbrev pub IsNextEntry : ServedState → FileId → ℕ → Option Dirent → Type 0
@@ -167,14 +171,14 @@ MakesFile old dir name file tree (Err errno) new =
     ((fault : GiveFault) × IsGiveRefusal old.map dir.0 name fault × (errno ≡ errno_of fault)) × IsSamePlainly old new
 
 -- an error is returned as it is; in a directory a file is made
-abbrev pub MakesIn : ServedState → Number → List ℕ → Kind → Perm → Result FileId Errno → Result (Number × Attr) Errno →
+abbrev pub MakesIn : ServedState → Number → List ℕ → MadeKind → Perm → Result FileId Errno → Result (Number × Attr) Errno →
     ServedState → Type 0
 MakesIn old dir name kind perm (Ok above) told new =
     MakesFile old dir name (next_file old.tree) (created old.tree above name kind perm) told new
 MakesIn old dir name kind perm (Err errno) told new = (told ≡ Err errno) × IsSamePlainly old new
 
 -- a file is made under a name in the directory that a number names, or this error is returned
-pub record Makes (old : ServedState) (dir : Number) (name : List ℕ) (kind : Kind) (perm : Perm)
+pub record Makes (old : ServedState) (dir : Number) (name : List ℕ) (kind : MadeKind) (perm : Perm)
     (told : Result (Number × Attr) Errno) (new : ServedState) : Type 0 where
   pub dir_file : Option FileId
   pub located : IsLocated old dir.0 dir_file

@@ -22,7 +22,7 @@ mod names;
 mod reading;
 
 use checkout::{Backing, Tree};
-use eden_base::{Errno, FileId, Kind, Name, NoMemory, Number, Perm};
+use eden_base::{Errno, FileId, Kind, MadeKind, Name, NoMemory, Number, Perm};
 use fuse_wire::{Answer, Item, Request};
 use inode_map::{InodeMap, NamedEntries};
 use manifest::{Manifest, nlink_of_kind};
@@ -175,6 +175,7 @@ impl Served {
         match request {
             Request::Lookup { dir, name } => Some(self.look_up(alloc, backing, *dir, name)),
             Request::Getattr { node } => Some(self.get_attr(backing, *node)),
+            Request::Readlink { node } => Some(self.read_link(*node)),
             Request::Create { dir, name, perm } => Some(self.create(alloc, *dir, name, *perm)),
             Request::Mkdir { dir, name, perm } => Some(self.make_dir(alloc, *dir, name, *perm)),
             Request::Unlink { dir, name } => Some(self.unlink(*dir, name)),
@@ -206,7 +207,7 @@ impl Served {
         ensures loads { Loads self.old.map (Create dir name.now perm) (Some result) self.new.map }
         ensures no_eio { result ≡ Error EIO → ⊥ }
     {
-        match self.make(alloc, dir, name, Kind::File, perm) {
+        match self.make(alloc, dir, name, MadeKind::File, perm) {
             Ok((number, attr)) => Answer::Opened { number, attr },
             Err(errno) => Answer::Error(errno),
         }
@@ -219,7 +220,7 @@ impl Served {
         ensures loads { Loads self.old.map (Mkdir dir name.now perm) (Some result) self.new.map }
         ensures no_eio { result ≡ Error EIO → ⊥ }
     {
-        match self.make(alloc, dir, name, Kind::Dir, perm) {
+        match self.make(alloc, dir, name, MadeKind::Dir, perm) {
             Ok((number, attr)) => Answer::Entry { number, attr },
             Err(errno) => Answer::Error(errno),
         }

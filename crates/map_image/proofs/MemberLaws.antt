@@ -9,8 +9,8 @@ use Rattle.byte_codec.proofs.PairLaws.{IsCodec, codec_as, made, pair, read_as, s
 use Rattle.byte_codec.proofs.StepLemmas.{bind_assoc}
 use Rattle.byte_codec.proofs.YieldLemmas.{Any, Value, if_yields, unless_yields}
 use Rattle.eden_base.specs.Name.{IsNameText}
-use Rattle.eden_base.specs.declared.attr.Kind.{Kind}
-use Rattle.eden_base.specs.declared.attr.Kind.TheVariants.{Dir, File as RegularFile}
+use Rattle.eden_base.specs.declared.attr.MadeKind.{MadeKind}
+use Rattle.eden_base.specs.declared.attr.MadeKind.TheVariants.{Dir, File as RegularFile}
 use Rattle.eden_base.specs.declared.attr.Perm.{Perm}
 use Rattle.eden_base.specs.declared.number.FileId.{FileId}
 use Rattle.eden_base.specs.declared.place.Place.{Place}
@@ -154,11 +154,11 @@ of_perm = seen Any (λ (perm : Perm). perm.bits) see_perm of_two
     Value (same, refl, tt)))
     (λ perm rest any. (omega (arith, perm.in_range), perm_seen perm.bits rest perm refl))
 
-abbrev is_dir : Kind → Bool
+abbrev is_dir : MadeKind → Bool
 is_dir Dir = true
 is_dir RegularFile = false
 
-dir_is : (kind : Kind) → (kind_mark kind ≡ bit (is_dir kind)) × (kind_of_mark (is_dir kind) ≡ kind)
+dir_is : (kind : MadeKind) → (kind_mark kind ≡ bit (is_dir kind)) × (kind_of_mark (is_dir kind) ≡ kind)
 dir_is Dir = (refl, refl)
 dir_is RegularFile = (refl, refl)
 

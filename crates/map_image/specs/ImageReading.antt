@@ -6,8 +6,8 @@ use Rattle.std.specs.Cmp.Lexicographic.{pointwise}
 use Rattle.std.specs.Int.{w16, w64}
 use Rattle.std.specs.List.{list_all}
 use Rattle.byte_codec.specs.Reading.{◌>>=◌, byte_at, bytes_at, number_at}
-use Rattle.eden_base.specs.declared.attr.Kind.{Kind}
-use Rattle.eden_base.specs.declared.attr.Kind.TheVariants.{Dir, File as RegularFile}
+use Rattle.eden_base.specs.declared.attr.MadeKind.{MadeKind}
+use Rattle.eden_base.specs.declared.attr.MadeKind.TheVariants.{Dir, File as RegularFile}
 use Rattle.eden_base.specs.declared.attr.Perm.{Perm}
 use Rattle.eden_base.specs.Name.{name_fault}
 use Rattle.eden_base.specs.declared.number.FileId.{FileId}
@@ -110,7 +110,7 @@ file_at last bytes = do
   if is_next_file last n.0 then Ok n else Err NotRising
 
 -- the kind that a mark says
-abbrev pub kind_of_mark : Bool → Kind
+abbrev pub kind_of_mark : Bool → MadeKind
 kind_of_mark true = Dir
 kind_of_mark false = RegularFile
 

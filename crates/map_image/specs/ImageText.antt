@@ -4,8 +4,8 @@ use Rattle.std.specs.Prelude.{All, ◌≡◌, ℕ, ◌<◌, ◌≤◌, ◌^◌, 
 use Rattle.std.specs.Int.{w16, w64}
 use Rattle.std.specs.List.{flat_map}
 use Rattle.byte_codec.specs.Field.{byte_text, number_bytes}
-use Rattle.eden_base.specs.declared.attr.Kind.{Kind}
-use Rattle.eden_base.specs.declared.attr.Kind.TheVariants.{Dir, File as RegularFile}
+use Rattle.eden_base.specs.declared.attr.MadeKind.{MadeKind}
+use Rattle.eden_base.specs.declared.attr.MadeKind.TheVariants.{Dir, File as RegularFile}
 use Rattle.eden_base.specs.declared.number.FileId.{FileId}
 use Rattle.eden_base.specs.declared.place.Place.{Place}
 use Rattle.eden_base.specs.declared.place.Place.TheVariants.{Linked, Unlinked}
@@ -37,7 +37,7 @@ abbrev pub place_text : Place → List ℕ
 place_text (Linked parent name) = number_bytes w64 parent.0 ++ name_text name
 place_text (Unlinked file) = number_bytes w64 file.0
 
-abbrev pub kind_mark : Kind → ℕ
+abbrev pub kind_mark : MadeKind → ℕ
 kind_mark RegularFile = 0
 kind_mark Dir = 1
 

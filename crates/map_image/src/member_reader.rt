@@ -7,7 +7,7 @@ use crate::reader::{counted_at, mark_at, named, number_at};
 use crate::{ImageFault, VersionForm};
 use byte_codec::{u16_at, u64_at};
 use checkout::Made;
-use eden_base::{FileId, Kind, Name, Number, Perm, Place};
+use eden_base::{FileId, MadeKind, Name, Number, Perm, Place};
 use entry_table::Kept;
 use manifest::LinkChange;
 use std::alloc::Global;
@@ -127,10 +127,14 @@ fn perm_at(bytes: &[u8]) -> Result<(Perm, &[u8]), ImageFault>
 }
 
 /// Returns the kind that a mark says.
-fn kind_of_mark(is_dir: bool) -> Kind
+fn kind_of_mark(is_dir: bool) -> MadeKind
     ensures { result ≡ kind_of_mark is_dir }
 {
-    if is_dir { Kind::Dir } else { Kind::File }
+    if is_dir {
+        MadeKind::Dir
+    } else {
+        MadeKind::File
+    }
 }
 
 /// Reads a made file that follows those in `done`, and returns it and the rest.

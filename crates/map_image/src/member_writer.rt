@@ -10,7 +10,7 @@ ghost use Rattle.map_image.specs.Writing.{is_too_large};
 use crate::{CountWidth, VersionForm};
 use byte_codec::{put_byte, put_slice, put_u16, put_u32, put_u64};
 use checkout::Made;
-use eden_base::{FileId, Kind, Name, Place};
+use eden_base::{FileId, MadeKind, Name, Place};
 use entry_table::Kept;
 use manifest::LinkChange;
 
@@ -80,12 +80,12 @@ fn put_entry(out: &mut Vec<u8>, form: VersionForm, kept: &Kept)
 }
 
 /// Returns the mark of a kind: 0 for a file, 1 for a directory.
-fn kind_mark(kind: Kind) -> u8
+fn kind_mark(kind: MadeKind) -> u8
     ensures { result ≡ kind_mark kind }
 {
     match kind {
-        Kind::File => 0,
-        Kind::Dir => 1,
+        MadeKind::File => 0,
+        MadeKind::Dir => 1,
     }
 }
 

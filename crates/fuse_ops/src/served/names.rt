@@ -10,7 +10,9 @@ ghost use Rattle.fuse_ops.specs.Loading.{LoadsTold, LoadsNone};
 ghost use Rattle.fuse_ops.specs.Work.{IsFree, IsNextRefusal, Makes, NameIsTaken};
 
 use super::Served;
-use eden_base::{Attr, END_OF_FILES, END_OF_NUMBERS, Errno, FileId, Kind, Name, Number, Perm};
+use eden_base::{
+    Attr, END_OF_FILES, END_OF_NUMBERS, Errno, FileId, Kind, MadeKind, Name, Number, Perm,
+};
 use inode_map::InodeMap;
 use manifest::nlink_of_kind;
 use std::alloc::Global;
@@ -23,7 +25,7 @@ impl Served {
         alloc: Global,
         dir: Number,
         name: &Name,
-        kind: Kind,
+        kind: MadeKind,
         perm: Perm,
     ) -> Result<(Number, Attr), Errno>
         ensures makes { Makes self.old dir name.now kind perm result self.new }
@@ -42,6 +44,7 @@ impl Served {
             unreachable!()
         };
         self.map.remember(number, file);
+        let kind = kind.kind();
         let nlink = nlink_of_kind(kind);
         let attr = Attr {
             kind,

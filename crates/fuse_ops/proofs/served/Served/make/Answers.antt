@@ -2,7 +2,9 @@
 use Rattle.std.proofs.Common.{◌≡◌, ℕ, List, Some, Err, refl, rules, sym, ap, ◌∙◌, subst, inr}
 use Rattle.eden_base.specs.declared.errno.Errno.TheVariants.{ENOMEM}
 use Rattle.checkout.proofs.AttrLaws.{attr_of-created}
+use Rattle.eden_base.specs.Kinds.{kind_made}
 use Rattle.eden_base.specs.declared.attr.Kind.{Kind}
+use Rattle.eden_base.specs.declared.attr.MadeKind.{MadeKind}
 use Rattle.eden_base.specs.declared.attr.Perm.{Perm}
 use Rattle.eden_base.specs.declared.number.FileId.{FileId}
 use Rattle.manifest.specs.Tree.{Tree, nlink_of_kind}
@@ -20,9 +22,9 @@ use Rattle.fuse_ops.proofs.Remembering.{plainly-remembers, remembers-in}
 use Rattle.fuse_ops.proofs.served.Served.make.Goals as goal
 
 -- the attributes of the file that was made
-made-attr : (old new : Tree) (dir : FileId) (name : List ℕ) (kind : Kind) (perm : Perm) (file : FileId) (nlink : ℕ) → new ≡ created old dir name kind perm → file ≡ next_file old → nlink ≡ nlink_of_kind kind →
-    attr_of new file ≡ Some (record { kind = kind; perm = perm; size = 0; nlink = nlink })
-made-attr old new dir name kind perm file nlink made is links = rw (made, is, links) (attr_of-created old dir name kind perm)
+made-attr : (old new : Tree) (dir : FileId) (name : List ℕ) (kind : MadeKind) (perm : Perm) (file : FileId) (now : Kind) (nlink : ℕ) → new ≡ created old dir name kind perm → file ≡ next_file old → now ≡ kind_made kind → nlink ≡ nlink_of_kind now →
+    attr_of new file ≡ Some (record { kind = now; perm = perm; size = 0; nlink = nlink })
+made-attr old new dir name kind perm file now nlink made is kinds links = rw (links, kinds, made, is) (attr_of-created old dir name kind perm)
 
 pub returns-in-Err-clause-makes : goal.returns-in-Err-clause-makes
 returns-in-Err-clause-makes c =
@@ -98,7 +100,7 @@ invariant_of-self-2 c =
     let sound = made-sound _ _ _ _ may c.args.kind c.args.perm c.in-Ok.ensures.left c.give_ready.new.self c.ready.new.map c.create.new.self c.in-Ok.ensures.room gave c.in-Ok-create.ensures.created c.create.ensures.is_tree in
     let names = subst (λ (f : FileId). IsFileOf c.create.new.self c.give_ready.new.self.entries c.in-Ok-give_ready.number.0 f) (sym c.in-Ok-create.ensures.file) right.0 in
     let loads = ap (λ (m : MapState). plain (served_over c.create.new.self m)) c.load.ensures.loaded in
-    let is_attr = made-attr c.self.inside.tree c.create.new.self c.in_ok-above.above c.args.name.now c.args.kind c.args.perm c.in-Ok-create.file c.nlink_of_kind-nlink.result c.in-Ok-create.ensures.created c.in-Ok-create.ensures.file c.nlink_of_kind-nlink.ensures.nlink in (
+    let is_attr = made-attr c.self.inside.tree c.create.new.self c.in_ok-above.above c.args.name.now c.args.kind c.args.perm c.in-Ok-create.file c.kind-kind.result c.nlink_of_kind-nlink.result c.in-Ok-create.ensures.created c.in-Ok-create.ensures.file c.kind-kind.ensures.kind c.nlink_of_kind-nlink.ensures.nlink in (
       c.create.ensures.is_tree,
       sound-plainly (served_over c.create.new.self c.give_ready.new.self) (served_over c.create.new.self c.load.new.self) (loads ∙ ap (λ (m : MapState). plain (served_over c.create.new.self m)) c.remember.ensures.remembered) sound,
       plainly-remembers (served_over c.create.new.self c.remember.new.self) (served_over c.create.new.self c.load.new.self) loads (ap (λ (m : MapState). m.remembered) c.load.ensures.loaded)
@@ -109,7 +111,7 @@ invariant_of-self-2 c =
 
 pub returns-clause-makes : goal.returns-clause-makes
 returns-clause-makes c =
-    let is_attr = made-attr c.self.inside.tree c.create.new.self c.in_ok-above.above c.args.name.now c.args.kind c.args.perm c.in-Ok-create.file c.nlink_of_kind-nlink.result c.in-Ok-create.ensures.created c.in-Ok-create.ensures.file c.nlink_of_kind-nlink.ensures.nlink in
+    let is_attr = made-attr c.self.inside.tree c.create.new.self c.in_ok-above.above c.args.name.now c.args.kind c.args.perm c.in-Ok-create.file c.kind-kind.result c.nlink_of_kind-nlink.result c.in-Ok-create.ensures.created c.in-Ok-create.ensures.file c.kind-kind.ensures.kind c.nlink_of_kind-nlink.ensures.nlink in
     search rules
 
 pub returns-clause-loads : goal.returns-clause-loads
@@ -120,7 +122,7 @@ returns-clause-loads c =
     let number = c.in-Ok-give_ready.ensures.number ∙ ap (number_given c.ready.new.map c.args.dir.0) c.in-Ok.ensures.name in
     let right = made-remembers _ _ _ _ may c.args.kind c.args.perm c.in-Ok.ensures.left c.give_ready.new.self c.ready.new.map c.create.new.self c.in-Ok-give_ready.number c.in-Ok.ensures.room gave c.in-Ok-create.ensures.created c.create.ensures.is_tree number c.self.invariant.2 in
     let names = subst (λ (f : FileId). IsFileOf c.create.new.self c.give_ready.new.self.entries c.in-Ok-give_ready.number.0 f) (sym c.in-Ok-create.ensures.file) right.0 in
-    let is_attr = made-attr c.self.inside.tree c.create.new.self c.in_ok-above.above c.args.name.now c.args.kind c.args.perm c.in-Ok-create.file c.nlink_of_kind-nlink.result c.in-Ok-create.ensures.created c.in-Ok-create.ensures.file c.nlink_of_kind-nlink.ensures.nlink in
-    subst (λ (s : ServedState). LoadsTold s.map c.in-Ok-give_ready.number (record { kind = c.args.kind; perm = c.args.perm; size = 0; nlink = c.nlink_of_kind-nlink.result }) c.load.new.self) same
+    let is_attr = made-attr c.self.inside.tree c.create.new.self c.in_ok-above.above c.args.name.now c.args.kind c.args.perm c.in-Ok-create.file c.kind-kind.result c.nlink_of_kind-nlink.result c.in-Ok-create.ensures.created c.in-Ok-create.ensures.file c.kind-kind.ensures.kind c.nlink_of_kind-nlink.ensures.nlink in
+    subst (λ (s : ServedState). LoadsTold s.map c.in-Ok-give_ready.number (record { kind = c.kind-kind.result; perm = c.args.perm; size = 0; nlink = c.nlink_of_kind-nlink.result }) c.load.new.self) same
     (made-told _ _ _ _ may c.args.kind c.args.perm c.in-Ok.ensures.left c.give_ready.new.self c.ready.new.map c.remember.new.self c.create.new.self c.in-Ok-give_ready.number c.in-Ok-create.file c.in-Ok.ensures.room gave c.in-Ok-create.ensures.created c.create.ensures.is_tree number c.self.invariant.3 c.remember.ensures.remembered
     c.load.new.self _ names is_attr c.load.ensures.loaded)
