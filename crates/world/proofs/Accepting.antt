@@ -5,7 +5,8 @@ use Rattle.std.specs.Prelude.{nat_lt}
 use Rattle.std.proofs.lemmas.Bool.Decides.{nat_tests}
 use Rattle.eden_base.specs.declared.attr.Attr.{Attr}
 use Rattle.eden_base.specs.declared.attr.Kind.{Kind}
-use Rattle.eden_base.specs.declared.attr.Kind.TheVariants.{Dir, File}
+use Rattle.eden_base.specs.declared.attr.Kind.TheVariants.{Dir, File, Link}
+use Rattle.eden_base.specs.declared.attr.MadeKind.{MadeKind}
 use Rattle.eden_base.specs.declared.attr.Perm.{Perm}
 use Rattle.eden_base.specs.declared.errno.Errno.{Errno}
 use Rattle.eden_base.specs.declared.errno.Errno.TheVariants.{ESTALE, ENOTDIR, EISDIR, EINVAL, EIO, ENOMEM, ENOSYS}
@@ -27,8 +28,8 @@ use Rattle.entry_table.specs.Entries.{entry_at, stands_at, number_of_kept}
 use Rattle.entry_table.specs.declared.kept.Kept.{Kept}
 use Rattle.entry_table.proofs.EntryLemmas.{numbers-bound, numbers-entry, entry_of-first}
 use Rattle.inode_map.specs.InodeMap.{number_given}
-use Rattle.fuse_ops.specs.Answers.{NumberFault, number_errno, Effect, enters, shows, lists_dir, lists_from, reads_few, reads_kind, reads_file, reads_from, makes, takes, takes_from, moves_between, found_in, free_in, unless, against_taking, told_as, AnswersCounted, Answers, Deed, find_name, make_file, take_name, move_name, show_file, list_dir, read_file, unserved, deed_of, done_to}
-use Rattle.fuse_ops.specs.Extents.{extent_of, most_read}
+use Rattle.fuse_ops.specs.Answers.{NumberFault, number_errno, Effect, enters, shows, lists_dir, lists_from, reads_unless, reads_file, reads_from, makes, takes, takes_from, moves_between, found_in, free_in, unless, against_taking, told_as, AnswersCounted, Answers, Deed, find_name, make_file, take_name, move_name, show_file, list_dir, read_file, unserved, deed_of, done_to}
+use Rattle.fuse_ops.specs.Extents.{Reading, extent_read, against_reading}
 use Rattle.fuse_ops.specs.Served.{ServedState, numbers_at, place_told, IsLegal}
 use Rattle.fuse_ops.specs.Soundness.{IsSound}
 use Rattle.fuse_ops.proofs.Movable.{by-move}
@@ -84,7 +85,7 @@ module _ (served : ServedState) (request : Request) (answer : Answer) (sound : I
   find_in dir name tree (Ok file) tells (fault, against, a) = counted_in dir name tree file tells fault a
   find_in dir name tree (Err errno) tells a = error-taken (form_of request) answer errno a
 
-  make_in : (dir : Number) (name : List ℕ) (tree : Tree) (kind : Kind) (perm : Perm) (free : Result FileId Errno) → TellsEntry request dir name → Legal (makes tree name kind perm free) → Taken
+  make_in : (dir : Number) (name : List ℕ) (tree : Tree) (kind : MadeKind) (perm : Perm) (free : Result FileId Errno) → TellsEntry request dir name → Legal (makes tree name kind perm free) → Taken
   make_in dir name tree kind perm (Ok above) tells (fault, against, a) = counted_in dir name _ _ tells fault a
   make_in dir name tree kind perm (Err errno) tells a = error-taken (form_of request) answer errno a
 
@@ -122,6 +123,7 @@ module _ (served : ServedState) (request : Request) (answer : Answer) (sound : I
   list_dir_in tree dir offset size (Some Dir) form (inl (entries, lists, e)) = subst (λ (f : Form). IsTakenAs f answer) (sym form) (subst (IsTakenAs ABuffer) (sym e) refl)
   list_dir_in tree dir offset size (Some Dir) form (inr e) = error-taken (form_of request) answer ENOMEM e
   list_dir_in tree dir offset size (Some File) form a = error-taken (form_of request) answer ENOTDIR a
+  list_dir_in tree dir offset size (Some Link) form a = error-taken (form_of request) answer ENOTDIR a
   list_dir_in tree dir offset size None form a = error-taken (form_of request) answer ENOTDIR a
 
   list_in : (tree : Tree) (above : Option FileId) (offset size : ℕ) → form_of request ≡ ABuffer → Legal (lists_from tree above offset size) → Taken
@@ -129,21 +131,17 @@ module _ (served : ServedState) (request : Request) (answer : Answer) (sound : I
   list_in tree None offset size form a = error-taken (form_of request) answer ESTALE a
 
   -- the answer that reads part of a file is taken
-  few_in : (tree : Tree) (extent : FilePart) (many : Bool) → form_of request ≡ FileBytes → Legal (reads_few tree extent many) → Taken
-  few_in tree extent true form a = error-taken (form_of request) answer EINVAL a
-  few_in tree extent false form e = subst (λ (f : Form). IsTakenAs f answer) (sym form) (subst (IsTakenAs FileBytes) (sym e) refl)
+  unless_in : (tree : Tree) (extent : FilePart) (against : Option Errno) → form_of request ≡ FileBytes → Legal (reads_unless tree extent against) → Taken
+  unless_in tree extent (Some errno) form a = error-taken (form_of request) answer errno a
+  unless_in tree extent None form e = subst (λ (f : Form). IsTakenAs f answer) (sym form) (subst (IsTakenAs FileBytes) (sym e) refl)
 
-  kind_in : (tree : Tree) (file : FileId) (file_size offset size : ℕ) (kind : Kind) → form_of request ≡ FileBytes → Legal (reads_kind tree file file_size offset size kind) → Taken
-  kind_in tree file file_size offset size File form a = few_in tree (extent_of file file_size offset size) (nat_lt most_read size) form a
-  kind_in tree file file_size offset size Dir form a = error-taken (form_of request) answer EISDIR a
+  file_in : (tree : Tree) (file : FileId) (reading : Reading) (content : Option Content) → form_of request ≡ FileBytes → Legal (reads_file tree file reading content) → Taken
+  file_in tree file reading (Some content) form a = unless_in tree (extent_read file content.size reading) (against_reading reading content.kind content.size) form a
+  file_in tree file reading None form a = error-taken (form_of request) answer ESTALE a
 
-  file_in : (tree : Tree) (file : FileId) (offset size : ℕ) (content : Option Content) → form_of request ≡ FileBytes → Legal (reads_file tree file offset size content) → Taken
-  file_in tree file offset size (Some content) form a = kind_in tree file content.size offset size content.kind form a
-  file_in tree file offset size None form a = error-taken (form_of request) answer ESTALE a
-
-  read_in : (tree : Tree) (named : Option FileId) (offset size : ℕ) → form_of request ≡ FileBytes → Legal (reads_from tree named offset size) → Taken
-  read_in tree (Some file) offset size form a = file_in tree file offset size (file_of tree file) form a
-  read_in tree None offset size form a = error-taken (form_of request) answer ESTALE a
+  read_in : (tree : Tree) (named : Option FileId) (reading : Reading) → form_of request ≡ FileBytes → Legal (reads_from tree named reading) → Taken
+  read_in tree (Some file) reading form a = file_in tree file reading (file_of tree file) form a
+  read_in tree None reading form a = error-taken (form_of request) answer ESTALE a
 
   -- A legal answer is taken, by what the request does.
   pub legal-taken : (later : ServedState) → IsLegal served request answer later → IsTakenAs (form_of request) answer
@@ -155,5 +153,5 @@ module _ (served : ServedState) (request : Request) (answer : Answer) (sound : I
     by_deed (move_name dir name to_dir to_name) is a = move_in served.tree (l.files dir.0) name (l.files to_dir.0) to_name (move-form request dir name to_dir to_name is) a
     by_deed (show_file node) is a = show_in served.tree (l.files node.0) (show-form request node is) a
     by_deed (list_dir dir offset size) is a = list_in served.tree (l.files dir.0) offset size (list-form request dir offset size is) a
-    by_deed (read_file node offset size) is a = read_in served.tree (l.files node.0) offset size (read-form request node offset size is) a
+    by_deed (read_file node reading) is a = read_in served.tree (l.files node.0) reading (read-form request node reading is) a
     by_deed unserved is a = error-taken (form_of request) answer ENOSYS a

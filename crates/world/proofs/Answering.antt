@@ -3,7 +3,8 @@
 use Rattle.std.proofs.Common.{◌≡◌, ℕ, ◌+◌, Bool, true, false, List, [], ◌∷◌, Option, Some, None, Result, Ok, Err, refl, sym, ap, ◌∙◌, subst, inl, inr, ◌⊎◌, arith}
 use Rattle.std.specs.List.{AllByRecursion}
 use Rattle.eden_base.specs.declared.attr.Kind.{Kind}
-use Rattle.eden_base.specs.declared.attr.Kind.TheVariants.{Dir, File}
+use Rattle.eden_base.specs.declared.attr.Kind.TheVariants.{Dir, File, Link}
+use Rattle.eden_base.specs.declared.attr.MadeKind.{MadeKind}
 use Rattle.eden_base.specs.declared.attr.Perm.{Perm}
 use Rattle.eden_base.specs.declared.errno.Errno.{Errno}
 use Rattle.eden_base.specs.declared.errno.Errno.TheVariants.{ESTALE, EIO, ENOMEM}
@@ -21,9 +22,9 @@ use Rattle.fuse_wire.specs.declared.reply.Answer.TheVariants.{Attrs, Done, Buffe
 use Rattle.fuse_wire.specs.declared.reply.Extent.{Extent as FilePart}
 use Rattle.entry_table.specs.Entries.{IsFileOf}
 use Rattle.inode_map.specs.InodeMap.{MapState}
-use Rattle.fuse_ops.specs.Answers.{one_lost, Effect, found_in, free_in, enters, makes, takes, takes_from, moves_between, unless, against_taking, Deed, find_name, make_file, take_name, move_name, show_file, list_dir, read_file, unserved, deed_of, looked_at, looks_at, done_to, comes_to, shows, lists_dir, lists_from, reads_few, reads_kind, reads_file, reads_from, lists_range, told_as, telling, Answers, AnswersListed, AnswersShown}
+use Rattle.fuse_ops.specs.Answers.{one_lost, Effect, found_in, free_in, enters, makes, takes, takes_from, moves_between, unless, against_taking, Deed, find_name, make_file, take_name, move_name, show_file, list_dir, read_file, unserved, deed_of, looked_at, looks_at, done_to, comes_to, shows, lists_dir, lists_from, reads_unless, reads_file, reads_from, lists_range, told_as, telling, Answers, AnswersListed, AnswersShown}
 use Rattle.fuse_ops.specs.Changes.{MayLose, MayMove}
-use Rattle.fuse_ops.specs.Extents.{extent_of, most_read}
+use Rattle.fuse_ops.specs.Extents.{Reading, extent_read, against_reading}
 use Rattle.fuse_ops.specs.Gifts.{served_over}
 use Rattle.fuse_ops.specs.Listing.{Range, range_of}
 use Rattle.fuse_ops.specs.Served.{ServedState, PlainState, plain, place_entered, place_told, name_taken, name_moved, names_changed, numbers_at, served_after, IsLegal}
@@ -88,7 +89,7 @@ find_in w m request dir name answer later s tells above at e is came l = in_ (fo
       (found-number w m dir name above file s.is_tree s.of_manifest s.knows at child) legal.answers
 
 -- a request for the entry of a file that is made is answered so
-make_in : (w : World) (m : MapState) (request : Request) (dir : Number) (name : List ℕ) (kind : Kind) (perm : Perm) (answer : Answer) (later : ServedState) → Serves w m → TellsEntry request dir name →
+make_in : (w : World) (m : MapState) (request : Request) (dir : Number) (name : List ℕ) (kind : MadeKind) (perm : Perm) (answer : Answer) (later : ServedState) → Serves w m → TellsEntry request dir name →
     Succeeds w m request dir (λ tree above. makes tree name kind perm (free_in tree above name)) answer later
 make_in w m request dir name kind perm answer later s tells above at e is came l = in_ (free_in w.tree (Some above) name) refl is where
   in_ : (r : Result FileId Errno) → free_in w.tree (Some above) name ≡ r → makes w.tree name kind perm r ≡ Ok e → Worked w request answer later
@@ -237,12 +238,13 @@ list_in w m request dir offset size answer later s does above at e is came l = i
       let legal = subst (λ (x : Effect). Legal w m request (Ok x) answer later) (sym same) l in
       answered (came ∙ ap (λ (x : Effect). Ok x) (sym same)) legal.answered legal.answers
   in_ (Some File) h = absurd (let none : ⊥ = cc in none)
+  in_ (Some Link) h = absurd (let none : ⊥ = cc in none)
   in_ None h = absurd (let none : ⊥ = cc in none)
 
 -- a request for part of a file is answered so
-read_in : (w : World) (m : MapState) (request : Request) (node : Number) (offset size : ℕ) (answer : Answer) (later : ServedState) → Serves w m → deed_of request ≡ read_file node offset size →
-    Succeeds w m request node (λ tree file. reads_from tree file offset size) answer later
-read_in w m request node offset size answer later s does file at e is came l = by_file (file_of w.tree file) is where
+read_in : (w : World) (m : MapState) (request : Request) (node : Number) (reading : Reading) (answer : Answer) (later : ServedState) → Serves w m → deed_of request ≡ read_file node reading →
+    Succeeds w m request node (λ tree file. reads_from tree file reading) answer later
+read_in w m request node reading answer later s does file at e is came l = by_file (file_of w.tree file) is where
   answered : (extent : FilePart) → effect_in w request ≡ Ok (read_of w.tree extent) → Answered w m request (Ok (read_of w.tree extent)) answer later → answer ≡ Extent extent → Worked w request answer later
   answered extent comes made told = subst (λ (a : Answer). Worked w request a later) (sym told)
       (worked-from w request (Extent extent) later (Ok (read_of w.tree extent)) None comes refl
@@ -252,21 +254,17 @@ read_in w m request node offset size answer later s does file at e is came l = b
       (knows-along w.tree w.names (owed w) (λ n. owed w n + 0) (served_over w.tree m) (λ n. omega arith) s.knows))) where
         so : plain later ≡ plain (served_over w.tree m)
         so = made.makes ∙ ap (λ (a : Answer). plain (served_after (served_over w.tree m) request (Ok (read_of w.tree extent)) a)) told
-            ∙ ap plain (read-after (served_over w.tree m) request node offset size (read_of w.tree extent) extent does refl)
+            ∙ ap plain (read-after (served_over w.tree m) request node reading (read_of w.tree extent) extent does refl)
 
-  few : (extent : FilePart) (many : Bool) → reads_few w.tree extent many ≡ Ok e → Worked w request answer later
-  few extent true h = absurd (let none : ⊥ = cc in none)
-  few extent false h =
+  unless_in : (extent : FilePart) (against : Option Errno) → reads_unless w.tree extent against ≡ Ok e → Worked w request answer later
+  unless_in extent (Some errno) h = absurd (let none : ⊥ = cc in none)
+  unless_in extent None h =
       let same : read_of w.tree extent ≡ e = cc in
       let legal = subst (λ (x : Effect). Legal w m request (Ok x) answer later) (sym same) l in
       answered extent (came ∙ ap (λ (x : Effect). Ok x) (sym same)) legal.answered legal.answers
 
-  by_kind : (file_size : ℕ) (kind : Kind) → reads_kind w.tree file file_size offset size kind ≡ Ok e → Worked w request answer later
-  by_kind file_size File h = few (extent_of file file_size offset size) (nat_lt most_read size) h
-  by_kind file_size Dir h = absurd (let none : ⊥ = cc in none)
-
-  by_file : (content : Option Content) → reads_file w.tree file offset size content ≡ Ok e → Worked w request answer later
-  by_file (Some content) h = by_kind content.size content.kind h
+  by_file : (content : Option Content) → reads_file w.tree file reading content ≡ Ok e → Worked w request answer later
+  by_file (Some content) h = unless_in (extent_read file content.size reading) (against_reading reading content.kind content.size) h
   by_file None h = absurd (let none : ⊥ = cc in none)
 
 -- ---- all requests
@@ -289,7 +287,7 @@ module _ (w : World) (m : MapState) (request : Request) (files : ℕ → Option 
   success_in (move_name dir name to to_name) does (n, (t, _)) = move_in w m request dir name to to_name answer later s (move-moves request dir name to to_name does) files n t
   success_in (show_file node) does (n, _) = one_in node shows (show_in w m request node answer later s does) n
   success_in (list_dir dir offset size) does (n, _) = one_in dir (λ tree above. lists_from tree above offset size) (list_in w m request dir offset size answer later s does) n
-  success_in (read_file node offset size) does (n, _) = one_in node (λ tree file. reads_from tree file offset size) (read_in w m request node offset size answer later s does) n
+  success_in (read_file node reading) does (n, _) = one_in node (λ tree file. reads_from tree file reading) (read_in w m request node reading answer later s does) n
   success_in unserved does all = λ e is came l. absurd (let none : ⊥ = cc in none)
 
   -- what each number names for the daemon it names in the world

@@ -5,7 +5,7 @@ use Rattle.std.proofs.lemmas.Bool.Decides.{nat_tests}
 use Rattle.std.specs.Option.{option_map}
 use Rattle.eden_base.specs.First.{first_where}
 use Rattle.eden_base.specs.declared.attr.Kind.{Kind}
-use Rattle.eden_base.specs.declared.attr.Kind.TheVariants.{Dir, File}
+use Rattle.eden_base.specs.declared.attr.Kind.TheVariants.{Dir, File, Link}
 use Rattle.eden_base.specs.declared.number.FileId.{FileId}
 use Rattle.manifest.specs.Tree.{Tree, StandsIn, kind_of}
 use Rattle.fuse_wire.specs.DirectoryEntries.{Dirent}
@@ -103,6 +103,7 @@ module _ (world : World) (unique : ℕ) (bytes : List ℕ) (dir : FileId) (from 
   by_kind (Some Dir) (inl (entries, lists, is)) = (entries, record { size = size; asked = asked; bytes = is; lists = lists })
   by_kind (Some Dir) (inr lack) = absurd (let none : ⊥ = cc in none)
   by_kind (Some File) is = absurd (let none : ⊥ = cc in none)
+  by_kind (Some Link) is = absurd (let none : ⊥ = cc in none)
   by_kind None is = absurd (let none : ⊥ = cc in none)
 
   answered-gives : MayAnswer world (Readdir asked.node from size) (Buffer bytes) → Given

@@ -2,7 +2,7 @@
 use Rattle.std.proofs.Common.{◌≡◌, ℕ, ◌<◌, ◌≤◌, List, Option, Some, None, is_some, Ok, refl, sym, ap, inl, inr, ◌⊎◌, arith}
 use Rattle.std.specs.Option.{option_map_or}
 use Rattle.eden_base.specs.Limits.{end_of_numbers}
-use Rattle.eden_base.specs.declared.attr.Kind.{Kind}
+use Rattle.eden_base.specs.declared.attr.MadeKind.{MadeKind}
 use Rattle.eden_base.specs.declared.attr.Perm.{Perm}
 use Rattle.eden_base.specs.declared.number.FileId.{FileId}
 use Rattle.eden_base.specs.declared.number.Number.{Number}
@@ -90,7 +90,7 @@ module _ (w : World) (m : MapState) (dir : Number) (name : List ℕ) (above file
 
 -- ---- a file that is made
 
-module _ (w : World) (m : MapState) (dir : Number) (name : List ℕ) (above : FileId) (kind : Kind) (perm : Perm) (is : IsTree w.tree) (of_manifest : w.tree.manifest ≡ w.manifest) (k : Knows w.tree w.names (owed w) (served_over w.tree m)) (at : IsFileOf w.tree m.entries dir.0 above) (free : IsFreePlace w.tree above name) where
+module _ (w : World) (m : MapState) (dir : Number) (name : List ℕ) (above : FileId) (kind : MadeKind) (perm : Perm) (is : IsTree w.tree) (of_manifest : w.tree.manifest ≡ w.manifest) (k : Knows w.tree w.names (owed w) (served_over w.tree m)) (at : IsFileOf w.tree m.entries dir.0 above) (free : IsFreePlace w.tree above name) where
   abbrev tree : Tree
   tree = created w.tree above name kind perm
 
