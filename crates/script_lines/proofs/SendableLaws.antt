@@ -7,7 +7,7 @@ use Rattle.fuse_wire.specs.Request.{other_of, is_ask, IsSendable}
 use Rattle.fuse_wire.specs.declared.request.Request.{Request}
 use Rattle.fuse_wire.proofs.OtherLaws.{other-sendable}
 use Rattle.script_lines.specs.BrokerLine.{asked_by, ask_of, seat_of, forgets_of, broker_line_by, broker_line_of, IsSendableLine}
-use Rattle.script_lines.specs.EventLine.{named_of, made_of, pair_of, lookup_of, unlink_of, rmdir_of, rename_of, names_of, create_of, mkdir_of, forget_of, getattr_of, range_of, read_of, readdir_of, other_in, other_said, naming_by, request_by, request_of}
+use Rattle.script_lines.specs.EventLine.{named_of, made_of, pair_of, lookup_of, unlink_of, rmdir_of, rename_of, names_of, create_of, mkdir_of, forget_of, getattr_of, readlink_of, range_of, read_of, readdir_of, other_in, other_said, naming_by, request_by, request_of}
 use Rattle.script_lines.specs.Number.{number_of}
 use Rattle.script_lines.specs.Words.{is_word}
 use Rattle.script_lines.specs.declared.broker_line.BrokerLine.TheVariants as says
@@ -52,10 +52,11 @@ sendable-by : (word rest : List ℕ) → IfSome (request_by word rest) IsSendabl
 sendable-by word rest =
     either IsSendable (is_word word (codes "forget")) (forget_of rest) _ (mapped IsSendable _ (pair_of rest) (λ _. tt))
     (either IsSendable (is_word word (codes "getattr")) (getattr_of rest) _ (mapped IsSendable _ (number_of rest) (λ _. tt))
+    (either IsSendable (is_word word (codes "readlink")) (readlink_of rest) _ (mapped IsSendable _ (number_of rest) (λ _. tt))
     (either IsSendable (is_word word (codes "read")) (read_of rest) _ (mapped IsSendable _ (range_of rest) (λ _. tt))
     (either IsSendable (is_word word (codes "readdir")) (readdir_of rest) _ (mapped IsSendable _ (range_of rest) (λ _. tt))
     (either IsSendable (is_word word (codes "other")) (other_said rest) _
-    (followed IsSendable _ (pair_of rest) (λ pair. sendable-in pair.0 pair.1)) (sendable-naming word rest)))))
+    (followed IsSendable _ (pair_of rest) (λ pair. sendable-in pair.0 pair.1)) (sendable-naming word rest))))))
 
 -- ---- lines
 

@@ -2,7 +2,7 @@
 -- word, and runs to the end of the line. (This project's own.)
 use Rattle.std.specs.Prelude.{ℕ, ◌^◌, Bool, true, false, nat_lt, List, [], ◌∷◌, ◌++◌, length, Option, Some, None, codes, option_map, option_and_then, is_none, if◌then◌else◌}
 use Rattle.fuse_wire.specs.declared.request.Request.{Request}
-use Rattle.fuse_wire.specs.declared.request.Request.TheVariants.{Lookup, Getattr, Read, Readdir, Create, Mkdir, Unlink, Rmdir, Rename, Forget}
+use Rattle.fuse_wire.specs.declared.request.Request.TheVariants.{Lookup, Getattr, Readlink, Read, Readdir, Create, Mkdir, Unlink, Rmdir, Rename, Forget}
 use Rattle.fuse_wire.specs.Request.{other_of}
 use Rattle.world.specs.declared.event.Event.{Event}
 use Rattle.world.specs.declared.event.Event.TheVariants.{Start, Mount, Issue, Take, Work, Post, Deliver, Hear, Drained, GiveUp, Claim, Crash, Do, Show}
@@ -117,6 +117,10 @@ forget_of words =
 abbrev pub getattr_of : List ℕ → Option Request
 getattr_of words = option_map (λ (node : ℕ). Getattr (record { 0 = node })) (number_of words)
 
+-- the request of `readlink N`, of which these words are the `N`
+abbrev pub readlink_of : List ℕ → Option Request
+readlink_of words = option_map (λ (node : ℕ). Readlink (record { 0 = node })) (number_of words)
+
 -- this number with an offset and a size, if the size fits 32 bits
 abbrev pub range_in : ℕ → ℕ → ℕ → Option (Number × ℕ × ℕ)
 range_in node offset size = if nat_lt size (2 ^ 32) then Some (record { 0 = node }, offset, size) else None
@@ -164,14 +168,15 @@ abbrev pub request_by : List ℕ → List ℕ → Option Request
 request_by word rest =
     if is_word word (codes "forget") then forget_of rest
     else if is_word word (codes "getattr") then getattr_of rest
+    else if is_word word (codes "readlink") then readlink_of rest
     else if is_word word (codes "read") then read_of rest
     else if is_word word (codes "readdir") then readdir_of rest
     else if is_word word (codes "other") then other_said rest
     else naming_by word rest
 
 -- the request that these words write: `lookup N NAME`, `create N MODE NAME`, `mkdir N MODE NAME`, `unlink N NAME`,
--- `rmdir N NAME`, `rename N NEWDIR OLD/NEW`, `forget N K`, `getattr N`, `read N OFFSET SIZE`, `readdir N OFFSET SIZE` or
--- `other OPCODE N`
+-- `rmdir N NAME`, `rename N NEWDIR OLD/NEW`, `forget N K`, `getattr N`, `readlink N`, `read N OFFSET SIZE`, `readdir N
+-- OFFSET SIZE` or `other OPCODE N`
 abbrev pub request_of : List ℕ → Option Request
 request_of words = option_and_then (λ (parts : List ℕ × List ℕ). request_by parts.0 parts.1) (cut 32 words)
 

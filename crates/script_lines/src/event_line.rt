@@ -1,7 +1,7 @@
 //! The lines of a script, each read as an event.
 ghost use Rattle.std.specs.Prelude.{◌≡◌, None, IfOk, option_map};
 ghost use Rattle.script_lines.specs.Number.{number_of};
-ghost use Rattle.script_lines.specs.EventLine.{event_of, start_of, with_version, daemon_event_by, mount_of, take_of, work_of, tried_of, tried_at, pair_of, post_of, takeover_event_by, hear_of, drained_of, give_up_of, claim_of, crash_of, issue_of, do_of, request_of, request_by, naming_by, lookup_of, create_of, mkdir_of, unlink_of, rmdir_of, rename_of, names_of, forget_of, getattr_of, range_of, read_of, readdir_of, other_said, named_of, made_of, name_of};
+ghost use Rattle.script_lines.specs.EventLine.{event_of, start_of, with_version, daemon_event_by, mount_of, take_of, work_of, tried_of, tried_at, pair_of, post_of, takeover_event_by, hear_of, drained_of, give_up_of, claim_of, crash_of, issue_of, do_of, request_of, request_by, naming_by, lookup_of, create_of, mkdir_of, unlink_of, rmdir_of, rename_of, names_of, forget_of, getattr_of, readlink_of, range_of, read_of, readdir_of, other_said, named_of, made_of, name_of};
 
 use crate::decimal::number;
 use arrayvec::ArrayVec;
@@ -255,6 +255,9 @@ fn read_request_by(alloc: Global, word: &[u8], rest: &[u8]) -> Result<Option<Req
     if word == b"getattr".as_slice() {
         return Ok(read_getattr(rest));
     }
+    if word == b"readlink".as_slice() {
+        return Ok(read_readlink(rest));
+    }
     if word == b"read".as_slice() {
         return Ok(read_read(rest));
     }
@@ -450,6 +453,14 @@ fn read_getattr(words: &[u8]) -> Option<Request>
 {
     let node = Number(number(words)?);
     Some(Request::Getattr { node })
+}
+
+/// Reads the words of a `readlink`: the number of the symbolic link whose target is asked for.
+fn read_readlink(words: &[u8]) -> Option<Request>
+    ensures { result ≡ readlink_of words.now }
+{
+    let node = Number(number(words)?);
+    Some(Request::Readlink { node })
 }
 
 /// Reads the words of a `read`: a file's number, the offset from which it is read, and how many bytes are asked for.
