@@ -1,66 +1,26 @@
 //! The files of a directory as blobs.
-ghost use Rattle.std.specs.Prelude.{◌≡◌, ◌+◌, ◌<◌, ◌^◌, length, true, IfOk, OnOk};
-ghost use Rattle.std.specs.Option.{option_copied};
-ghost use Rattle.manifest.specs.Manifest.{line_of};
-ghost use Rattle.blob_store.specs.FileBlobs.{HasPart, IsWithin, ReadsFiles};
+ghost use Rattle.std.specs.Prelude.{◌≡◌, ◌+◌, ◌<◌, ◌^◌, length, IfOk, OnOk};
+ghost use Rattle.blob_store.specs.FileBlobs.{IsWithin, ReadsFiles};
 
 use crate::blob_store::{BlobFault, BlobStore};
 use crate::byte_file::read_part;
+use crate::extent_line::line_within;
+use crate::failure_notes::FailureNotes;
 use crate::file_path::path_of;
-use crate::said_files::SaidFiles;
+use crate::filling::filled_part;
 use byte_codec::Bytes;
-use eden_base::{FileId, Kind};
+use eden_base::{Kind, NoMemory};
 use fuse_wire::{Buffer, Extent};
-use manifest::{Line, Manifest, line_of};
+use manifest::Manifest;
 use non_blocking::Notes;
 use std::alloc::Global;
 use std::fs::{self, File};
 use std::io::{self, Error, ErrorKind};
 use std::os::fd::AsRawFd;
+use std::path::AsPath;
 use std::rt::{Clock, Files};
 use std::str;
-use std::sync::{Mutex, Wait};
-use std::time::{Duration, Instant};
-
-/// How many seconds pass before something is said of a file once more.
-const QUIET: u64 = 60;
-
-/// The failures of which something was said since a moment.
-#[derive(Drop)]
-struct Failures {
-    said: SaidFiles,
-    since: Option<Instant>,
-}
-
-impl Failures {
-    /// Returns whether a failure of `file` is to be said at the moment `now`, and notes that.
-    fn note(&mut self, file: FileId, now: Option<Instant>) -> bool {
-        if is_over(self.since, now) {
-            self.said.clear();
-            self.since = now;
-        }
-        self.said.say(file)
-    }
-}
-
-/// Returns whether the time that began at `since` is over.
-fn is_over(since: Option<Instant>, now: Option<Instant>) -> bool {
-    match (since, now) {
-        (Some(since), Some(now)) => now.duration_since(since) >= Duration::from_secs(QUIET),
-        (None, Some(_)) => true,
-        (_, None) => false,
-    }
-}
-
-/// Returns whether a line is that of a regular file which has all bytes of `extent`.
-fn has_part(line: &Line, extent: &Extent) -> bool
-    ensures part { result ≡ true → HasPart line.now extent.now }
-    ensures fits { result ≡ true → extent.now.offset + extent.now.len < 2 ^ 64 }
-{
-    line.kind == Kind::File
-        && extent.offset <= line.size
-        && u64::from(extent.len) <= line.size - extent.offset
-}
+use std::sync::Wait;
 
 /// The store of a directory: the blob of a file stands there under the path that the manifest says. The directory is
 /// held open, so that it is found even where it is renamed, or something is mounted over it.
@@ -69,8 +29,7 @@ pub struct FileBlobs<'a, R> {
     rt: &'a R,
     manifest: Manifest,
     folder: File,
-    failures: Mutex<Failures>,
-    notes: Notes,
+    failures: FailureNotes,
 }
 
 impl<'a, R: Files<File = File> + Clock + Wait> FileBlobs<'a, R> {
@@ -89,68 +48,62 @@ impl<'a, R: Files<File = File> + Clock + Wait> FileBlobs<'a, R> {
             rt,
             manifest,
             folder,
-            failures: Mutex::new(Failures {
-                said: SaidFiles::new(alloc),
-                since: None,
-            }),
-            notes,
+            failures: FailureNotes::new(alloc, notes),
         }
     }
 
-    /// Opens the file at `path` below the directory. Fails if it is no regular file: opening a pipe would wait.
-    fn open(&self, alloc: Global, path: &[u8]) -> io::Result<File> {
+    /// Returns where `path` below the directory is found.
+    fn place_of(&self, alloc: Global, path: &[u8]) -> io::Result<String> {
         let Ok(path) = str::from_utf8(path) else {
             return Err(Error::new(ErrorKind::InvalidData, "its path is not UTF-8"));
         };
         let folder = self.folder.as_raw_fd();
-        let place = format!(in alloc; "/proc/self/fd/{folder}/{path}")?;
-        if !fs::symlink_metadata(self.rt, place.as_str())?.is_file() {
+        Ok(format!(in alloc; "/proc/self/fd/{folder}/{path}")?)
+    }
+
+    /// Reads a part of the regular file at `place`. Zeros stand for what is behind its end. Fails if it is no regular file:
+    /// opening a pipe would wait.
+    fn read_file(&self, alloc: Global, place: &str, extent: &Extent) -> io::Result<Vec<u8>>
+        requires fits { extent.now.offset + extent.now.len < 2 ^ 64 }
+        ensures whole { IfOk result (λ bytes. length bytes.items ≡ extent.now.len) }
+    {
+        if !fs::symlink_metadata(self.rt, place)?.is_file() {
             return Err(Error::new(ErrorKind::InvalidData, "it is not a regular file"));
         }
-        File::open(self.rt, place.as_str())
+        let file = File::open(self.rt, place)?;
+        read_part(alloc, &file, extent.offset, extent.len as usize)
     }
 
-    /// Returns the path of `extent`'s file. Fails if the manifest has no such file, or if the extent goes beyond its size.
-    fn path_of(&self, alloc: Global, extent: &Extent) -> io::Result<Vec<u8>>
-        ensures within { OnOk result (IsWithin self.now.manifest extent.now) }
-        ensures fits { OnOk result (extent.now.offset + extent.now.len < 2 ^ 64) }
+    /// Reads a part of the target of the symbolic link at `place`, which is not followed. Zeros stand for what is behind its
+    /// end. Fails if it is no link.
+    fn read_target(&self, alloc: Global, place: &str, extent: &Extent) -> io::Result<Vec<u8>>
+        ensures whole { IfOk result (λ bytes. length bytes.items ≡ extent.now.len) }
     {
-        let lines = self.manifest.lines();
-        let Some(line) = line_of(lines, extent.file) else {
-            return Err(Error::from(ErrorKind::NotFound));
-        };
-        if !has_part(line, extent) {
-            return Err(Error::from(ErrorKind::InvalidInput));
+        let target = self.rt.read_link(alloc, place)?;
+        let bytes = target.path_text().as_bytes();
+        match filled_part(alloc, bytes, extent.offset, extent.len as usize) {
+            Ok(part) => Ok(part),
+            Err(NoMemory) => Err(Error::from(ErrorKind::OutOfMemory)),
         }
-        path_of(alloc, lines, extent.file)
     }
 
-    /// Reads a part of a file. Zeros stand for what is behind the file's end.
+    /// Reads a part of a file or of a link's target.
     fn fetch(&self, alloc: Global, extent: &Extent) -> io::Result<Buffer>
         ensures within { OnOk result (IsWithin self.now.manifest extent.now) }
         ensures whole { IfOk result (λ bytes. length bytes ≡ extent.now.len) }
     {
-        let path = self.path_of(alloc, extent)?;
-        let file = self.open(alloc, path.as_slice())?;
-        let bytes = read_part(alloc, &file, extent.offset, extent.len as usize)?;
+        let Some(line) = line_within(&self.manifest, extent) else {
+            return Err(Error::from(ErrorKind::InvalidInput));
+        };
+        let path = path_of(alloc, self.manifest.lines(), extent.file)?;
+        let place = self.place_of(alloc, path.as_slice())?;
+        let bytes = match line.kind {
+            Kind::Link => self.read_target(alloc, place.as_str(), extent)?,
+            _ => self.read_file(alloc, place.as_str(), extent)?,
+        };
         match Buffer::of(Bytes::of(bytes)) {
             Some(buffer) => Ok(buffer),
             None => Err(Error::from(ErrorKind::InvalidInput)),
-        }
-    }
-
-    /// Says that `file` can't be read for `error`, at most once in a minute, and of 16 files at most.
-    fn say(&self, alloc: Global, file: FileId, error: Error) {
-        let now = Instant::now(self.rt).ok();
-        if !self.failures.lock(self.rt).note(file, now) {
-            return;
-        }
-        let Ok(path) = path_of(alloc, self.manifest.lines(), file) else {
-            return;
-        };
-        if let Ok(path) = String::from_utf8_lossy(alloc, path.as_slice()) {
-            self.notes
-                .say(self.rt, format_args!("cannot read {path}: {error}"));
         }
     }
 }
@@ -163,7 +116,8 @@ impl<R: Files<File = File> + Clock + Wait> BlobStore for FileBlobs<'_, R> {
             Ok(buffer) => Ok(buffer),
             Err(error) if error.kind() == ErrorKind::OutOfMemory => Err(BlobFault::NoMemory),
             Err(error) => {
-                self.say(alloc, extent.file, error);
+                self.failures
+                    .say(self.rt, &self.manifest, extent.file, error);
                 Err(BlobFault::Failed)
             }
         }

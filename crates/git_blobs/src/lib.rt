@@ -1,0 +1,10 @@
+//! The files of a commit of a git repository, and their bytes.
+#![tactic(auto)]
+
+mod git_blobs;
+mod tree_fault;
+mod tree_reader;
+
+pub use git_blobs::GitBlobs;
+pub use tree_fault::TreeFault;
+pub use tree_reader::TreeReader;

@@ -1,0 +1,120 @@
+-- Who waits for which blob, what a look gives, and what is asked next. Each that waits has a ticket.
+use Rattle.std.specs.Prelude.{◌≡◌, ◌==◌, ◌&&◌, ◌++◌, ◌∷◌, ℕ, Bool, true, false, not, nat_le, List, [], map, position, slice_get, Option, Some, None, is_some, is_none, Result, Ok, Err, ⊤, if◌then◌else◌}
+use Rattle.std.specs.List.{remove}
+use Rattle.std.specs.Option.{option_and_then}
+use Rattle.std.specs.Map.{lookup}
+use mathlib.Core.Bool.{beq}
+use Rattle.eden_base.specs.declared.memory.NoMemory.{NoMemory as WantOfMemory}
+use Rattle.git_objects.specs.Blob.{IsSame}
+use Rattle.git_objects.specs.BlobCache.{Entry, Finds, is_large, kept_by, same_id}
+use Rattle.git_objects.specs.declared.blob.Blob.{Blob}
+use Rattle.git_objects.specs.declared.blob_cache.Kept.{Kept}
+use Rattle.git_objects.specs.declared.desk.Arriving.{Arriving}
+use Rattle.git_objects.specs.declared.desk.Asked.{Asked}
+use Rattle.git_objects.specs.declared.desk.Asked.TheVariants.{Here, Waits}
+use Rattle.git_objects.specs.declared.desk.Want.{Want}
+use Rattle.git_objects.specs.declared.fault.ObjectFault.{ObjectFault}
+use Rattle.git_objects.specs.declared.fault.ObjectFault.TheVariants.{Late, NoMemory}
+use Rattle.git_objects.specs.declared.sought.Sought.{Sought}
+
+-- whether this is the one who waits by this ticket
+abbrev pub has_ticket : ℕ → Want → Bool
+has_ticket ticket want = want.ticket == ticket
+
+-- who asks gets the blob if it is kept, and else waits behind all others
+abbrev pub IsAsked : List Entry → ℕ → Sought → List Want → List Want → Asked → Type 0
+IsAsked entries tickets sought old new (Here blob) =
+    Finds (lookup (same_id sought.object) entries) (Ok (Some blob)) × (new ≡ old)
+IsAsked entries tickets sought old new (Waits ticket) =
+    Finds (lookup (same_id sought.object) entries) (Ok None)
+    × (ticket ≡ tickets)
+    × (new ≡ old ++ record { ticket = tickets; sought = sought; fault = None } ∷ [])
+
+-- ---- a look
+
+-- whether a blob that arrives is this one, and so many of its bytes are there
+abbrev pub is_there : Arriving → ℕ → List ℕ → Bool
+is_there arriving end object = same_id arriving.object object && nat_le end arriving.count
+
+-- a blob is found exactly if this is so, unless memory for one more owner is refused
+abbrev pub FindsIf : Bool → Blob → Result (Option Blob) WantOfMemory → Type 0
+FindsIf true blob (Ok (Some found)) = IsSame blob found
+FindsIf true blob (Ok None) = ⊥
+FindsIf true blob (Err refused) = ⊤
+FindsIf false blob found = found ≡ Ok None
+
+-- what is found of a blob: it is kept, or so many of its bytes have arrived
+abbrev pub FindsBlob : Option Arriving → ℕ → List ℕ → Option Kept → Result (Option Blob) WantOfMemory → Type 0
+FindsBlob arriving end object (Some kept) found = Finds (Some kept) found
+FindsBlob (Some arriving) end object None found = FindsIf (is_there arriving end object) arriving.blob found
+FindsBlob None end object None found = found ≡ Ok None
+
+-- what a look tells, by what was found, by the fault and by whether the time is over; nothing if the wait goes on
+abbrev pub verdict : Result (Option Blob) WantOfMemory → Option ObjectFault → Bool → Option (Result Blob ObjectFault)
+verdict (Ok (Some blob)) fault is_over = Some (Ok blob)
+verdict (Err refused) fault is_over = Some (Err NoMemory)
+verdict (Ok None) (Some fault) is_over = Some (Err fault)
+verdict (Ok None) None true = Some (Err Late)
+verdict (Ok None) None false = None
+
+-- the fault of the one who waits at this place
+abbrev pub fault_at : ℕ → List Want → Option ObjectFault
+fault_at place wants = option_and_then (λ (want : Want). want.fault) (slice_get wants place)
+
+-- what a look tells to the one who waits at this place, who waits no more then; one who has no place gave up before
+abbrev pub LooksAt : Option ℕ → Result (Option Blob) WantOfMemory → Bool → List Want → Option (Result Blob ObjectFault) → List Want → Type 0
+LooksAt None found is_over old told new = (told ≡ verdict found None true) × (new ≡ old)
+LooksAt (Some place) found is_over old told new =
+    (told ≡ verdict found (fault_at place old) is_over)
+    × (new ≡ (if is_some told then remove old place else old))
+
+-- a look by this ticket for the first bytes of a blob
+pub record Looks (arriving : Option Arriving) (entries : List Entry) (ticket : ℕ) (sought : Sought) (end : ℕ) (is_over : Bool)
+    (old : List Want) (told : Option (Result Blob ObjectFault)) (new : List Want) : Type 0 where
+  pub found : Result (Option Blob) WantOfMemory
+  pub finds : FindsBlob arriving end sought.object (lookup (same_id sought.object) entries) found
+  pub tells : LooksAt (position (has_ticket ticket) old) found is_over old told new
+
+-- ---- what is asked next
+
+-- whether this may be asked next by the process for large blobs, or by the other one: no fault is known, and it is not kept
+abbrev pub is_next : ℕ → List Entry → Bool → Want → Bool
+is_next bound entries large want =
+    is_none want.fault && beq (is_large want.sought.size bound) large
+    && not (is_some (lookup (same_id want.sought.object) entries))
+
+-- what is asked next: the first that may be
+abbrev pub next_of : ℕ → List Entry → Bool → List Want → Option Sought
+next_of bound entries large [] = None
+next_of bound entries large (want ∷ wants) =
+    if is_next bound entries large want then Some want.sought else next_of bound entries large wants
+
+-- ---- what git gave
+
+-- the one who waits, with the fault if it is for this object
+abbrev pub with_fault : List ℕ → ObjectFault → Want → Want
+with_fault object fault want =
+    if same_id want.sought.object object then record { ticket = want.ticket; sought = want.sought; fault = Some fault } else want
+
+-- the fault that is told for what git gave, by whether a blob is kept
+abbrev pub fault_by : Result Blob ObjectFault → Bool → Option ObjectFault
+fault_by (Err fault) is_kept = Some fault
+fault_by (Ok blob) true = None
+fault_by (Ok blob) false = Some NoMemory
+
+-- those who wait, once a fault is told to all who wait for this object
+abbrev pub faulted : Option ObjectFault → List ℕ → List Want → List Want
+faulted None object wants = wants
+faulted (Some fault) object wants = map (with_fault object fault) wants
+
+-- the blobs that are kept behind what git gave
+abbrev pub entries_by : ℕ → List Entry → Sought → Result Blob ObjectFault → Bool → List Entry
+entries_by bound entries sought (Ok blob) is_kept = kept_by bound entries is_kept sought.object blob sought.size
+entries_by bound entries sought (Err fault) is_kept = entries
+
+-- a blob that git gave is kept, and a fault is told to all who wait for it
+pub record Delivers (sought : Sought) (fetched : Result Blob ObjectFault) (bound : ℕ) (entries entries' : List Entry)
+    (wants wants' : List Want) : Type 0 where
+  pub is_kept : Bool
+  pub keeps : entries' ≡ entries_by bound entries sought fetched is_kept
+  pub tells : wants' ≡ faulted (fault_by fetched is_kept) sought.object wants

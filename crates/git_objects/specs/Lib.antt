@@ -1,0 +1,6 @@
+pub mod CatFile
+pub mod Blob
+pub mod BlobCache
+pub mod Patience
+pub mod Desk
+pub mod Fetching

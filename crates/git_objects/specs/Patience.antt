@@ -1,0 +1,10 @@
+-- How much of a wait is counted. Moments and times are in nanoseconds.
+use Rattle.std.specs.Prelude.{ℕ, ◌-◌, ◌*◌, min}
+
+-- how long a wait of so many seconds may last
+abbrev pub patience_of : ℕ → ℕ
+patience_of seconds = seconds * 1_000_000_000
+
+-- what a look counts behind one at `looked`: the time between them, but 300 milliseconds at most
+abbrev pub counted : ℕ → ℕ → ℕ
+counted looked now = min (now - looked) 300_000_000

@@ -1,0 +1,21 @@
+//! The blobs of a git repository, fetched by processes of git that stay, and kept by recency.
+#![tactic(auto)]
+
+mod answer;
+mod batch;
+mod blob;
+mod blob_cache;
+mod desk;
+mod fault;
+mod fetcher;
+mod git_command;
+mod git_objects;
+mod patience;
+mod question;
+mod shared;
+mod sought;
+mod spool;
+
+pub use fault::ObjectFault;
+pub use git_command::GitCommand;
+pub use git_objects::{BlobPart, GitObjects};
