@@ -1,5 +1,5 @@
 -- Lemmas on the command that `clap` reads words by.
-use Rattle.std.proofs.Common.{◌≡◌, ◌||◌, Bool, true, false, List, Option, Some, None, refl, ap, ap₂, sym, [], ◌∙◌, codes, option_map, unwrap_or, if◌then◌else◌}
+use Rattle.std.proofs.Common.{◌≡◌, ◌||◌, Bool, true, false, List, Option, Some, None, refl, ap, ap₂, sym, [], ◌∙◌, codes, option_map, unwrap_or, is_some, if◌then◌else◌}
 use Rattle.std.specs.Str.{bytes_eq}
 use Rattle.std.proofs.lemmas.Slice.Eq.{bytes_eq-Decides}
 use Rattle.std.specs.Borrow.{Bor}
@@ -7,7 +7,7 @@ use Rattle.clap.specs.Words.{AddsArg, AddsSubcommand, App, Row, Rule, Text, app_
 use Rattle.clap.specs.Simple.{app_of_fields}
 use Rattle.clap.specs.declared.builder.arg.Arg.{Arg}
 use Rattle.clap.specs.declared.builder.command.Command.{Command, out-Command}
-use Rattle.command_line.specs.CommandLine.{IsReadAs, is_server, limit_in, number_or, script_in, standard_input, owner_fault, start_fault, words_fault_in}
+use Rattle.command_line.specs.CommandLine.{IsReadAs, is_server, limit_in, number_or, script_in, standard_input, owner_fault, daemon_fault, words_fault_in}
 
 -- a command of its own, as it is made
 pub made : (name : Text) (command : Command) → app_of command ≡ new_app name → (out-Command command).has_globals ≡ false → IsReadAs (new_app name) command
@@ -84,6 +84,11 @@ pub text_or : (found : Option (Bor Text)) (other : Bor Text) (text : Option Text
 text_or None other text is = ap (λ t. unwrap_or t other.now) is
 text_or (Some s) other text is = ap (λ t. unwrap_or t other.now) is
 
+-- whether a text is there
+pub text_there : (found : Option (Bor Text)) (text : Option Text) → option_map (λ s. s.now) found ≡ text → is_some found ≡ is_some text
+text_there None text is = ap (λ t. is_some t) is
+text_there (Some s) text is = ap (λ t. is_some t) is
+
 second_of_two : (a b c : Bool) → b ≡ true → ((a || b) || c) ≡ true
 second_of_two true b c is = refl
 second_of_two false true c is = refl
@@ -95,6 +100,16 @@ third_of_three false true c is = refl
 third_of_three false false true is = refl
 third_of_three false false false is = let bad : true ≡ false = sym is in cc
 
+-- what is wrong with the words of `daemon`
+pub words_fault-daemon : (sub : Option (Text × List Row)) (rows : List Row) → option_map (λ (p : Text × List Row). p.0) sub ≡ Some (codes "daemon") → option_map (λ (p : Text × List Row). p.1) sub ≡ Some rows →
+    words_fault_in sub ≡ daemon_fault rows
+words_fault-daemon None rows name is = cc
+words_fault-daemon (Some sub) rows name is =
+    let name_is : sub.0 ≡ codes "daemon" = cc in
+    let rows_are : sub.1 ≡ rows = cc in
+    ap (λ (b : Bool). if b then daemon_fault sub.1 else if bytes_eq sub.0 (codes "mount") then owner_fault sub.1 else []) ((bytes_eq-Decides sub.0 (codes "daemon")).1 name_is)
+    ∙ ap daemon_fault rows_are
+
 -- nothing is wrong with the words of a command that is no server command
 pub words_fault-other : (sub : Option (Text × List Row)) → is_server sub ≡ false → words_fault_in sub ≡ []
 words_fault-other None apart = refl
@@ -104,4 +119,4 @@ words_fault-other (Some sub) apart = go (bytes_eq sub.0 (codes "daemon")) (bytes
     go true mount is other = let bad : true ≡ false = sym (second_of_two (bytes_eq sub.0 (codes "broker")) (bytes_eq sub.0 (codes "daemon")) (bytes_eq sub.0 (codes "mount")) is) ∙ apart in cc
     go false true is other = let bad : true ≡ false = sym (third_of_three (bytes_eq sub.0 (codes "broker")) (bytes_eq sub.0 (codes "daemon")) (bytes_eq sub.0 (codes "mount")) other) ∙ apart in cc
     go false false is other =
-        ap₂ (λ (daemon mount : Bool). if daemon then start_fault sub.1 else if mount then owner_fault sub.1 else []) is other
+        ap₂ (λ (daemon mount : Bool). if daemon then daemon_fault sub.1 else if mount then owner_fault sub.1 else []) is other

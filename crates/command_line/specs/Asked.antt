@@ -1,7 +1,7 @@
 -- What the words ask for, by the command that they have and what it was given.
 use Rattle.std.specs.Prelude.{◌≡◌, false, List, Option, Some, option_and_then, codes}
 use Rattle.clap.specs.Words.{Row, Text, first_of}
-use Rattle.command_line.specs.CommandLine.{has_flag, is_server, limit_in, number_or, script_in, start_by, word_in}
+use Rattle.command_line.specs.CommandLine.{commit_in, has_flag, is_server, limit_in, number_or, script_in, start_by, word_in}
 use Rattle.command_line.specs.Owner.{owner_of}
 use Rattle.command_line.specs.declared.asked.Asked.{Asked}
 use Rattle.command_line.specs.declared.asked.Asked.TheVariants.{World, Serve}
@@ -27,6 +27,9 @@ pub record IsDaemon (rows : List Row) (daemon : DaemonWords) : Type 0 where
   pub patience : daemon.patience ≡ number_or 2000 (first_of (codes "patience") rows)
   pub until_closed : daemon.until_closed ≡ has_flag (codes "until-closed") rows
   pub files : daemon.files.now ≡ word_in (codes "files") rows
+  pub git : daemon.git.now ≡ word_in (codes "git") rows
+  pub commit : daemon.commit.now ≡ commit_in rows
+  pub cache : daemon.cache ≡ number_or 256 (first_of (codes "cache") rows)
 
 -- each word of `mount` is that of its argument, the owner is the one that its option names, and so are the seconds for which
 -- the kernel may keep what it is told

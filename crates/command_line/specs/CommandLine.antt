@@ -1,5 +1,5 @@
 -- The words that the program is started with, as `clap` reads them: none, or a command with its words and options.
-use Rattle.std.specs.Prelude.{◌≡◌, ◌==◌, ℕ, Bool, true, false, List, [], ◌∷◌, Option, Some, None, is_none, unwrap_or, codes, if◌then◌else◌, ◌||◌}
+use Rattle.std.specs.Prelude.{◌≡◌, ◌==◌, ℕ, Bool, true, false, List, [], ◌∷◌, Option, Some, None, is_none, is_some, unwrap_or, codes, if◌then◌else◌, ◌||◌}
 use Rattle.std.specs.Str.{bytes_eq}
 use Rattle.std.specs.Str.Parse.{without_leading_plus}
 use Rattle.clap.specs.Words.{App, Kinds, Row, Rule, Text, app_of, fault_of, first_of, new_app, new_rule, subcommand_of, with_rule, with_subcommand}
@@ -66,13 +66,30 @@ broker_app =
 abbrev pub files_rule : Rule
 files_rule = record (new_rule (codes "files")) { long = Some (codes "files"); action = Some Set; value_names = 1 }
 
--- the command `daemon BROKER TAKEOVER MANIFEST`, with `--mount` or `--takeover`, and perhaps with `--until-closed` and
--- `--files`
+-- the rule of the word that names a manifest, or a commit where there is a repository
+abbrev pub manifest_rule : Rule
+manifest_rule = record (new_rule (codes "MANIFEST")) { action = Some Set }
+
+-- the rule of the option that names a repository of git
+abbrev pub git_rule : Rule
+git_rule = record (new_rule (codes "git")) { long = Some (codes "git"); action = Some Set; value_names = 1 }
+
+-- the rule of the option that says how many megabytes of contents are kept of a repository
+abbrev pub cache_rule : Rule
+cache_rule = record (new_rule (codes "cache")) {
+  long = Some (codes "cache");
+  action = Some Set;
+  value_names = 1;
+  parser = Some (parser.Unsigned 1 1048576);
+}
+
+-- the command `daemon BROKER TAKEOVER`, with `--mount` or `--takeover`, and with a manifest, or `--git` and perhaps a commit;
+-- perhaps with `--until-closed`, `--files` and `--cache`
 abbrev pub daemon_app : App
 daemon_app = with_rules (new_app (codes "daemon")) (
     flag_rule (codes "mount") ∷ flag_rule (codes "takeover")
-    ∷ word_rule (codes "BROKER") ∷ word_rule (codes "TAKEOVER") ∷ word_rule (codes "MANIFEST")
-    ∷ workers_rule ∷ limit_rule ∷ patience_rule ∷ flag_rule (codes "until-closed") ∷ files_rule ∷ [])
+    ∷ word_rule (codes "BROKER") ∷ word_rule (codes "TAKEOVER") ∷ manifest_rule
+    ∷ workers_rule ∷ limit_rule ∷ patience_rule ∷ flag_rule (codes "until-closed") ∷ files_rule ∷ git_rule ∷ cache_rule ∷ [])
 
 -- the rule of the option that names a file for what the kernel holds
 abbrev pub held_rule : Rule
@@ -168,6 +185,39 @@ start_fault_by false false = kind.MissingRequiredArgument ∷ []
 abbrev pub start_fault : List Row → Kinds
 start_fault rows = start_fault_by (has_flag (codes "mount") rows) (has_flag (codes "takeover") rows)
 
+-- whether a command was given a word for the argument `place`
+abbrev pub is_given : Text → List Row → Bool
+is_given place rows = is_some (first_of place rows)
+
+-- what is wrong with the words of a daemon without a repository, by whether they bound what is kept of one, and whether they
+-- name a manifest, which they have to
+abbrev pub manifest_fault_by : Bool → Bool → Kinds
+manifest_fault_by true word = kind.ArgumentConflict ∷ []
+manifest_fault_by false true = []
+manifest_fault_by false false = kind.MissingRequiredArgument ∷ []
+
+abbrev pub manifest_fault : List Row → Kinds
+manifest_fault rows = manifest_fault_by (is_given (codes "cache") rows) (is_given (codes "MANIFEST") rows)
+
+-- what is wrong with where a daemon's files come from, by whether a repository and a directory are given, which exclude each
+-- other, and what is wrong where there is no repository
+abbrev pub origin_fault_by : Bool → Bool → Kinds → Kinds
+origin_fault_by true true others = kind.ArgumentConflict ∷ []
+origin_fault_by true false others = []
+origin_fault_by false files others = others
+
+abbrev pub origin_fault : List Row → Kinds
+origin_fault rows =
+    origin_fault_by (is_given (codes "git") rows) (is_given (codes "files") rows) (manifest_fault rows)
+
+-- what is wrong with a daemon's words: with its start, and else with where its files come from
+abbrev pub daemon_fault : List Row → Kinds
+daemon_fault rows = or_else (start_fault rows) (origin_fault rows)
+
+-- the commit that a daemon's words name, or HEAD
+abbrev pub commit_in : List Row → Text
+commit_in rows = unwrap_or (first_of (codes "MANIFEST") rows) (codes "HEAD")
+
 -- what is wrong with the word of `--owner`, if there is one: it names no owner
 abbrev pub owner_fault_of : Option Text → Kinds
 owner_fault_of None = []
@@ -176,15 +226,15 @@ owner_fault_of (Some word) = if is_none (owner_of word) then kind.InvalidValue �
 abbrev pub owner_fault : List Row → Kinds
 owner_fault rows = owner_fault_of (first_of (codes "owner") rows)
 
--- what is wrong with a command's words behind its rules: with the start of `daemon`, or with the owner of `mount`
+-- what is wrong with a command's words behind its rules: with those of `daemon`, or with the owner of `mount`
 abbrev pub words_fault_in : Option (Text × List Row) → Kinds
 words_fault_in None = []
 words_fault_in (Some command) =
-    if bytes_eq command.0 (codes "daemon") then start_fault command.1
+    if bytes_eq command.0 (codes "daemon") then daemon_fault command.1
     else if bytes_eq command.0 (codes "mount") then owner_fault command.1
     else []
 
--- what is wrong with the words: by the rules of the commands, and else with a daemon's start or a mount's owner
+-- what is wrong with the words: by the rules of the commands, and else with those of a daemon or a mount's owner
 abbrev pub wrong_of : List Text → Kinds
 wrong_of words = or_else (fault_of edend_app words) (words_fault_in (command_of words))
 

@@ -3,13 +3,13 @@ ghost use Rattle.std.specs.Prelude.{◌≡◌, map, IfOk, MatchResult, codes, op
 ghost use Rattle.std.specs.Option.{option_map};
 ghost use Rattle.clap.specs.Words.{FailsBy, first_of, found_of, kind_of, rows_of, subcommand_rows_of};
 ghost use Rattle.command_line.specs.Asked.{IsAsked, IsBroker, IsDaemon, IsMount, IsScript};
-ghost use Rattle.command_line.specs.CommandLine.{NamesPlainly, command_of, has_flag, limit_in, number_or, script_in, start_by, owner_fault, start_fault, word_in, words_fault_in, wrong_of};
+ghost use Rattle.command_line.specs.CommandLine.{NamesPlainly, command_of, daemon_fault, has_flag, limit_in, number_or, script_in, start_by, is_given, commit_in, manifest_fault, origin_fault, owner_fault, start_fault, word_in, words_fault_in, wrong_of};
 ghost use Rattle.command_line.specs.Owner.{owner_of};
 
 use crate::commands::{
-    BROKER, BROKER_SOCKET, DAEMON, FILES, HELD, LIMIT, LISTEN_SOCKET, MANIFEST, MOUNT, MOUNTPOINT,
-    OWNER, PATIENCE, SCRIPT, SOCKET, TAKEOVER, UNTIL_CLOSED, VALID, WORKERS, WORLD, daemon_command,
-    edend_command, mount_command,
+    BROKER, BROKER_SOCKET, CACHE, DAEMON, FILES, GIT, HELD, LIMIT, LISTEN_SOCKET, MANIFEST, MOUNT,
+    MOUNTPOINT, OWNER, PATIENCE, SCRIPT, SOCKET, TAKEOVER, UNTIL_CLOSED, VALID, WORKERS, WORLD,
+    daemon_command, edend_command, mount_command,
 };
 use crate::{BrokerWords, DaemonWords, MountWords, Owner, ServerCommand, StartMode, read_owner};
 use clap::error::ErrorKind;
@@ -25,6 +25,9 @@ const DEFAULT_WORKERS: u64 = 2;
 
 /// For how many milliseconds a peer may be silent where the words say no number.
 const DEFAULT_PATIENCE: u64 = 2_000;
+
+/// How many megabytes of contents are kept of a repository where the words say no number.
+const DEFAULT_CACHE: u64 = 256;
 
 /// For how many seconds the kernel may keep what it is told if no option names another time: a day.
 const DEFAULT_VALID: u64 = 86_400;
@@ -163,12 +166,14 @@ fn owner_refusal(alloc: Global) -> Result<Error, AllocError>
 const BAD_OWNER: &str =
     "'--owner <UID:GID>' wants a user's and a group's number, with a colon between them";
 
-/// Returns the words of `daemon`. They are refused unless they name exactly one way to start.
+/// Returns the words of `daemon`. They are refused unless they name exactly one way to start, and where the files and their
+/// contents come from.
 fn daemon_in<'a>(alloc: Global, daemon: &ArgMatches<'a>) -> Result<DaemonWords<'a>, Error>
     ensures words { IfOk result (IsDaemon (rows_of (found_of daemon.now))) }
-    ensures refused { FailsBy (start_fault (rows_of (found_of daemon.now))) result }
+    ensures refused { FailsBy (daemon_fault (rows_of (found_of daemon.now))) result }
 {
     let start = start_in(alloc, daemon)?;
+    check_origin(alloc, daemon)?;
     Ok(DaemonWords {
         start,
         broker: word_in(daemon, BROKER_SOCKET),
@@ -179,8 +184,63 @@ fn daemon_in<'a>(alloc: Global, daemon: &ArgMatches<'a>) -> Result<DaemonWords<'
         patience: number_or(DEFAULT_PATIENCE, daemon.get_str(PATIENCE)),
         until_closed: has_flag(daemon, UNTIL_CLOSED),
         files: word_in(daemon, FILES),
+        git: word_in(daemon, GIT),
+        commit: commit_in(daemon),
+        cache: number_or(DEFAULT_CACHE, daemon.get_str(CACHE)),
     })
 }
+
+/// The commit that is served where the words name none.
+const HEAD: &str = "HEAD";
+
+/// Returns the commit that the words of `daemon` name, or `HEAD`.
+fn commit_in<'a>(daemon: &ArgMatches<'a>) -> &'a str
+    ensures commit { result.now ≡ commit_in (rows_of (found_of daemon.now)) }
+{
+    daemon.get_str(MANIFEST).unwrap_or(HEAD)
+}
+
+/// Returns whether a command was given a word for the argument `place`.
+fn is_given(matches: &ArgMatches<'_>, place: &str) -> bool
+    ensures given { result ≡ is_given place.now (rows_of (found_of matches.now)) }
+{
+    matches.get_str(place).is_some()
+}
+
+/// Refuses words of `daemon` that name a repository and a directory for contents, and those without a repository that name
+/// no manifest.
+fn check_origin(alloc: Global, daemon: &ArgMatches<'_>) -> Result<(), Error>
+    ensures refused { FailsBy (origin_fault (rows_of (found_of daemon.now))) result }
+{
+    match (is_given(daemon, GIT), is_given(daemon, FILES)) {
+        (true, true) => Err(refusal(alloc, ErrorKind::ArgumentConflict, GIT_AND_FILES)?),
+        (true, false) => Ok(()),
+        (false, true) => check_manifest(alloc, daemon),
+        (false, false) => check_manifest(alloc, daemon),
+    }
+}
+
+/// Refuses words of `daemon` without a repository that bound what is kept of one, or name no manifest.
+fn check_manifest(alloc: Global, daemon: &ArgMatches<'_>) -> Result<(), Error>
+    ensures refused { FailsBy (manifest_fault (rows_of (found_of daemon.now))) result }
+{
+    match (is_given(daemon, CACHE), is_given(daemon, MANIFEST)) {
+        (true, true) => Err(refusal(alloc, ErrorKind::ArgumentConflict, CACHE_ALONE)?),
+        (true, false) => Err(refusal(alloc, ErrorKind::ArgumentConflict, CACHE_ALONE)?),
+        (false, true) => Ok(()),
+        (false, false) => Err(refusal(alloc, ErrorKind::MissingRequiredArgument, NO_MANIFEST)?),
+    }
+}
+
+/// The error text for words that name a repository and a directory.
+const GIT_AND_FILES: &str =
+    "the argument '--git <REPOSITORY>' cannot be used with '--files <DIRECTORY>'";
+
+/// The error text for words that bound what is kept of no repository.
+const CACHE_ALONE: &str = "the argument '--cache <MB>' cannot be used without '--git <REPOSITORY>'";
+
+/// The error text for words that name neither a manifest nor a repository.
+const NO_MANIFEST: &str = "the following required arguments were not provided:\n  <MANIFEST>";
 
 /// Returns how a daemon comes to serve. Words that name both ways or none are refused.
 fn start_in(alloc: Global, daemon: &ArgMatches<'_>) -> Result<StartMode, Error>

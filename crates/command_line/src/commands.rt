@@ -1,7 +1,7 @@
 //! The commands that the program has, as `clap` reads them.
 ghost use Rattle.std.specs.Prelude.{◌≡◌, false, IfOk};
 ghost use Rattle.clap.specs.Words.{app_of, rule_of};
-ghost use Rattle.command_line.specs.CommandLine.{IsReadAs, broker_app, daemon_app, edend_app, files_rule, flag_rule, held_rule, limit_rule, mount_app, owner_rule, patience_rule, valid_rule, word_rule, workers_rule, world_app};
+ghost use Rattle.command_line.specs.CommandLine.{IsReadAs, broker_app, cache_rule, daemon_app, edend_app, files_rule, flag_rule, git_rule, held_rule, limit_rule, manifest_rule, mount_app, owner_rule, patience_rule, valid_rule, word_rule, workers_rule, world_app};
 
 use clap::builder::ValueParser;
 use clap::{Arg, ArgAction, Command};
@@ -48,6 +48,10 @@ pub const UNTIL_CLOSED: &str = "until-closed";
 
 pub const FILES: &str = "files";
 
+pub const GIT: &str = "git";
+
+pub const CACHE: &str = "cache";
+
 /// The end of the help of `world`.
 const WORLD_HELP: &str = "\
 Example:
@@ -69,8 +73,9 @@ Exit status:
   2  the command line was refused";
 
 /// The usage of `daemon`.
-const DAEMON_USAGE: &str =
-    "edend daemon [OPTIONS] <--mount|--takeover> <BROKER> <TAKEOVER> <MANIFEST>";
+const DAEMON_USAGE: &str = "\
+edend daemon [OPTIONS] <--mount|--takeover> <BROKER> <TAKEOVER> <MANIFEST>
+       edend daemon [OPTIONS] <--mount|--takeover> <BROKER> <TAKEOVER> --git <REPOSITORY> [COMMIT]";
 
 /// The end of the help of `daemon`.
 const DAEMON_HELP: &str = "\
@@ -78,6 +83,7 @@ Example:
   printf 'commit %040d\\ndir src\\n' 0 > manifest
   edend daemon --mount broker.socket takeover.socket manifest &
   edend daemon --takeover broker.socket takeover.socket manifest
+  edend daemon --mount broker.socket takeover.socket --git repository HEAD
 
 Exit status:
   0  the daemon has handed over, or the mount or standard input has ended
@@ -154,12 +160,14 @@ pub fn daemon_command<'a>(alloc: Global) -> Result<Command<'a>, AllocError>
         .arg(flag_arg(alloc, TAKEOVER, TAKEOVER_HELP))?
         .arg(word_arg(alloc, BROKER_SOCKET, "The broker's socket"))?
         .arg(word_arg(alloc, LISTEN_SOCKET, LISTEN_HELP))?
-        .arg(word_arg(alloc, MANIFEST, MANIFEST_HELP))?
+        .arg(manifest_arg(alloc))?
         .arg(workers_arg(alloc))?
         .arg(limit_arg(alloc))?
         .arg(patience_arg(alloc))?
         .arg(flag_arg(alloc, UNTIL_CLOSED, UNTIL_CLOSED_HELP))?
-        .arg(files_arg(alloc))
+        .arg(files_arg(alloc))?
+        .arg(git_arg(alloc))?
+        .arg(cache_arg(alloc))
 }
 
 /// Returns the command `mount`, which mounts what daemons serve.
@@ -185,7 +193,8 @@ const UNTIL_CLOSED_HELP: &str = "Ends when standard input ends";
 
 const LISTEN_HELP: &str = "The socket at which a daemon listens for the next one";
 
-const MANIFEST_HELP: &str = "The manifest, or - for standard input";
+const MANIFEST_HELP: &str =
+    "The manifest, or - for standard input; with --git a commit, or HEAD if none is named";
 
 /// Returns the argument `name`, a word that a command has to have.
 fn word_arg<'a>(alloc: Global, name: &'a str, help: &'a str) -> Arg<'a>
@@ -230,6 +239,41 @@ fn files_arg<'a>(alloc: Global) -> Arg<'a>
         .long(FILES)
         .value_name("DIRECTORY")
         .help("Serves the contents of files from DIRECTORY, each from its path there")
+        .action(ArgAction::Set)
+}
+
+/// Returns the argument that names a manifest or a commit.
+fn manifest_arg<'a>(alloc: Global) -> Arg<'a>
+    ensures rule { rule_of result ≡ manifest_rule }
+    ensures own { result.global ≡ false }
+{
+    Arg::new(alloc, MANIFEST)
+        .help(MANIFEST_HELP)
+        .action(ArgAction::Set)
+}
+
+/// Returns the option that names a repository of git.
+fn git_arg<'a>(alloc: Global) -> Arg<'a>
+    ensures rule { rule_of result ≡ git_rule }
+    ensures own { result.global ≡ false }
+{
+    Arg::new(alloc, GIT)
+        .long(GIT)
+        .value_name("REPOSITORY")
+        .help("Serves a commit of the git repository at REPOSITORY")
+        .action(ArgAction::Set)
+}
+
+/// Returns the option that says how much memory the contents of files have.
+fn cache_arg<'a>(alloc: Global) -> Arg<'a>
+    ensures rule { rule_of result ≡ cache_rule }
+    ensures own { result.global ≡ false }
+{
+    Arg::new(alloc, CACHE)
+        .long(CACHE)
+        .value_name("MB")
+        .help("How many megabytes of contents are kept with --git, from 1 to 1048576; else 256")
+        .value_parser(ValueParser::unsigned(1, 1_048_576))
         .action(ArgAction::Set)
 }
 

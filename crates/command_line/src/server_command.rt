@@ -35,7 +35,7 @@ pub struct DaemonWords<'a> {
     pub broker: &'a str,
     /// The path of the socket at which the daemon listens for its successor.
     pub takeover: &'a str,
-    /// The path of a manifest, or `-` for standard input.
+    /// The path of a manifest, or `-` for standard input, where no repository is named.
     pub manifest: &'a str,
     /// How many threads serve, from 1 to 16.
     pub workers: usize,
@@ -47,6 +47,12 @@ pub struct DaemonWords<'a> {
     pub until_closed: bool,
     /// The path of a directory with the contents of files; empty if no directory is named.
     pub files: &'a str,
+    /// The path of a git repository; empty if none is named.
+    pub git: &'a str,
+    /// The commit of the repository that is served.
+    pub commit: &'a str,
+    /// How many megabytes of contents are kept of the repository, from 1 to 1,048,576.
+    pub cache: u64,
 }
 
 /// The words of `mount`.

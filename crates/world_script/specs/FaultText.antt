@@ -3,7 +3,7 @@ use Rattle.std.specs.Prelude.{ℕ, List, [], ◌∷◌, ◌++◌, codes}
 use Rattle.std.specs.Fmt.{decimal}
 use Rattle.manifest.specs.Words.{kind_text}
 use Rattle.world_script.specs.declared.program_fault.ProgramFault.{ProgramFault}
-use Rattle.world_script.specs.declared.program_fault.ProgramFault.TheVariants.{CannotRead, TooLong, NoEvents, BadManifest, BadLine, NoMemory, CannotWrite, CannotListen, NoBroker, Seated, Full, NoDaemon, OfferRefused, TakeoverFailed, NoThread, Broken, NoLog, NoDevice, CannotMount, NoFiles}
+use Rattle.world_script.specs.declared.program_fault.ProgramFault.TheVariants.{CannotRead, TooLong, NoEvents, BadManifest, BadLine, NoMemory, CannotWrite, CannotListen, NoBroker, Seated, Full, NoDaemon, OfferRefused, TakeoverFailed, NoThread, Broken, NoLog, NoDevice, CannotMount, NoFiles, NoGit, NoRepository, NoCommit, Sha256, BadTree}
 
 -- the text of a fault
 abbrev pub fault_text : ProgramFault → List ℕ
@@ -27,6 +27,11 @@ fault_text NoLog = codes "no log"
 fault_text NoDevice = codes "no device"
 fault_text CannotMount = codes "cannot mount"
 fault_text NoFiles = codes "no files"
+fault_text NoGit = codes "no git"
+fault_text NoRepository = codes "no repository"
+fault_text NoCommit = codes "no commit"
+fault_text Sha256 = codes "objects by SHA-256"
+fault_text BadTree = codes "bad tree"
 
 -- the line of a fault: `fault: TEXT`
 abbrev pub fault_line : ProgramFault → List ℕ

@@ -55,6 +55,16 @@ pub enum ProgramFault {
     CannotMount,
     /// The directory with the contents of files can't be served.
     NoFiles,
+    /// The program git can't be run.
+    NoGit,
+    /// There is no git repository that can be served.
+    NoRepository,
+    /// The repository has no such commit.
+    NoCommit,
+    /// The repository names its objects by SHA-256.
+    Sha256,
+    /// What git printed of the commit is no tree.
+    BadTree,
 }
 
 /// Writes the line of `fault`.
@@ -94,6 +104,11 @@ impl fmt::Display for ProgramFault {
             ProgramFault::NoDevice => f.write_str("no device"),
             ProgramFault::CannotMount => f.write_str("cannot mount"),
             ProgramFault::NoFiles => f.write_str("no files"),
+            ProgramFault::NoGit => f.write_str("no git"),
+            ProgramFault::NoRepository => f.write_str("no repository"),
+            ProgramFault::NoCommit => f.write_str("no commit"),
+            ProgramFault::Sha256 => f.write_str("objects by SHA-256"),
+            ProgramFault::BadTree => f.write_str("bad tree"),
         }
     }
 }

@@ -1,6 +1,6 @@
 -- What the rows of the command's matches name.
-use Rattle.std.proofs.Common.{ap, ◌∙◌, codes}
-use Rattle.clap.specs.Words.{found_of}
+use Rattle.std.proofs.Common.{ap, ◌∙◌, codes, Option, unwrap_or}
+use Rattle.clap.specs.Words.{Text, found_of}
 use Rattle.clap.proofs.WalkLemmas.{first_value-rows}
 use Rattle.command_line.specs.CommandLine.{number_or}
 use Rattle.command_line.proofs.asked.daemon_in.Goals as goal
@@ -16,4 +16,7 @@ returns-clause-words c = record {
   patience = c.number_or-3.ensures ∙ ap (number_or 2000) (c.get_str-3.ensures ∙ first_value-rows (found_of c.args.daemon.now) (codes "patience"));
   until_closed = c.has_flag.ensures;
   files = c.word_in-4.ensures;
+  git = c.word_in-5.ensures;
+  commit = c.commit_in.ensures.commit;
+  cache = c.number_or-4.ensures ∙ ap (number_or 256) (c.get_str-4.ensures ∙ first_value-rows (found_of c.args.daemon.now) (codes "cache"));
 }
