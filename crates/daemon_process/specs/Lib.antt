@@ -1,4 +1,5 @@
 pub mod Causes
+pub mod Contents
 pub mod Ending
 pub mod Patience
 pub mod PeerQueue

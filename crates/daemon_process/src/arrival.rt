@@ -65,7 +65,8 @@ impl<'a, R: Net + Clock + Wait> DaemonContext<'a, R> {
         let mut connection = self.reach_broker(options.broker)?;
         let daemon = self.attach(&mut connection, DaemonId(0))?;
         let workers = self.arrive_each(options, daemon)?;
-        check_descriptors(self.alloc, &connection, workers.len())?;
+        let others = DESCRIPTORS_OF_TAKEOVERS.saturating_add(self.contents.descriptors());
+        check_descriptors(self.alloc, &connection, workers.len(), others)?;
         Ok(Arrival {
             connection,
             workers,
@@ -163,15 +164,16 @@ impl<'a, R: Files<File = File> + Clock + Wait> DaemonContext<'a, R> {
     }
 }
 
-/// Checks that a daemon of this many workers can open what it needs once it has the seat.
+/// Checks that a daemon of this many workers can open what it needs once it has the seat, and `others` beside that.
 fn check_descriptors<R: Clock>(
     alloc: Global,
     connection: &Connection<'_, R>,
     workers: usize,
+    others: usize,
 ) -> Result<(), Exit> {
     let count = workers
         .saturating_mul(DESCRIPTORS_OF_A_WORKER)
-        .saturating_add(DESCRIPTORS_OF_TAKEOVERS);
+        .saturating_add(others);
     let Ok(mut spare) = Vec::with_capacity(alloc, count) else {
         return Err(Exit::Faulty(DaemonFault::NoMemory));
     };

@@ -1,40 +1,120 @@
 //! The contents that a daemon serves.
+ghost use Rattle.daemon_process.specs.Contents.{ReadsContents};
+
 use crate::fault::DaemonFault;
+use crate::options::{ContentsSource, RepositorySource};
 use crate::own_mounts::{is_below_own, is_of_own};
-use blob_store::FileBlobs;
-use eden_base::NoMemory;
+use blob_store::{BlobFault, BlobStore, FailureNotes, FileBlobs};
+use fuse_wire::{Buffer, Extent};
+use git_blobs::GitBlobs;
+use git_objects::GitObjects;
 use manifest::Manifest;
 use non_blocking::Notes;
 use std::alloc::Global;
 use std::fs::File;
 use std::io::{self, Error, ErrorKind, Read};
+use std::net::{Net, TcpListener, TcpStream};
 use std::os::unix::fs::MetadataExt;
 use std::path::AsPath;
+use std::process::{Processes, SystemProcess};
 use std::rt::{Clock, Files};
 use std::sync::Wait;
+use std::thread::Threads;
 
 /// The table of this process's mounts.
 const MOUNTS: &str = "/proc/self/mountinfo";
 
-/// The contents of the manifest's files: those of a directory; none where the daemon was given no directory.
-pub(crate) type Contents<'a, R> = Option<FileBlobs<'a, R>>;
+/// The contents of the manifest's files.
+#[derive(Drop)]
+pub(crate) enum Contents<'a, R> {
+    /// There are none.
+    None,
+    /// They stand in a directory.
+    Directory(FileBlobs<'a, R>),
+    /// They are objects of a git repository.
+    Repository(GitBlobs<'a, R>),
+}
 
-/// Opens the directory at `path`, which has the contents of the files of `manifest`. Returns no contents for an empty path.
-pub(crate) fn open_contents<'a, R: Files<File = File> + Clock + Wait>(
+/// How many descriptors a repository takes: for two processes of git with their questions and answers, and for the files of
+/// large blobs.
+const DESCRIPTORS_OF_A_REPOSITORY: usize = 16;
+
+impl<R> Contents<'_, R> {
+    /// Returns how many descriptors they take at most, beside those that workers open.
+    pub(crate) fn descriptors(&self) -> usize {
+        match self {
+            Contents::None | Contents::Directory(_) => 0,
+            Contents::Repository(_) => DESCRIPTORS_OF_A_REPOSITORY,
+        }
+    }
+}
+
+impl<R: Files<File = File> + Clock + Wait> BlobStore for Contents<'_, R> {
+    ghost reads = { λ contents extent result. ReadsContents contents extent result };
+
+    fn read(&self, alloc: Global, extent: &Extent) -> Result<Buffer, BlobFault> {
+        match self {
+            Contents::None => Err(BlobFault::Failed),
+            Contents::Directory(files) => files.read(alloc, extent),
+            Contents::Repository(blobs) => blobs.read(alloc, extent),
+        }
+    }
+}
+
+/// Opens the contents of the files of `manifest`.
+pub(crate) fn open_contents<
+    'a,
+    R: Threads
+        + Wait
+        + Clock
+        + Files<File = File>
+        + Net<Listener = TcpListener, Stream = TcpStream>
+        + Processes<Started = SystemProcess>
+        + Copy
+        + Send
+        + 'static,
+>(
     rt: &'a R,
     alloc: Global,
-    path: &str,
+    source: ContentsSource<'_>,
     manifest: &Manifest,
     notes: &Notes,
-) -> Result<Contents<'a, R>, DaemonFault> {
-    if path.is_empty() {
-        return Ok(None);
+) -> Result<Contents<'a, R>, DaemonFault>
+where
+    R::Dir: Send,
+{
+    let Ok(manifest) = manifest.share() else {
+        return Err(DaemonFault::NoMemory);
+    };
+    match source {
+        ContentsSource::None => Ok(Contents::None),
+        ContentsSource::Directory(path) => {
+            let folder = open_folder(rt, alloc, path).map_err(fault_of)?;
+            let files = FileBlobs::new(rt, alloc, folder, manifest, notes.again());
+            Ok(Contents::Directory(files))
+        }
+        ContentsSource::Repository(repository) => {
+            let RepositorySource { path, names, bound } = repository;
+            let objects = GitObjects::start(rt, alloc, path, bound).map_err(unstarted)?;
+            let failures = FailureNotes::new(alloc, notes.again());
+            Ok(Contents::Repository(GitBlobs::new(rt, manifest, names, objects, failures)))
+        }
     }
-    let folder = open_folder(rt, alloc, path).map_err(fault_of)?;
-    match manifest.share() {
-        Ok(manifest) => Ok(Some(FileBlobs::new(rt, alloc, folder, manifest, notes.again()))),
-        Err(NoMemory) => Err(DaemonFault::NoMemory),
+}
+
+/// Returns the fault of a daemon whose threads for a repository were not made for `error`.
+fn unstarted(error: Error) -> DaemonFault {
+    match error.kind() {
+        ErrorKind::OutOfMemory => DaemonFault::NoMemory,
+        _ => DaemonFault::NoThread,
     }
+}
+
+/// Looks whether there is a directory at `path` that may be served. One that lies in a mount of this program may not: who
+/// reads there would wait for itself.
+pub fn check_directory<R: Files<File = File>>(rt: &R, alloc: Global, path: &str) -> io::Result<()> {
+    let _folder = open_folder(rt, alloc, path)?;
+    Ok(())
 }
 
 /// Returns the fault of a daemon whose directory can't be opened for `error`.

@@ -27,6 +27,7 @@ mod silence;
 mod takeover;
 mod watched;
 
+pub use contents::check_directory;
 pub use fault::DaemonFault;
-pub use options::{DaemonOptions, DaemonStart};
+pub use options::{ContentsSource, DaemonOptions, DaemonStart, DaemonTree, RepositorySource};
 pub use process::{DaemonRun, DaemonStreams, run_daemon};

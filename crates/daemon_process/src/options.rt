@@ -1,4 +1,6 @@
-//! The options of a daemon.
+//! The options of a daemon, and what it serves.
+use git_tree::Objects;
+use manifest::Manifest;
 use std::time::Duration;
 
 /// How a daemon begins.
@@ -26,6 +28,32 @@ pub struct DaemonOptions<'a> {
     pub patience: Duration,
     /// Whether it ends when standard input ends, which it reads then.
     pub until_closed: bool,
-    /// The path of a directory with the contents of the manifest's files; empty if they aren't served.
-    pub files: &'a str,
+}
+
+/// Where the contents of a manifest's files come from.
+#[derive(Drop)]
+pub enum ContentsSource<'a> {
+    /// They aren't served.
+    None,
+    /// A directory, by its path.
+    Directory(&'a str),
+    /// A git repository.
+    Repository(RepositorySource<'a>),
+}
+
+/// A git repository with the contents of a manifest's files.
+#[derive(Drop)]
+pub struct RepositorySource<'a> {
+    pub path: &'a str,
+    /// The object of each file.
+    pub names: Objects,
+    /// How many bytes of contents are kept at most.
+    pub bound: u64,
+}
+
+/// The files that a daemon serves, and where their contents come from.
+#[derive(Drop)]
+pub struct DaemonTree<'a> {
+    pub manifest: Manifest,
+    pub contents: ContentsSource<'a>,
 }

@@ -9,20 +9,20 @@ use crate::exit::{DaemonEnd, Exit};
 use crate::fault::DaemonFault;
 use crate::handover::HandoverLoop;
 use crate::input_end::close_with_input;
-use crate::options::DaemonOptions;
+use crate::options::{DaemonOptions, DaemonTree};
 use crate::peer_accept_loop::PeerAcceptLoop;
 use crate::peer_connections::PeerConnections;
 use crate::round_loop::RoundLoop;
 use crate::seat::Seated;
 use crate::shared::Shared;
 use daemon_desk::DaemonDesk;
-use manifest::Manifest;
 use non_blocking::{Notes, Unblock, write_behind};
 use sockets::{Closer, Connection};
 use std::alloc::Global;
 use std::fs::File;
 use std::io::{self, ErrorKind, Read};
-use std::net::Net;
+use std::net::{Net, TcpListener, TcpStream};
+use std::process::{Processes, SystemProcess};
 use std::rt::{Clock, Files};
 use std::sync::{Arc, Wait};
 use std::thread;
@@ -58,18 +58,27 @@ struct Service<W> {
     ending: DaemonEnd,
 }
 
-/// Runs a daemon over the checkout of `manifest`, and prints each line to `streams.out` as soon as it is known: a line
+/// Runs a daemon over the checkout of `tree`, and prints each line to `streams.out` as soon as it is known: a line
 /// that can't be written is dropped, and nobody waits for one. Returns when another daemon took over, the mount is
 /// over, or a fault ended the daemon; where `options` say so, also when `streams.input` ends.
 pub fn run_daemon<
-    R: Threads + Wait + Clock + Files<File = File> + Net + Copy + Send + Sync + 'static,
+    R: Threads
+        + Wait
+        + Clock
+        + Files<File = File>
+        + Net<Listener = TcpListener, Stream = TcpStream>
+        + Processes<Started = SystemProcess>
+        + Copy
+        + Send
+        + Sync
+        + 'static,
     I: Read + Drop + Send + 'static,
     W: Unblock + Drop,
 >(
     rt: &R,
     alloc: Global,
     options: &DaemonOptions<'_>,
-    manifest: Manifest,
+    tree: DaemonTree<'_>,
     streams: DaemonStreams<I, W>,
 ) -> DaemonRun<W>
 where
@@ -82,7 +91,8 @@ where
     if let Err(error) = write_behind(rt, alloc, &mut out) {
         return end_run(out, DaemonEnd::Exits(Exit::Faulty(unmade(&error))));
     }
-    let contents = match open_contents(rt, alloc, options.files, &manifest, &notes) {
+    let DaemonTree { manifest, contents } = tree;
+    let contents = match open_contents(rt, alloc, contents, &manifest, &notes) {
         Ok(contents) => contents,
         Err(fault) => return end_run(out, DaemonEnd::Exits(Exit::Faulty(fault))),
     };

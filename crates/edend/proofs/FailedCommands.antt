@@ -1,5 +1,5 @@
 -- Lemmas on commands that fail: what their failure names, which fault it tells, and what was printed before.
-use Rattle.std.proofs.Common.{◌≡◌, ◌<◌, ◌⊎◌, ℕ, List, [], length, Option, Some, Result, Ok, Err, refl, subst, sym, ◌∙◌, inl, inr}
+use Rattle.std.proofs.Common.{◌≡◌, ◌<◌, ◌⊎◌, ℕ, List, [], ◌∷◌, length, Option, Some, Result, Ok, Err, refl, subst, sym, ◌∙◌, inl, inr}
 use Rattle.std.specs.Option.{IfSome}
 use Rattle.std.specs.Io.KnownBytes.{Keeps}
 use Rattle.std.proofs.KnownBytes.{Appends-kept, Appends-nil}
@@ -11,13 +11,14 @@ use Rattle.command_line.specs.declared.server_command.BrokerWords.{BrokerWords}
 use Rattle.command_line.specs.declared.server_command.DaemonWords.{DaemonWords}
 use Rattle.command_line.specs.declared.server_command.ServerCommand.{ServerCommand}
 use Rattle.command_line.specs.declared.server_command.ServerCommand.TheVariants as command
+use Rattle.git_blobs.specs.declared.tree_fault.TreeFault.TheVariants as tree
 use Rattle.world_script.specs.ProgramEnd.{name_by, name_of, plain}
 use Rattle.world_script.specs.Refusal.{IsManifestFault, IsReadRefusal}
 use Rattle.world_script.specs.Source.{script_at}
 use Rattle.world_script.specs.declared.failure.Failure.{Failure}
 use Rattle.world_script.specs.declared.program_fault.ProgramFault.{ProgramFault}
 use Rattle.world_script.specs.declared.program_fault.ProgramFault.TheVariants.{BadManifest, CannotRead, NoMemory, TooLong}
-use Rattle.edend.specs.Commands.{Fails, IsTold, IsUnread, Names, PrintsFirst, RunsTo, fault_of_script, name_at}
+use Rattle.edend.specs.Commands.{Fails, IsManifestRefusal, IsTold, IsTreeTold, IsUnread, Names, PrintsFirst, RunsTo, fault_of_script, name_at}
 
 -- ---- what was printed
 
@@ -49,9 +50,13 @@ names-no_memory (command.Broker words) = refl
 names-no_memory (command.Daemon words) = refl
 names-no_memory (command.Mount words) = refl
 
+tree_no_memory : (repository : List ℕ) (known : Option (List ℕ)) → IsTreeTold repository known NoMemory
+tree_no_memory [] known = inl tt
+tree_no_memory (byte ∷ rest) known = (tree.NoMemory, refl)
+
 told-no_memory : (input : Option (List ℕ)) (file : List ℕ → Option (List ℕ)) (e : ServerCommand) (before after : Option (List ℕ)) → Keeps before after → IsTold input file e before after NoMemory
 told-no_memory input file (command.Broker words) before after kept = inl tt
-told-no_memory input file (command.Daemon words) before after kept = inl tt
+told-no_memory input file (command.Daemon words) before after kept = inl (tree_no_memory words.git.now (script_at input file words.manifest.now))
 told-no_memory input file (command.Mount words) before after kept = record { fault = mount.NoMemory; ran = inl (none-dead before after kept); is_told = refl }
 
 pub fails-no_memory : (input : Option (List ℕ)) (file : List ℕ → Option (List ℕ)) (e : ServerCommand) (before after : Option (List ℕ)) → Keeps before after → Fails input file e (plain NoMemory) before after
@@ -86,13 +91,12 @@ broker-unread input file words failure fault ended old new is none same refused 
     (named ∙ read_by_broker words failure.fault (subst IsReadRefusal (sym same) refused))
     (inl (subst (IsUnread (script_at input file words.script.now)) (sym same) (unread (script_at input file words.script.now) fault refused long)))
 
-pub daemon-unread : (input : Option (List ℕ)) (file : List ℕ → Option (List ℕ)) (words : DaemonWords) (failure : Failure) (fault : ProgramFault) (ended : Result (Unit {0}) Failure) (old new : Option (List ℕ)) →
-    ended ≡ Err failure → new ≡ old → failure.fault ≡ fault → IsReadRefusal fault → (fault ≡ TooLong → IfSome (script_at input file words.manifest.now) (λ all. 1048576 < length all)) →
-    name_of failure ≡ name_by words.manifest.now failure.fault → RunsTo input file (command.Daemon words) ended old new
-daemon-unread input file words failure fault ended old new is none same refused long named =
-    fails-to input file (command.Daemon words) failure ended old new is none
-    (named ∙ read_by_daemon words failure.fault (subst IsReadRefusal (sym same) refused))
-    (inl (subst (IsUnread (script_at input file words.manifest.now)) (sym same) (unread (script_at input file words.manifest.now) fault refused long)))
+pub manifest-unread : (known : Option (List ℕ)) (words : DaemonWords) (failure : Failure) (fault : ProgramFault) → failure.fault ≡ fault → IsReadRefusal fault →
+    (fault ≡ TooLong → IfSome known (λ all. 1048576 < length all)) → name_of failure ≡ name_by words.manifest.now failure.fault → IsManifestRefusal known words failure
+manifest-unread known words failure fault same refused long named = (
+  named ∙ read_by_daemon words failure.fault (subst IsReadRefusal (sym same) refused),
+  inl (subst (IsUnread known) (sym same) (unread known fault refused long)),
+)
 
 -- ---- a text that was refused
 
@@ -109,9 +113,6 @@ broker-refused input file words failure text refused ended old new is none names
     fails-to input file (command.Broker words) failure ended old new is none names
     (inr (inl (record { script = text; is = read; holds = (refused, why, told) })))
 
-pub daemon-refused : (input : Option (List ℕ)) (file : List ℕ → Option (List ℕ)) (words : DaemonWords) (text : List ℕ) (fault : ProgramFault) (ended : Result (Unit {0}) Failure) (old new : Option (List ℕ)) →
-    ended ≡ Err (plain fault) → new ≡ old → IfSome (script_at input file words.manifest.now) (λ all. text ≡ all) → IsManifestFault text fault →
-    RunsTo input file (command.Daemon words) ended old new
-daemon-refused input file words text fault ended old new is none read why =
-    fails-to input file (command.Daemon words) (plain fault) ended old new is none (names-bad_manifest words text fault why)
-    (inr (inl (record { script = text; is = read; holds = why })))
+pub manifest-refused : (known : Option (List ℕ)) (words : DaemonWords) (text : List ℕ) (fault : ProgramFault) → IfSome known (λ all. text ≡ all) → IsManifestFault text fault →
+    IsManifestRefusal known words (plain fault)
+manifest-refused known words text fault read why = (names-bad_manifest words text fault why, inr (record { script = text; is = read; holds = why }))

@@ -10,7 +10,7 @@ use Rattle.command_line.specs.declared.server_command.ServerCommand.TheVariants 
 use Rattle.world_script.specs.ProgramEnd.{name_by}
 use Rattle.world_script.specs.declared.failure.Failure.{Failure}
 use Rattle.world_script.specs.declared.program_fault.ProgramFault.{ProgramFault}
-use Rattle.world_script.specs.declared.program_fault.ProgramFault.TheVariants.{Broken, CannotListen, CannotMount, CannotWrite, NoBroker, NoDaemon, NoDevice, NoFiles, NoLog}
+use Rattle.world_script.specs.declared.program_fault.ProgramFault.TheVariants.{Broken, CannotListen, CannotMount, CannotWrite, NoBroker, NoCommit, NoDaemon, NoDevice, NoFiles, NoGit, NoLog, NoRepository, Sha256}
 use Rattle.edend.specs.Commands.{BrokerTells, DaemonTells, IsTold, PlaysRead, PrintsFirst, RunsTo, RunsWell, name_at}
 use Rattle.edend.specs.Note.{IsNoted}
 use Rattle.edend.specs.declared.note.Noted.{Noted}
@@ -21,12 +21,16 @@ same_of_broker : (a b : BrokerWords) (fault : ProgramFault) → a.socket.now ≡
 same_of_broker a b CannotListen socket script = ap (λ (p : List ℕ). Some p) socket
 same_of_broker a b fault socket script = ap (λ (p : List ℕ). name_by p fault) script
 
-same_of_daemon : (a b : DaemonWords) (fault : ProgramFault) → a.broker.now ≡ b.broker.now → a.takeover.now ≡ b.takeover.now → a.manifest.now ≡ b.manifest.now → a.files.now ≡ b.files.now → name_at (command.Daemon a) fault ≡ name_at (command.Daemon b) fault
-same_of_daemon a b CannotListen broker takeover manifest files = ap (λ (p : List ℕ). Some p) takeover
-same_of_daemon a b NoBroker broker takeover manifest files = ap (λ (p : List ℕ). Some p) broker
-same_of_daemon a b NoDaemon broker takeover manifest files = ap (λ (p : List ℕ). Some p) takeover
-same_of_daemon a b NoFiles broker takeover manifest files = ap (λ (p : List ℕ). Some p) files
-same_of_daemon a b fault broker takeover manifest files = ap (λ (p : List ℕ). name_by p fault) manifest
+same_of_daemon : (a b : DaemonWords) (fault : ProgramFault) → a.broker.now ≡ b.broker.now → a.takeover.now ≡ b.takeover.now → a.manifest.now ≡ b.manifest.now → a.files.now ≡ b.files.now → a.git.now ≡ b.git.now → a.commit.now ≡ b.commit.now → name_at (command.Daemon a) fault ≡ name_at (command.Daemon b) fault
+same_of_daemon a b CannotListen broker takeover manifest files git commit = ap (λ (p : List ℕ). Some p) takeover
+same_of_daemon a b NoBroker broker takeover manifest files git commit = ap (λ (p : List ℕ). Some p) broker
+same_of_daemon a b NoDaemon broker takeover manifest files git commit = ap (λ (p : List ℕ). Some p) takeover
+same_of_daemon a b NoFiles broker takeover manifest files git commit = ap (λ (p : List ℕ). Some p) files
+same_of_daemon a b NoGit broker takeover manifest files git commit = refl
+same_of_daemon a b NoRepository broker takeover manifest files git commit = ap (λ (p : List ℕ). Some p) git
+same_of_daemon a b NoCommit broker takeover manifest files git commit = ap (λ (p : List ℕ). Some p) commit
+same_of_daemon a b Sha256 broker takeover manifest files git commit = ap (λ (p : List ℕ). Some p) git
+same_of_daemon a b fault broker takeover manifest files git commit = ap (λ (p : List ℕ). name_by p fault) manifest
 
 same_of_mount : (a b : MountWords) (fault : ProgramFault) → a.mountpoint.now ≡ b.mountpoint.now → a.socket.now ≡ b.socket.now → a.held.now ≡ b.held.now → name_at (command.Mount a) fault ≡ name_at (command.Mount b) fault
 same_of_mount a b CannotListen mountpoint socket held = ap (λ (p : List ℕ). Some p) socket
@@ -40,7 +44,7 @@ same_names : (noted : Noted) (a b : ServerCommand) (fault : ProgramFault) → Is
 same_names (Broker noted) (command.Broker a) (command.Broker b) fault of_a of_b =
     same_of_broker a b fault (sym of_a.0 ∙ of_b.0) (sym of_a.1 ∙ of_b.1)
 same_names (Daemon noted) (command.Daemon a) (command.Daemon b) fault of_a of_b =
-    same_of_daemon a b fault (sym of_a.1 ∙ of_b.1) (sym of_a.2 ∙ of_b.2) (sym of_a.3 ∙ of_b.3) (sym of_a.8 ∙ of_b.8)
+    same_of_daemon a b fault (sym of_a.1 ∙ of_b.1) (sym of_a.2 ∙ of_b.2) (sym of_a.3 ∙ of_b.3) (sym of_a.8 ∙ of_b.8) (sym of_a.9 ∙ of_b.9) (sym of_a.10 ∙ of_b.10)
 same_names (Broker noted) (command.Daemon a) b fault of_a of_b = absurd of_a
 same_names (Broker noted) (command.Broker a) (command.Daemon b) fault of_a of_b = absurd of_b
 same_names (Daemon noted) (command.Broker a) b fault of_a of_b = absurd of_a
@@ -104,7 +108,8 @@ told-noted : (noted : Noted) (a b : ServerCommand) (input : Option (List ℕ)) (
 told-noted (Broker noted) (command.Broker a) (command.Broker b) input file fault before after of_a of_b told =
     subst (λ (path : List ℕ). BrokerTells (script_at input file path) before after fault) (sym of_a.1 ∙ of_b.1) told
 told-noted (Daemon noted) (command.Daemon a) (command.Daemon b) input file fault before after of_a of_b told =
-    subst (λ (path : List ℕ). DaemonTells (script_at input file path) before after fault) (sym of_a.3 ∙ of_b.3) told
+    subst (λ (path : List ℕ). DaemonTells b.git.now (script_at input file path) before after fault) (sym of_a.3 ∙ of_b.3)
+    (subst (λ (repository : List ℕ). DaemonTells repository (script_at input file a.manifest.now) before after fault) (sym of_a.9 ∙ of_b.9) told)
 told-noted (Broker noted) (command.Daemon a) b input file fault before after of_a of_b told = absurd of_a
 told-noted (Broker noted) (command.Broker a) (command.Daemon b) input file fault before after of_a of_b told = absurd of_b
 told-noted (Daemon noted) (command.Broker a) b input file fault before after of_a of_b told = absurd of_a

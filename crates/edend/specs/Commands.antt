@@ -1,8 +1,9 @@
 -- How a command over sockets ends. (This project's own.)
-use Rattle.std.specs.Prelude.{ℕ, ◌<◌, List, [], length, codes, Option, Some, Result, Ok, Err, ◌≡◌, ◌⊎◌, ⊤}
+use Rattle.std.specs.Prelude.{ℕ, ◌<◌, List, [], ◌∷◌, length, codes, Option, Some, Result, Ok, Err, ◌≡◌, ◌⊎◌, ⊤}
 use Rattle.std.specs.Io.KnownBytes.{Appends}
 use Rattle.std.specs.Option.{IfSome}
 use Rattle.std.specs.declared.io.Error.{Error as IoError}
+use Rattle.command_line.specs.declared.server_command.DaemonWords.{DaemonWords}
 use Rattle.command_line.specs.declared.server_command.ServerCommand.{ServerCommand}
 use Rattle.command_line.specs.declared.server_command.ServerCommand.TheVariants.{Broker, Daemon, Mount}
 use Rattle.command_line.specs.declared.server_command.StartMode.{StartMode}
@@ -24,13 +25,15 @@ use Rattle.daemon_process.specs.declared.fault.DaemonFault.{DaemonFault}
 use Rattle.daemon_process.specs.declared.fault.DaemonFault.TheVariants as daemon
 use Rattle.daemon_process.specs.declared.options.DaemonStart.{DaemonStart}
 use Rattle.daemon_process.specs.declared.options.DaemonStart.TheVariants as start
+use Rattle.git_blobs.specs.declared.tree_fault.TreeFault.{TreeFault}
+use Rattle.git_blobs.specs.declared.tree_fault.TreeFault.TheVariants as tree
 use Rattle.world_script.specs.Process.{EndsWith}
 use Rattle.world_script.specs.Refusal.{IsManifestFault}
 use Rattle.world_script.specs.Source.{OfRead, script_at}
 use Rattle.world_script.specs.ProgramEnd.{HandlerKnown, RunsCommand, Tells, name_by, name_of, plain}
 use Rattle.world_script.specs.declared.failure.Failure.{Failure}
 use Rattle.world_script.specs.declared.program_fault.ProgramFault.{ProgramFault}
-use Rattle.world_script.specs.declared.program_fault.ProgramFault.TheVariants.{BadLine, Broken, CannotListen, CannotMount, CannotRead, CannotWrite, NoBroker, NoDaemon, NoDevice, NoFiles, NoLog, NoMemory, NoThread, OfferRefused, Full, Seated, TakeoverFailed, TooLong}
+use Rattle.world_script.specs.declared.program_fault.ProgramFault.TheVariants.{BadLine, Broken, CannotListen, CannotMount, CannotRead, BadTree, CannotWrite, NoBroker, NoCommit, NoDaemon, NoDevice, NoFiles, NoGit, NoLog, NoMemory, NoRepository, NoThread, OfferRefused, Full, Seated, Sha256, TakeoverFailed, TooLong}
 
 -- how a daemon begins, by the start that its words ask for
 abbrev pub start_of : StartMode → DaemonStart
@@ -49,6 +52,10 @@ name_at (Daemon words) CannotListen = Some words.takeover.now
 name_at (Daemon words) NoBroker = Some words.broker.now
 name_at (Daemon words) NoDaemon = Some words.takeover.now
 name_at (Daemon words) NoFiles = Some words.files.now
+name_at (Daemon words) NoGit = Some (codes "git")
+name_at (Daemon words) NoRepository = Some words.git.now
+name_at (Daemon words) NoCommit = Some words.commit.now
+name_at (Daemon words) Sha256 = Some words.git.now
 name_at (Daemon words) fault = name_by words.manifest.now fault
 name_at (Mount words) CannotListen = Some words.socket.now
 name_at (Mount words) NoLog = Some words.held.now
@@ -88,6 +95,15 @@ fault_of_daemon (daemon.NoFiles error) = NoFiles
 fault_of_daemon daemon.NoMemory = NoMemory
 fault_of_daemon daemon.NoThread = NoThread
 fault_of_daemon daemon.Broken = Broken
+
+-- the fault that is told where the files of a commit were not read
+abbrev pub fault_of_tree : TreeFault → ProgramFault
+fault_of_tree (tree.NoGit error) = NoGit
+fault_of_tree (tree.NoRepository error) = NoRepository
+fault_of_tree (tree.NoCommit error) = NoCommit
+fault_of_tree (tree.Sha256 error) = Sha256
+fault_of_tree (tree.BadTree fault) = BadTree
+fault_of_tree tree.NoMemory = NoMemory
 
 -- the fault that is told where a mount ended so
 abbrev pub fault_of_mount : MountRunFault → ProgramFault
@@ -138,12 +154,24 @@ BrokerTells known before after fault =
     IsUnread known fault
     ⊎ (OfRead known (IsScriptRefusal fault) ⊎ OfRead known (EndsBroker before after fault))
 
--- The fault that a daemon tells, given what is known of the text at its manifest's path: that of a text that was not
--- read, that of a manifest that was refused, or the one that ended the daemon.
-abbrev pub DaemonTells : Option (List ℕ) → Option (List ℕ) → Option (List ℕ) → ProgramFault → Type 0
-DaemonTells known before after fault =
-    IsUnread known fault
-    ⊎ (OfRead known (λ text. IsManifestFault text fault) ⊎ EndsDaemon before after fault)
+-- the fault of a manifest that a daemon can't serve, given what is known of the text at its path: that of a text that was
+-- not read, or of a manifest that was refused
+abbrev pub IsManifestTold : Option (List ℕ) → ProgramFault → Type 0
+IsManifestTold known fault = IsUnread known fault ⊎ OfRead known (λ text. IsManifestFault text fault)
+
+-- the fault of a commit that a daemon can't serve
+abbrev pub IsCommitTold : ProgramFault → Type 0
+IsCommitTold fault = (refused : TreeFault) × (fault ≡ fault_of_tree refused)
+
+-- the fault of the files that a daemon can't serve: of a manifest where its words name no repository, else of a commit
+abbrev pub IsTreeTold : List ℕ → Option (List ℕ) → ProgramFault → Type 0
+IsTreeTold [] known fault = IsManifestTold known fault
+IsTreeTold (byte ∷ repository) known fault = IsCommitTold fault
+
+-- The fault that a daemon tells, given its repository's path, and what is known of the text at its manifest's: that of the
+-- files that it can't serve, or the one that ended the daemon.
+abbrev pub DaemonTells : List ℕ → Option (List ℕ) → Option (List ℕ) → Option (List ℕ) → ProgramFault → Type 0
+DaemonTells repository known before after fault = IsTreeTold repository known fault ⊎ EndsDaemon before after fault
 
 -- the fault that a command tells
 abbrev pub IsTold :
@@ -151,8 +179,18 @@ abbrev pub IsTold :
 IsTold input file (Broker words) before after fault =
     BrokerTells (script_at input file words.script.now) before after fault
 IsTold input file (Daemon words) before after fault =
-    DaemonTells (script_at input file words.manifest.now) before after fault
+    DaemonTells words.git.now (script_at input file words.manifest.now) before after fault
 IsTold input file (Mount words) before after fault = EndsMount before after fault
+
+-- a manifest is refused so, given what is known of the text at its path
+abbrev pub IsManifestRefusal : Option (List ℕ) → DaemonWords → Failure → Type 0
+IsManifestRefusal known words failure = Names (Daemon words) failure × IsManifestTold known failure.fault
+
+-- the files of a daemon are refused so
+abbrev pub IsTreeRefusal : Option (List ℕ) → (List ℕ → Option (List ℕ)) → DaemonWords → Failure → Type 0
+IsTreeRefusal input file words failure =
+    Names (Daemon words) failure
+    × IsTreeTold words.git.now (script_at input file words.manifest.now) failure.fault
 
 -- ---- how a command ends
 

@@ -32,6 +32,9 @@ IsDaemon noted words =
     × (noted.patience ≡ words.patience)
     × (noted.until_closed ≡ words.until_closed)
     × (string_bytes noted.files ≡ words.files.now)
+    × (string_bytes noted.git ≡ words.git.now)
+    × (string_bytes noted.commit ≡ words.commit.now)
+    × (noted.cache ≡ words.cache)
 
 -- the noted words are these words of a mount
 abbrev pub IsMount : NotedMount → MountWords → Type 0

@@ -1,5 +1,6 @@
 //! The program in a process, and the commands that it runs over sockets.
-ghost use Rattle.std.specs.Prelude.{◌≡◌, ◌⊎◌, ◌*◌, ℕ, List, Option, Some, Err};
+ghost use Rattle.std.specs.Prelude.{◌≡◌, ◌⊎◌, ◌*◌, ℕ, List, Option, Some, Err, IfErr};
+ghost use Rattle.world_script.specs.Source.{script_at};
 ghost use Rattle.std.specs.Duration.{as_nanos};
 ghost use Rattle.std.specs.Option.{option_map};
 ghost use Rattle.broker_process.specs.Playing.{RunsBroker};
@@ -8,20 +9,25 @@ ghost use Rattle.world_script.specs.Process.{RunsIn};
 ghost use Rattle.world_script.specs.ProgramEnd.{name_of};
 ghost use Rattle.script_lines.specs.declared.broker_line.BrokerLine.{BrokerLine};
 ghost use Rattle.world_script.specs.declared.program_fault.ProgramFault.TheVariants.{CannotWrite};
-ghost use Rattle.edend.specs.Commands.{Names, PrintsFirst, RunsOver, RunsTo, fault_of_broker, fault_of_daemon, fault_of_mount, fault_of_script, over_sockets, owner_of, start_of};
+ghost use Rattle.edend.specs.Commands.{IsManifestRefusal, IsTreeRefusal, Names, PrintsFirst, RunsOver, RunsTo, fault_of_broker, fault_of_daemon, fault_of_mount, fault_of_script, fault_of_tree, over_sockets, owner_of, start_of};
 ghost use Rattle.edend.specs.Note.{IsNoted};
 
 use crate::note::{Note, Noted};
 use broker_process::{BrokerFault, DEVICE, MountOptions, MountRunFault, run_broker, run_mount};
 use broker_script::{BrokerScriptFault, read_broker_script};
-use daemon_process::{DaemonFault, DaemonOptions, DaemonStart, DaemonStreams, run_daemon};
+use daemon_process::{
+    ContentsSource, DaemonFault, DaemonOptions, DaemonStart, DaemonStreams, DaemonTree,
+    RepositorySource, check_directory, run_daemon,
+};
+use git_blobs::{TreeFault, TreeReader};
+use git_tree::GitTree;
 use mount_wire::FileOwner;
-use non_blocking::{Unblock, write_behind};
+use non_blocking::{Notes, Unblock, write_behind};
 use std::alloc::Global;
 use std::fs::File;
-use std::io::{self, Read, Write};
-use std::net::Net;
-use std::process::Processes;
+use std::io::{self, ErrorKind, Read, Write};
+use std::net::{Net, TcpListener, TcpStream};
+use std::process::{Processes, SystemProcess};
 use std::rt::{Clock, Files};
 use std::sync::Wait;
 use std::thread::Threads;
@@ -35,7 +41,16 @@ use world_script::{
 /// Runs the program in a process: plays a script of a whole mount, or runs a command over sockets. A daemon that is to run
 /// until standard input ends reads that by `input`.
 pub fn run_edend<
-    R: Threads + Wait + Clock + Files<File = File> + Net + Processes + Copy + Send + Sync + 'static,
+    R: Threads
+        + Wait
+        + Clock
+        + Files<File = File>
+        + Net<Listener = TcpListener, Stream = TcpStream>
+        + Processes<Started = SystemProcess>
+        + Copy
+        + Send
+        + Sync
+        + 'static,
     P: Process,
     I: Read + Drop + Send + 'static,
 >(host: &R, alloc: Global, process: &P, input: I) -> RunIn<P::Output, P::Errors>
@@ -60,7 +75,16 @@ where
 
 /// Runs the command that was noted, and ends the process with it.
 fn run_noted<
-    R: Threads + Wait + Clock + Files<File = File> + Net + Processes + Copy + Send + Sync + 'static,
+    R: Threads
+        + Wait
+        + Clock
+        + Files<File = File>
+        + Net<Listener = TcpListener, Stream = TcpStream>
+        + Processes<Started = SystemProcess>
+        + Copy
+        + Send
+        + Sync
+        + 'static,
     P: Process,
     I: Read + Drop + Send + 'static,
 >(host: &R, alloc: Global, process: &P, noted: &Noted, input: I) -> RunIn<P::Output, P::Errors>
@@ -103,7 +127,16 @@ fn play<R: Threads + Wait + Clock + Files + Net + Sync, P: Process>(
 
 /// Runs a daemon, and ends the process with it. Nobody waits for what is written to standard error.
 fn serve<
-    R: Threads + Wait + Clock + Files<File = File> + Net + Processes + Copy + Send + Sync + 'static,
+    R: Threads
+        + Wait
+        + Clock
+        + Files<File = File>
+        + Net<Listener = TcpListener, Stream = TcpStream>
+        + Processes<Started = SystemProcess>
+        + Copy
+        + Send
+        + Sync
+        + 'static,
     P: Process,
     I: Read + Drop + Send + 'static,
 >(
@@ -133,7 +166,16 @@ where
 
 /// Keeps a mount, and ends the process with it. Nobody waits for what is written to standard error.
 fn keep<
-    R: Threads + Wait + Clock + Files<File = File> + Net + Processes + Copy + Send + Sync + 'static,
+    R: Threads
+        + Wait
+        + Clock
+        + Files<File = File>
+        + Net<Listener = TcpListener, Stream = TcpStream>
+        + Processes<Started = SystemProcess>
+        + Copy
+        + Send
+        + Sync
+        + 'static,
     P: Process,
 >(host: &R, alloc: Global, process: &P, words: &MountWords<'_>) -> RunIn<P::Output, P::Errors>
 where
@@ -242,10 +284,19 @@ fn failure_of_broker<'a>(fault: BrokerFault, words: &BrokerWords<'a>) -> Failure
     }
 }
 
-/// Reads a manifest, runs a daemon over its checkout, and returns how the command ended.
+/// Runs a daemon over the checkout that its words name, and returns how the command ended.
 fn daemon<
     'a,
-    R: Threads + Wait + Clock + Files<File = File> + Net + Processes + Copy + Send + Sync + 'static,
+    R: Threads
+        + Wait
+        + Clock
+        + Files<File = File>
+        + Net<Listener = TcpListener, Stream = TcpStream>
+        + Processes<Started = SystemProcess>
+        + Copy
+        + Send
+        + Sync
+        + 'static,
     S: Sources,
     I: Read + Drop + Send + 'static,
     W: Unblock + Drop,
@@ -261,16 +312,11 @@ where
     ensures { RunsTo (S.input_bytes sources.now) (S.file_bytes sources.now)
         (DaemonCommand words.now) result.ended (W.contents streams.out) (W.contents result.out) }
 {
-    let text = match read_path(alloc, sources, words.manifest) {
-        Ok(text) => text,
-        Err(error) => return fails(streams.out, Failure::of_run(&error, words.manifest)),
+    let tree = match tree_of(host, alloc, sources, words, &streams.notes) {
+        Ok(tree) => tree,
+        Err(failure) => return fails(streams.out, failure),
     };
-    let manifest = match read_manifest(alloc, text.as_slice()) {
-        Ok(manifest) => manifest,
-        Err(fault) => return fails(streams.out, Failure::plain(fault)),
-    };
-    drop(text);
-    let run = run_daemon(host, alloc, &daemon_options_of(words), manifest, streams);
+    let run = run_daemon(host, alloc, &daemon_options_of(words), tree, streams);
     match run.ended {
         Ok(()) => CommandRun {
             out: run.out,
@@ -283,6 +329,118 @@ where
     }
 }
 
+/// Returns the files that a daemon serves: those of a commit where its words name a repository, and else those of a
+/// manifest.
+fn tree_of<'a, R: Wait + Files<File = File> + Processes, S: Sources>(
+    host: &R,
+    alloc: Global,
+    sources: &S,
+    words: &DaemonWords<'a>,
+    notes: &Notes,
+) -> Result<DaemonTree<'a>, Failure<'a>>
+    ensures refused { IfErr result (λ failure. IsTreeRefusal (S.input_bytes sources.now) (S.file_bytes sources.now) words.now failure) }
+{
+    if words.git.is_empty() {
+        let tree = match manifest_tree(alloc, sources, words) {
+            Ok(tree) => tree,
+            Err(failure) => return Err(failure),
+        };
+        return Ok(tree);
+    }
+    let tree = match commit_tree(host, alloc, words, notes) {
+        Ok(tree) => tree,
+        Err(fault) => return Err(failure_of_tree(fault, words)),
+    };
+    Ok(tree)
+}
+
+/// Reads the manifest that a daemon serves.
+fn manifest_tree<'a, S: Sources>(
+    alloc: Global,
+    sources: &S,
+    words: &DaemonWords<'a>,
+) -> Result<DaemonTree<'a>, Failure<'a>>
+    ensures refused { IfErr result (λ failure. IsManifestRefusal (script_at (S.input_bytes sources.now) (S.file_bytes sources.now) words.now.manifest.now) words.now failure) }
+{
+    let text = match read_path(alloc, sources, words.manifest) {
+        Ok(text) => text,
+        Err(error) => return Err(Failure::of_run(&error, words.manifest)),
+    };
+    let manifest = match read_manifest(alloc, text.as_slice()) {
+        Ok(manifest) => manifest,
+        Err(fault) => return Err(Failure::plain(fault)),
+    };
+    Ok(DaemonTree {
+        manifest,
+        contents: directory_at(words.files),
+    })
+}
+
+/// Returns where contents come from by the path of their directory, which is empty if they aren't served.
+fn directory_at(path: &str) -> ContentsSource<'_> {
+    if path.is_empty() {
+        ContentsSource::None
+    } else {
+        ContentsSource::Directory(path)
+    }
+}
+
+/// Reads the files of the commit that a daemon serves. Git is not run in a mount of this program, where it would wait for
+/// the daemon.
+fn commit_tree<'a, R: Wait + Files<File = File> + Processes>(
+    host: &R,
+    alloc: Global,
+    words: &DaemonWords<'a>,
+    notes: &Notes,
+) -> Result<DaemonTree<'a>, TreeFault> {
+    check_directory(host, alloc, words.git).map_err(unserved)?;
+    let reader = TreeReader {
+        rt: host,
+        alloc,
+        repository: words.git,
+        notes,
+    };
+    let GitTree { manifest, objects } = reader.read(words.commit)?;
+    let repository = RepositorySource {
+        path: words.git,
+        names: objects,
+        bound: words.cache.saturating_mul(MEGABYTE),
+    };
+    Ok(DaemonTree {
+        manifest,
+        contents: ContentsSource::Repository(repository),
+    })
+}
+
+/// How many bytes a megabyte of contents has.
+const MEGABYTE: u64 = 1 << 20;
+
+/// Returns the fault of a repository at whose path no directory can be served, for `error`.
+fn unserved(error: io::Error) -> TreeFault {
+    match error.kind() {
+        ErrorKind::OutOfMemory => TreeFault::NoMemory,
+        _ => TreeFault::NoRepository(error),
+    }
+}
+
+/// The name that the program git has on standard error.
+const GIT: &str = "git";
+
+/// Returns the failure of a daemon whose commit was not read for `fault`.
+fn failure_of_tree<'a>(fault: TreeFault, words: &DaemonWords<'a>) -> Failure<'a>
+    ensures names { Names (DaemonCommand words.now) result }
+    ensures told { result.fault ≡ fault_of_tree fault }
+{
+    match fault {
+        TreeFault::NoGit(error) => caused(ProgramFault::NoGit, GIT, error),
+        TreeFault::NoRepository(error) => caused(ProgramFault::NoRepository, words.git, error),
+        TreeFault::NoCommit(error) => caused(ProgramFault::NoCommit, words.commit, error),
+        TreeFault::Sha256(error) => caused(ProgramFault::Sha256, words.git, error),
+        TreeFault::BadTree(_fault) => Failure::plain(ProgramFault::BadTree),
+        TreeFault::NoMemory => Failure::plain(ProgramFault::NoMemory),
+    }
+}
+
 /// Returns a daemon's options, as `words` give them.
 fn daemon_options_of<'a>(words: &DaemonWords<'a>) -> DaemonOptions<'a>
     ensures start { result.start ≡ start_of words.now.start }
@@ -292,7 +450,6 @@ fn daemon_options_of<'a>(words: &DaemonWords<'a>) -> DaemonOptions<'a>
     ensures limit { result.limit ≡ words.now.limit }
     ensures patience { as_nanos result.patience ≡ words.now.patience * 1000000 }
     ensures until_closed { result.until_closed ≡ words.now.until_closed }
-    ensures files { result.files.now ≡ words.now.files.now }
 {
     DaemonOptions {
         start: start_of(words.start),
@@ -302,7 +459,6 @@ fn daemon_options_of<'a>(words: &DaemonWords<'a>) -> DaemonOptions<'a>
         limit: words.limit,
         patience: Duration::from_millis(words.patience),
         until_closed: words.until_closed,
-        files: words.files,
     }
 }
 
@@ -343,7 +499,16 @@ fn failure_of_daemon<'a>(fault: DaemonFault, words: &DaemonWords<'a>) -> Failure
 /// Mounts a checkout, and returns how the command ended.
 fn mount<
     'a,
-    R: Threads + Wait + Clock + Files<File = File> + Net + Processes + Copy + Send + Sync + 'static,
+    R: Threads
+        + Wait
+        + Clock
+        + Files<File = File>
+        + Net<Listener = TcpListener, Stream = TcpStream>
+        + Processes<Started = SystemProcess>
+        + Copy
+        + Send
+        + Sync
+        + 'static,
     W: Unblock + Drop,
 >(host: &R, alloc: Global, words: &MountWords<'a>, out: W) -> CommandRun<'a, W>
     ensures { (input : Option (List ℕ)) (file : List ℕ → Option (List ℕ)) → RunsTo input file

@@ -28,6 +28,9 @@ pub struct NotedDaemon {
     pub patience: u64,
     pub until_closed: bool,
     pub files: String,
+    pub git: String,
+    pub commit: String,
+    pub cache: u64,
 }
 
 /// The words of a mount, with owned strings in place of borrowed ones.
@@ -92,6 +95,8 @@ impl NotedDaemon {
         let takeover = copied(alloc, words.takeover)?;
         let manifest = copied(alloc, words.manifest)?;
         let files = copied(alloc, words.files)?;
+        let git = copied(alloc, words.git)?;
+        let commit = copied(alloc, words.commit)?;
         Some(NotedDaemon {
             start: words.start,
             broker,
@@ -102,6 +107,9 @@ impl NotedDaemon {
             patience: words.patience,
             until_closed: words.until_closed,
             files,
+            git,
+            commit,
+            cache: words.cache,
         })
     }
 
@@ -119,6 +127,9 @@ impl NotedDaemon {
             patience: self.patience,
             until_closed: self.until_closed,
             files: self.files.as_str(),
+            git: self.git.as_str(),
+            commit: self.commit.as_str(),
+            cache: self.cache,
         }
     }
 }

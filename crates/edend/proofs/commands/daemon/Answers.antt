@@ -1,22 +1,17 @@
 -- What the daemon printed before it failed, and which fault is told.
-use Rattle.std.proofs.Common.{◌≡◌, ℕ, Bool, List, Result, Err, inr, subst}
+use Rattle.std.proofs.Common.{◌≡◌, ℕ, Bool, List, Result, Err, inl, inr, subst}
+use Rattle.command_line.specs.declared.server_command.ServerCommand.TheVariants as command
 use Rattle.daemon_process.specs.Ending.{RunsDaemon}
 use Rattle.daemon_process.specs.declared.fault.DaemonFault.{DaemonFault}
-use Rattle.world_script.specs.Refusal.{IsManifestFault}
-use Rattle.world_script.specs.declared.failure.Failure.{Failure}
-use Rattle.edend.proofs.FailedCommands.{daemon-refused, daemon-unread}
+use Rattle.edend.proofs.FailedCommands.{fails-to}
 use Rattle.edend.proofs.commands.daemon.Goals as goal
 
 pub returns-in-Err : goal.returns-in-Err
 returns-in-Err g c =
-    daemon-unread _ _ c.args.words.now c.of_run.result c.in-Err.error.fault _ _ _ c.fails.ensures.ended c.fails.ensures.same c.of_run.ensures.fault c.in-Err.ensures.refused c.in-Err.ensures.too_long (c.of_run.ensures.name c.in-Err.ensures.caused)
-
-pub returns-in-Err-read_manifest : goal.returns-in-Err-read_manifest
-returns-in-Err-read_manifest g c =
-    let why = subst (λ (text : List ℕ). IsManifestFault text c.in-Err-read_manifest.fault) c.as_slice.ensures.value c.in-Err-read_manifest.ensures.refused in
-    let is = subst (λ (failure : Failure). c.fails-in-Err-read_manifest.result.ended ≡ Err failure) c.plain.ensures c.fails-in-Err-read_manifest.ensures.ended in
-    daemon-refused (g.S.Sources.input_bytes c.args.sources.now) (g.S.Sources.file_bytes c.args.sources.now) c.args.words.now c.in-Ok.text.items c.in-Err-read_manifest.fault c.fails-in-Err-read_manifest.result.ended (g.W.Write.contents c.args.streams.out) (g.W.Write.contents c.fails-in-Err-read_manifest.result.out)
-    is c.fails-in-Err-read_manifest.ensures.same c.in-Ok.ensures.whole why
+    let refused = c.in-Err.ensures.refused in
+    fails-to (g.S.Sources.input_bytes c.args.sources.now) (g.S.Sources.file_bytes c.args.sources.now) (command.Daemon c.args.words.now)
+    c.in-Err.failure c.fails.result.ended (g.W.Write.contents c.args.streams.out) (g.W.Write.contents c.fails.result.out)
+    c.fails.ensures.ended c.fails.ensures.same refused.0 (inl refused.1)
 
 pub returns-in-Err-ended : goal.returns-in-Err-ended
 returns-in-Err-ended g c =
@@ -26,6 +21,6 @@ returns-in-Err-ended g c =
     let ran = subst (λ (ended : Result (Unit {0}) DaemonFault). RunsDaemon c.args.words.now.until_closed ended old new) c.in-Err-ended.is ordered in
     record {
       names = c.failure_of_daemon.ensures.names;
-      told = inr (inr (record { fault = c.in-Err-ended.fault; ran = ran; is_told = c.failure_of_daemon.ensures.told }));
+      told = inr (record { fault = c.in-Err-ended.fault; ran = ran; is_told = c.failure_of_daemon.ensures.told });
       first = inr ran;
     }
