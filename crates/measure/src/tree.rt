@@ -12,7 +12,7 @@ use crate::lines::{manifest_from, manifest_text};
 use crate::names::{EACH, file_name, fresh_name};
 use crate::words::number_at;
 use checkout::{CreateFault, Tree};
-use eden_base::{Attr, FileId, Kind, Name, NoMemory, Perm};
+use eden_base::{Attr, FileId, Kind, MadeKind, Name, NoMemory, Perm};
 use manifest::Manifest;
 use std::alloc::{AllocError, Global};
 
@@ -145,7 +145,7 @@ fn create(tree: &mut Tree, dir: FileId, name: &Name) -> Result<FileId, CreateFau
     requires reached { is_unlinked tree.old dir ≡ false }
     requires free { child_of tree.old dir name.now ≡ None }
 {
-    tree.create(dir, name, Kind::File, Perm::DIRECTORY)
+    tree.create(dir, name, MadeKind::File, Perm::DIRECTORY)
 }
 
 #[inline(never)]
@@ -185,7 +185,7 @@ fn read_members(tree: &Tree, list: &[Member]) -> u32 {
 fn create_free(tree: &mut Tree, dir: FileId, name: &Name) -> bool {
     match tree.kind(dir) {
         Some(Kind::Dir) => {}
-        Some(Kind::File) => return false,
+        Some(Kind::File | Kind::Link) => return false,
         None => return false,
     }
     if dir.0 != 1 && !tree.is_linked(dir) {
@@ -202,7 +202,7 @@ fn create_free(tree: &mut Tree, dir: FileId, name: &Name) -> bool {
 fn remove_file(tree: &mut Tree, dir: FileId, name: &Name) -> Option<FileId> {
     let file = tree.child(dir, name)?;
     match tree.kind(file) {
-        Some(Kind::File) => Some(remove(tree, dir, name)),
+        Some(Kind::File | Kind::Link) => Some(remove(tree, dir, name)),
         Some(Kind::Dir) => None,
         None => None,
     }
@@ -215,7 +215,7 @@ fn remove_made_file(tree: &mut Tree, dir: FileId, name: &Name) -> bool {
         return false;
     };
     match tree.kind(file) {
-        Some(Kind::File) => remove_made(tree, dir, name, file),
+        Some(Kind::File | Kind::Link) => remove_made(tree, dir, name, file),
         Some(Kind::Dir) => false,
         None => false,
     }

@@ -59,7 +59,7 @@ impl Subjects {
             b"broker" | b"desk" | b"frames" | b"mount" | b"node" => {
                 self.messages.call(alloc, subject, words, output)
             }
-            b"keys" | b"index" | b"manifest" | b"tree" | b"map" => {
+            b"keys" | b"index" | b"manifest" | b"git" | b"tree" | b"map" => {
                 self.trees.call(subject, words, output)
             }
             b"served" | b"backing" | b"image" => self.served.call(subject, words, output),

@@ -1,8 +1,8 @@
 //! Requests, answers and their parts, spelled as scripts write and print them (docs/SCRIPTS.md):
 //!
 //! `lookup N NAME`, `create N MODE NAME`, `mkdir N MODE NAME`, `unlink N NAME`, `rmdir N NAME`, `rename N NEWDIR OLD/NEW`,
-//! `getattr N`, `read N OFFSET SIZE`, `readdir N OFFSET SIZE`, `other OPCODE N`, `forget N K`, and `forgets N K ..` for a
-//! batch of forgets;
+//! `getattr N`, `readlink N`, `read N OFFSET SIZE`, `readdir N OFFSET SIZE`, `other OPCODE N`, `forget N K`, and
+//! `forgets N K ..` for a batch of forgets;
 //! `entry M KIND PERM SIZE NLINK`, `opened ..`, `attr ..`, `done`, `buffer BYTES`, `extent FILE OFFSET LENGTH` and
 //! `error ERRNO`.
 //!
@@ -73,6 +73,7 @@ enum RequestKind {
     Mkdir,
     Rename,
     Getattr,
+    Readlink,
     Read,
     Readdir,
     Other,
@@ -80,7 +81,7 @@ enum RequestKind {
     Forgets,
 }
 
-static REQUEST_KINDS: [(&str, RequestKind); 12] = [
+static REQUEST_KINDS: [(&str, RequestKind); 13] = [
     ("lookup", RequestKind::Named(NamedKind::Lookup)),
     ("unlink", RequestKind::Named(NamedKind::Unlink)),
     ("rmdir", RequestKind::Named(NamedKind::Rmdir)),
@@ -88,6 +89,7 @@ static REQUEST_KINDS: [(&str, RequestKind); 12] = [
     ("mkdir", RequestKind::Mkdir),
     ("rename", RequestKind::Rename),
     ("getattr", RequestKind::Getattr),
+    ("readlink", RequestKind::Readlink),
     ("read", RequestKind::Read),
     ("readdir", RequestKind::Readdir),
     ("other", RequestKind::Other),
@@ -154,11 +156,12 @@ pub fn read_perm(words: &mut Words<'_>) -> Perm {
     }
 }
 
-/// Reads the next word as `file` or `dir`.
+/// Reads the next word as `file`, `dir` or `link`.
 pub fn read_kind(words: &mut Words<'_>) -> Kind {
     match words.word() {
         b"file" => Kind::File,
         b"dir" => Kind::Dir,
+        b"link" => Kind::Link,
         _ => {
             words.refuse();
             Kind::File
@@ -252,6 +255,15 @@ fn read_getattr(words: &mut Words<'_>) -> Result<Request, RowFault>
     let node = Number(words.number());
     words.end()?;
     Ok(Request::Getattr { node })
+}
+
+/// Reads the words behind `readlink`.
+fn read_readlink(words: &mut Words<'_>) -> Result<Request, RowFault>
+    ensures sendable { IfOk result IsSendable }
+{
+    let node = Number(words.number());
+    words.end()?;
+    Ok(Request::Readlink { node })
 }
 
 /// Reads the words behind `read`.
@@ -390,6 +402,7 @@ pub fn read_request(alloc: Global, words: &mut Words<'_>) -> Result<Request, Row
         RequestKind::Mkdir => read_made(alloc, false, words),
         RequestKind::Rename => read_move(alloc, words),
         RequestKind::Getattr => read_getattr(words),
+        RequestKind::Readlink => read_readlink(words),
         RequestKind::Read => read_read(words),
         RequestKind::Readdir => read_readdir(words),
         RequestKind::Other => read_other(words),
@@ -497,6 +510,10 @@ fn tell_of_number(output: &mut Output, request: &Request) {
     match request {
         Request::Getattr { node } => {
             output.word("getattr");
+            output.number(node.0);
+        }
+        Request::Readlink { node } => {
+            output.word("readlink");
             output.number(node.0);
         }
         Request::Read { node, offset, size } => tell_range(output, "read", *node, *offset, *size),

@@ -82,7 +82,7 @@ fn put_made(made: &[Made], output: &mut Output) {
     for made in made {
         output.word("made");
         output.number(made.file.0);
-        output.word(made.kind.name());
+        output.word(made.kind.kind().name());
         output.octal(made.perm.bits());
     }
 }

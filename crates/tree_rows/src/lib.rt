@@ -1,7 +1,8 @@
-//! Calls of `keys`, `index`, `manifest`, `tree` and `map`: the values that a case keeps of them, and the words that they share.
+//! Calls of `keys`, `index`, `manifest`, `git`, `tree` and `map`: the values that a case keeps of them, and the words that they share.
 #![tactic(auto)]
 
 mod changes;
+mod git;
 mod index;
 mod keys;
 mod known;
@@ -13,7 +14,8 @@ mod tree;
 
 use crate::known::KnownIndex;
 use checkout::Tree;
-use eden_base::{Attr, FileId, Kind, Name, Perm};
+use eden_base::{Attr, FileId, MadeKind, Name, Perm};
+use git_tree::Objects;
 use inode_map::InodeMap;
 use key_map::KeyMap;
 use manifest::{Manifest, mode_of};
@@ -26,14 +28,16 @@ enum TreeSubject {
     Keys,
     Index,
     Manifest,
+    Git,
     Tree,
     Map,
 }
 
-static SUBJECTS: [(&str, TreeSubject); 5] = [
+static SUBJECTS: [(&str, TreeSubject); 6] = [
     ("keys", TreeSubject::Keys),
     ("index", TreeSubject::Index),
     ("manifest", TreeSubject::Manifest),
+    ("git", TreeSubject::Git),
     ("tree", TreeSubject::Tree),
     ("map", TreeSubject::Map),
 ];
@@ -47,6 +51,7 @@ pub struct Trees {
     keys: Option<KeyMap>,
     index: Option<KnownIndex>,
     manifest: Option<Manifest>,
+    objects: Option<Objects>,
     tree: Option<Tree>,
     map: Option<InodeMap>,
 }
@@ -58,6 +63,7 @@ impl Drop for Trees {
             keys: _,
             index: _,
             manifest: _,
+            objects: _,
             tree: _,
             map: _,
         } = self;
@@ -72,6 +78,7 @@ impl Trees {
             keys: None,
             index: None,
             manifest: None,
+            objects: None,
             tree: None,
             map: None,
         }
@@ -83,6 +90,7 @@ impl Trees {
             TreeSubject::Keys => keys::call(self, words, output),
             TreeSubject::Index => index::call(self, words, output),
             TreeSubject::Manifest => manifests::call(self, words, output),
+            TreeSubject::Git => git::call(self, words, output),
             TreeSubject::Tree => tree::call(self, words, output),
             TreeSubject::Map => map::call(self, words, output),
         }
@@ -114,13 +122,13 @@ fn file_or_none(words: &mut Words<'_>) -> Option<FileId> {
 }
 
 /// Reads `file` or `dir`.
-fn kind_of(words: &mut Words<'_>) -> Kind {
+fn kind_of(words: &mut Words<'_>) -> MadeKind {
     match words.word() {
-        b"dir" => return Kind::Dir,
+        b"dir" => return MadeKind::Dir,
         b"file" => {}
         _ => words.refuse(),
     }
-    Kind::File
+    MadeKind::File
 }
 
 /// Reads permissions, in four octal digits.

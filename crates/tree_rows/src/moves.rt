@@ -4,7 +4,7 @@ ghost use Rattle.checkout.specs.RenamedTree.{can_replace};
 
 use crate::{Done, ended, file_of, kind_of, perm_of, put_file};
 use checkout::{CreateFault, Tree};
-use eden_base::{FileId, Kind, Name, NoMemory, Perm};
+use eden_base::{FileId, Kind, MadeKind, Name, NoMemory, Perm};
 use row_words::{Output, RowFault, Words};
 
 /// Makes a file, or returns none if a condition of `Tree::create` doesn't hold.
@@ -12,12 +12,12 @@ fn created(
     tree: &mut Tree,
     dir: FileId,
     name: &Name,
-    kind: Kind,
+    kind: MadeKind,
     perm: Perm,
 ) -> Option<Result<FileId, CreateFault>> {
     match tree.kind(dir) {
         Some(Kind::Dir) => {}
-        Some(Kind::File) => return None,
+        Some(Kind::File | Kind::Link) => return None,
         None => return None,
     }
     if dir.0 != 1 && !tree.is_linked(dir) {
@@ -53,7 +53,7 @@ fn removed(tree: &mut Tree, dir: FileId, name: &Name) -> Option<FileId> {
         return Some(tree.remove(dir, name));
     }
     match tree.kind(file) {
-        Some(Kind::File) => Some(tree.remove(dir, name)),
+        Some(Kind::File | Kind::Link) => Some(tree.remove(dir, name)),
         Some(Kind::Dir) => None,
         None => None,
     }
@@ -77,7 +77,7 @@ fn can_replace(tree: &Tree, file: FileId, other: FileId) -> bool
 {
     match tree.kind(file) {
         Some(Kind::Dir) => tree.is_empty_dir(other),
-        Some(Kind::File) => tree.kind(other) != Some(Kind::Dir),
+        Some(Kind::File | Kind::Link) => tree.kind(other) != Some(Kind::Dir),
         None => tree.kind(other) != Some(Kind::Dir),
     }
 }
@@ -92,7 +92,7 @@ fn renamed(
 ) -> Option<Result<Option<FileId>, NoMemory>> {
     match tree.kind(to_dir) {
         Some(Kind::Dir) => {}
-        Some(Kind::File) => return None,
+        Some(Kind::File | Kind::Link) => return None,
         None => return None,
     }
     if to_dir.0 != 1 && !tree.is_linked(to_dir) {
