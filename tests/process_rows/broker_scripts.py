@@ -235,15 +235,16 @@ def each_line_says_what_it_says(room):
 def a_listing_is_told_by_its_entries(room):
     """A script is told each entry of a listing. Of bytes that are none, also behind an entry, it is told how many."""
     entry, other = entry_of(2, 3, 4, b"src"), entry_of(4294967295, 8, 8, b" a\xff ")
-    link = entry_of(2, 3, 10, b"src")
+    link, socket = entry_of(2, 3, 10, b"src"), entry_of(2, 3, 12, b"src")
     answers = (
         (b"", "listing 0"),
         (entry, "listing 1", "listed 2 3 dir src"),
         (entry + other, "listing 2", "listed 2 3 dir src", "listed 4294967295 8 file  a\xff "),
         (b"abc", "buffer 3"),
         (entry + other[:-1], "buffer 63"),
-        (entry + link, "buffer 64"),
-        (link + entry, "buffer 64"),
+        (entry + link, "listing 2", "listed 2 3 dir src", "listed 2 3 link src"),
+        (entry + socket, "buffer 64"),
+        (socket + entry, "buffer 64"),
         (entry + other + bytes(8), "buffer 72"),
     )
     it = Course(room, "seat 1", *["ask readdir 1 2 4096"] * len(answers), "seat 2")

@@ -25,7 +25,7 @@ TAR = f'tar cf - {TAR_WORDS} | cmp - "$1" >&2'
 GREP = 'grep -rlaFx needle . | LC_ALL=C sort | cmp - "$1" >&2'
 # Writes a manifest of the folder that it runs in.
 BY_FIND = """{ printf 'commit %040d\\n' 0
-find . -mindepth 1 -type d -printf 'dir %P\\n' -o -type f -printf 'file %04m %s %P\\n'; } >../m"""
+find . -mindepth 1 -type d -printf 'dir %P\\n' -o -type f -printf 'file %04m %s %P\\n' -o -type l -printf 'link %s %P\\n'; } >../m"""
 # A daemon has this many open files at most, however many it read.
 OPEN_FILES = 64
 # The sizes of a large file, and of one for a program without a proof.

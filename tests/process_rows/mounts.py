@@ -301,10 +301,11 @@ class Tap(Proxy):
 
 
 class Mount:
-    """A checkout that is mounted, and the daemon that serves it."""
+    """A checkout that is mounted, and the daemon that serves it. `tree` has the words by which a daemon finds its tree."""
 
-    def __init__(self, room, *options, owner=None, valid=ASKS_AGAIN, **streams):
+    def __init__(self, room, *options, owner=None, valid=ASKS_AGAIN, tree=("m",), **streams):
         self.room = room
+        self.tree = tree
         self.options = options if "--patience" in options else ("--patience", PATIENCE, *options)
         self.path = room.mountpoint
         is_left = os.path.exists(room.broker_at)
@@ -313,7 +314,7 @@ class Mount:
         room.await_socket(room.broker_at, is_left)
         self.number = 0
         self.generation = 1
-        self.daemon = room.run("daemon", "--mount", "broker.sock", "t0", "m", *self.options)
+        self.daemon = room.run("daemon", "--mount", "broker.sock", "t0", *tree, *self.options)
         self.daemon.printed("serving 1")
         self.broker.printed("mounted 1")
         self.tap = None
@@ -327,7 +328,7 @@ class Mount:
         self.number += 1
         path = f"{self.room.path}/t{self.number}"
         self.tap = Tap(self.room, path, f"{self.room.path}/t{self.number - 1}", **taps)
-        return self.room.run("daemon", "--takeover", "broker.sock", f"t{self.number}", "m", *self.options)
+        return self.room.run("daemon", "--takeover", "broker.sock", f"t{self.number}", *self.tree, *self.options)
 
     def take_over_at_rest(self):
         """Lets a new daemon take over once nothing is under way, and shows that the image counts what the kernel holds."""

@@ -3,8 +3,8 @@
 It knows nothing of refused memory, of a backing that fails, and of limits. Models make their rows with it.
 """
 PART = 4096
-# What stands for the number of a file that has none, and the most bytes that an answer may have.
-UNKNOWN, MOST = 4294967295, 65512
+# What stands for the number of a file that has none, and the most bytes that an answer and a target may have.
+UNKNOWN, MOST, LONGEST_TARGET = 4294967295, 65512, 4095
 
 
 class Refused(Exception):
@@ -19,14 +19,21 @@ class Served:
         self.files, self.links, self.made = {1: ("dir", "0755", 0)}, {}, []
         paths = {"": 1}
         for file, line in enumerate(manifest[1:], 2):
-            fields = line.split(" ", 3)
-            path = line.removeprefix("dir ") if fields[0] == "dir" else fields[3]
+            self.files[file], path = self.read_line(line)
             above, _, name = path.rpartition("/")
-            self.files[file] = ("dir", "0755", 0) if fields[0] == "dir" else ("file", fields[1], int(fields[2]))
             self.links[paths[above], name] = paths[path] = file
         self.first_links, self.places = dict(self.links), {file: place for place, file in self.links.items()}
         self.next_file, self.next_number = len(manifest) + 1, 2
         self.numbers, self.counts, self.number_of = {1: 1}, {}, {1: 1}
+
+    @staticmethod
+    def read_line(line):
+        """Returns what a line of a manifest says of a file, and the file's path."""
+        word, rest = line.split(" ", 1)
+        if word == "dir":
+            return ("dir", "0755", 0), rest
+        mode, size, path = rest.split(" ", 2) if word == "file" else ("0777", *rest.split(" ", 1))
+        return (word, mode, int(size)), path
 
     def copy(self):
         other = Served.__new__(Served)
@@ -177,7 +184,7 @@ def rename(served, number, to_number, names):
     if there == file:
         return "done"
     if there is not None:
-        if served.kind(file) != served.kind(there):
+        if (served.kind(file) == "dir") != (served.kind(there) == "dir"):
             raise Error("EISDIR" if served.kind(there) == "dir" else "ENOTDIR")
         if not served.is_empty(there):
             raise Error("ENOTEMPTY")
@@ -192,9 +199,19 @@ def read_file(served, number, offset, size):
     kind, _, length = served.files[file]
     if kind == "dir":
         raise Error("EISDIR")
-    if size > MOST:
+    if kind == "link" or size > MOST:
         raise Error("EINVAL")
     return f"extent {file} {offset} {min(size, max(length - offset, 0))}"
+
+
+def read_link(served, number):
+    file = served.numbers[number]
+    kind, _, length = served.files[file]
+    if kind != "link":
+        raise Error("EINVAL")
+    if length > LONGEST_TARGET:
+        raise Error("ENAMETOOLONG")
+    return f"extent {file} 0 {length}"
 
 
 def entries_of(served, directory):
@@ -259,6 +276,7 @@ def answered(served, words):
         "rmdir": lambda: remove(served, numbers[0], words[2]),
         "rename": lambda: rename(served, *numbers, words[3]),
         "getattr": lambda: f"attr {numbers[0]} {served.attributes(served.numbers[numbers[0]])}",
+        "readlink": lambda: read_link(served, numbers[0]),
         "read": lambda: read_file(served, *map(int, words[1:])),
         "readdir": lambda: list_directory(served, *map(int, words[1:])),
         "other": lambda: "error ENOSYS",
