@@ -1,6 +1,6 @@
 #!/bin/sh
-# A real mount in one script, as four shells would do it: a broker mounts, a daemon serves, a person looks, and a new
-# daemon takes over below that person's feet. It needs root and /dev/fuse.
+# A real mount of a repository in one script, as four shells would do it: a broker mounts, a daemon serves, a person looks,
+# and a new daemon takes over below that person's feet. It needs root, /dev/fuse and git.
 #
 #   examples/mount.sh [PROGRAM]     PROGRAM is crates/edend/out/edend where none is named
 #
@@ -23,14 +23,12 @@ clear_away() {
 trap clear_away EXIT
 trap 'exit 1' HUP INT TERM
 cd "$room" || exit 1
-mkdir -p checkout contents/src
-printf 'hello, world\n' >contents/src/a
-
-cat >checkout.manifest <<'END'
-commit 0123456789abcdef0123456789abcdef01234567
-dir src
-file 0644 13 src/a
-END
+mkdir -p checkout repository/src
+printf 'hello, world\n' >repository/src/a
+ln -s src/a repository/link
+git -C repository init -q
+git -C repository add .
+git -C repository -c user.name=somebody -c user.email=somebody@example.org commit -q -m 'one file and a link'
 
 # Waits until a file has a line, at most ten seconds.
 wait_for() {
@@ -52,7 +50,7 @@ until [ -S kernel.sock ] || [ $tries -gt 1000 ]; do
 done
 
 # The second shell: the daemon that runs today.
-"$edend" daemon --mount kernel.sock upgrade.sock checkout.manifest --files contents >old.said &
+"$edend" daemon --mount kernel.sock upgrade.sock --git repository >old.said &
 wait_for mount.said 'mounted 1'
 
 # The third shell: a person who works in the checkout, and stays in `src` from now on.
@@ -61,11 +59,12 @@ wait_for mount.said 'mounted 1'
   mkdir made
   stat -c '%n: %A, %s bytes' a made
   cat a
+  readlink ../link
   stat -c 'here: number %i' .
   until [ -e "$room/taken.over" ]; do sleep 0.01; done
   echo 'the new daemon serves'
   stat -c '%n: %A, %s bytes' a made
-  cat a
+  cat ../link
   stat -c 'here: number %i' .
   rmdir made
 ) >looked.said 2>&1 &
@@ -73,7 +72,7 @@ person=$!
 wait_for looked.said 'here: .*'
 
 # The fourth shell: the daemon of the new release. Once it serves the person looks again, and then unmounts.
-"$edend" daemon --takeover kernel.sock upgrade.sock checkout.manifest --files contents >new.said &
+"$edend" daemon --takeover kernel.sock upgrade.sock --git repository >new.said &
 wait_for new.said 'serving 2'
 : >taken.over
 wait $person
