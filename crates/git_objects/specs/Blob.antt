@@ -1,16 +1,10 @@
--- What a blob has, and which parts of it are told.
-use Rattle.std.specs.Prelude.{◌≡◌, ℕ, List, length}
-use Rattle.byte_codec.specs.Bytes.{range_of}
+-- The blobs that git gave.
+use Rattle.std.specs.Prelude.{◌≡◌}
+use Rattle.git_objects.specs.Content.{IsSame}
 use Rattle.git_objects.specs.declared.blob.Blob.{Blob}
-use Rattle.git_objects.specs.declared.blob.Blob.TheVariants.{InFile, InMemory}
 
--- the two have the same bytes: the same ones in memory, or the same file
-abbrev pub IsSame : Blob → Blob → Type 0
-IsSame (InMemory one) (InMemory other) = one.value ≡ other.value
-IsSame (InFile one) (InFile other) = one.value ≡ other.value
-IsSame _ _ = ⊥
-
--- so many bytes are told; of a blob in memory those that it has from this offset on
-abbrev pub HasPart : Blob → ℕ → ℕ → List ℕ → Type 0
-HasPart (InMemory bytes) offset len part = (part ≡ range_of offset len bytes.value.items) × (length part ≡ len)
-HasPart (InFile file) offset len part = length part ≡ len
+-- the two are one blob
+pub record IsSameBlob (one other : Blob) : Type 0 where
+  pub same_object : other.object ≡ one.object
+  pub same_size : other.size ≡ one.size
+  pub same_content : IsSame one.content other.content

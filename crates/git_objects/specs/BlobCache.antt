@@ -3,7 +3,7 @@ use Rattle.std.specs.Prelude.{◌≡◌, ◌+◌, ◌-◌, ◌/◌, ℕ, Bool, t
 use Rattle.std.specs.Str.{bytes_eq}
 use Rattle.std.specs.Map.{lookup}
 use Rattle.eden_base.specs.declared.memory.NoMemory.{NoMemory}
-use Rattle.git_objects.specs.Blob.{IsSame}
+use Rattle.git_objects.specs.Blob.{IsSameBlob}
 use Rattle.git_objects.specs.declared.blob.Blob.{Blob}
 use Rattle.git_objects.specs.declared.blob_cache.Kept.{Kept}
 
@@ -45,14 +45,14 @@ with_blob bound entries true object kept = (object, kept) ∷ fitting (bound - k
 with_blob bound entries false object kept = fitting (bound - kept.cost) entries
 
 -- the blobs behind one more; one that is there is there still
-abbrev pub kept_by : ℕ → List Entry → Bool → List ℕ → Blob → ℕ → List Entry
-kept_by bound entries is_kept object blob size =
-    if is_some (lookup (same_id object) entries) then entries
-    else with_blob bound entries is_kept object (record { blob = blob; cost = cost_of size bound })
+abbrev pub kept_by : ℕ → List Entry → Bool → Blob → List Entry
+kept_by bound entries is_kept blob =
+    if is_some (lookup (same_id blob.object) entries) then entries
+    else with_blob bound entries is_kept blob.object (record { blob = blob; cost = cost_of blob.size bound })
 
 -- what is found of a blob: it, where it is kept, unless memory for one more owner is refused
 abbrev pub Finds : Option Kept → Result (Option Blob) NoMemory → Type 0
-Finds (Some kept) (Ok (Some blob)) = IsSame kept.blob blob
+Finds (Some kept) (Ok (Some blob)) = IsSameBlob kept.blob blob
 Finds (Some kept) (Ok None) = ⊥
 Finds (Some kept) (Err refused) = ⊤
 Finds None found = found ≡ Ok None

@@ -5,6 +5,9 @@ use Rattle.std.specs.List.{starts_with}
 use Rattle.std.specs.Str.{bytes_eq}
 use Rattle.std.specs.Io.KnownBytes.{Appends, Consumes}
 use Rattle.hex.specs.Hex.{encode_lower}
+use Rattle.sha1.specs.Sha1.{Holds}
+use Rattle.sha1.specs.declared.Sha1.{Sha1}
+use Rattle.git_objects.specs.Content.{IsBlobOf, blob_name}
 use Rattle.git_objects.specs.declared.fault.ObjectFault.{ObjectFault}
 use Rattle.git_objects.specs.declared.fault.ObjectFault.TheVariants.{Ambiguous, Missing, NotABlob, OtherSize, Unreadable}
 
@@ -54,16 +57,25 @@ fault_of object line =
 abbrev pub told_by : List ℕ → ℕ → List ℕ → Option ObjectFault
 told_by object size line = if bytes_eq line (head_of object size) then None else Some (fault_of object line)
 
--- so many bytes were read, and written
-pub record Copies (said left : Option (List ℕ)) (old new : Option (List ℕ)) (size : ℕ) : Type 0 where
+-- so many bytes were read, and written, and hashed behind what was hashed before
+pub record Copies (said left old new : Option (List ℕ)) (before after : Sha1) (size : ℕ) : Type 0 where
   pub bytes : List ℕ
   pub is_whole : length bytes ≡ size
   pub was_said : Consumes said left bytes
   pub is_written : Appends old new bytes
+  pub is_hashed : (hashed : List ℕ) → Holds before hashed → Holds after (hashed ++ bytes)
 
--- an answer that has a blob of this size was read, and the blob was written
+-- so many bytes were read, and written, and this is the name of the blob that has them
+pub record CopiesAs (said left old new : Option (List ℕ)) (size : ℕ) (name : List ℕ) : Type 0 where
+  pub bytes : List ℕ
+  pub is_whole : length bytes ≡ size
+  pub was_said : Consumes said left bytes
+  pub is_written : Appends old new bytes
+  pub is_name : name ≡ blob_name bytes
+
+-- an answer that has a blob of this size was read, and the blob was written; its bytes have the object's name
 pub record IsCopied (said left : Option (List ℕ)) (old new : Option (List ℕ)) (object : List ℕ) (size : ℕ) : Type 0 where
   pub blob : List ℕ
-  pub is_whole : length blob ≡ size
+  pub is_blob : IsBlobOf object size blob
   pub was_said : Consumes said left (answer_of object blob)
   pub is_written : Appends old new blob

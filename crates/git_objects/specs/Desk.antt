@@ -5,7 +5,7 @@ use Rattle.std.specs.Option.{option_and_then}
 use Rattle.std.specs.Map.{lookup}
 use mathlib.Core.Bool.{beq}
 use Rattle.eden_base.specs.declared.memory.NoMemory.{NoMemory as WantOfMemory}
-use Rattle.git_objects.specs.Blob.{IsSame}
+use Rattle.git_objects.specs.Blob.{IsSameBlob}
 use Rattle.git_objects.specs.BlobCache.{Entry, Finds, is_large, kept_by, same_id}
 use Rattle.git_objects.specs.declared.blob.Blob.{Blob}
 use Rattle.git_objects.specs.declared.blob_cache.Kept.{Kept}
@@ -34,14 +34,19 @@ IsAsked entries tickets sought old new (Waits ticket) =
 
 -- whether a blob that arrives is this one, and so many of its bytes are there
 abbrev pub is_there : Arriving → ℕ → List ℕ → Bool
-is_there arriving end object = same_id arriving.object object && nat_le end arriving.count
+is_there arriving end object = same_id arriving.blob.object object && nat_le end arriving.count
 
 -- a blob is found exactly if this is so, unless memory for one more owner is refused
 abbrev pub FindsIf : Bool → Blob → Result (Option Blob) WantOfMemory → Type 0
-FindsIf true blob (Ok (Some found)) = IsSame blob found
+FindsIf true blob (Ok (Some found)) = IsSameBlob blob found
 FindsIf true blob (Ok None) = ⊥
 FindsIf true blob (Err refused) = ⊤
 FindsIf false blob found = found ≡ Ok None
+
+-- the blob that arrives, once one has come
+abbrev pub left_arriving : Option Arriving → List ℕ → Option Arriving
+left_arriving None object = None
+left_arriving (Some arriving) object = if same_id arriving.blob.object object then None else Some arriving
 
 -- what is found of a blob: it is kept, or so many of its bytes have arrived
 abbrev pub FindsBlob : Option Arriving → ℕ → List ℕ → Option Kept → Result (Option Blob) WantOfMemory → Type 0
@@ -108,13 +113,13 @@ faulted None object wants = wants
 faulted (Some fault) object wants = map (with_fault object fault) wants
 
 -- the blobs that are kept behind what git gave
-abbrev pub entries_by : ℕ → List Entry → Sought → Result Blob ObjectFault → Bool → List Entry
-entries_by bound entries sought (Ok blob) is_kept = kept_by bound entries is_kept sought.object blob sought.size
-entries_by bound entries sought (Err fault) is_kept = entries
+abbrev pub entries_by : ℕ → List Entry → Result Blob ObjectFault → Bool → List Entry
+entries_by bound entries (Ok blob) is_kept = kept_by bound entries is_kept blob
+entries_by bound entries (Err fault) is_kept = entries
 
 -- a blob that git gave is kept, and a fault is told to all who wait for it
 pub record Delivers (sought : Sought) (fetched : Result Blob ObjectFault) (bound : ℕ) (entries entries' : List Entry)
     (wants wants' : List Want) : Type 0 where
   pub is_kept : Bool
-  pub keeps : entries' ≡ entries_by bound entries sought fetched is_kept
+  pub keeps : entries' ≡ entries_by bound entries fetched is_kept
   pub tells : wants' ≡ faulted (fault_by fetched is_kept) sought.object wants

@@ -1,12 +1,14 @@
 //! The answer to a question, which is read from git's output.
 ghost use Rattle.std.specs.Prelude.{◌≡◌, ◌++◌, ◌∷◌, ◌≤◌, [], length, true, false, Option, Some, None, IfOk, IfErr, OnOk, ◌≢◌};
 ghost use Rattle.std.specs.Io.KnownBytes.{Appends, Consumes};
-ghost use Rattle.git_objects.specs.CatFile.{Copies, IsCopied, answer_of, fault_of, is_of_another_type, is_of_type, head_of, head_start, missing_of, told_by};
+ghost use Rattle.git_objects.specs.CatFile.{Copies, CopiesAs, IsCopied, answer_of, fault_of, is_of_another_type, is_of_type, head_of, head_start, missing_of, told_by};
 
 use crate::fault::ObjectFault;
+use crate::name::hasher_of;
 use crate::question::{head_of, head_start};
 use crate::sought::Sought;
 use eden_base::NoMemory;
+use sha1::Sha1;
 use std::alloc::Global;
 use std::io::{self, Error, ErrorKind, Read, Write};
 
@@ -167,50 +169,54 @@ pub(crate) fn read_blob<I: Read>(
     Ok(bytes)
 }
 
-/// Copies a piece of `size` bytes to `out`.
+/// Copies a piece of `size` bytes to `out`, and hashes it.
 #[tactic(auto, using(crate::proofs::Copying::copies))]
 fn copy_piece<I: Read, W: Write>(
     alloc: Global,
     input: &mut I,
     size: usize,
     out: &mut W,
+    hasher: &mut Sha1,
 ) -> Result<(), ObjectFault>
     ensures copied { OnOk result (Copies (I.remaining input.old) (I.remaining input.new)
-        (W.contents out.old) (W.contents out.new) size) }
+        (W.contents out.old) (W.contents out.new) hasher.old hasher.new size) }
 {
     let piece = read_bytes(alloc, input, size)?;
-    match out.write_all(piece.as_slice()) {
-        Ok(()) => Ok(()),
-        Err(error) => Err(ObjectFault::NoSpool(error)),
+    if let Err(error) = out.write_all(piece.as_slice()) {
+        return Err(ObjectFault::NoSpool(error));
     }
+    hasher.update(piece.as_slice());
+    Ok(())
 }
 
-/// Copies `size` bytes to `out`. Tells by `told` how many were written, after each piece.
-#[tactic(auto, using(crate::proofs::Copying::copies_none))]
+/// Copies the `size` bytes of a blob to `out`, and returns the name that they have. Tells by `told` how many were written,
+/// before each piece: those of the last one are known only once that name is.
+#[tactic(auto, using(crate::proofs::Copying::copies_none, crate::proofs::Copying::copies_as))]
 fn copy_bytes<I: Read, W: Write, F: FnMut(u64)>(
     alloc: Global,
     input: &mut I,
     size: u64,
     out: &mut W,
     told: F,
-) -> Result<(), ObjectFault>
+) -> Result<[u8; 20], ObjectFault>
     requires callable { F.IsAlwaysCallable told }
-    ensures copied { OnOk result (Copies (I.remaining input.old) (I.remaining input.new)
+    ensures copied { IfOk result (CopiesAs (I.remaining input.old) (I.remaining input.new)
         (W.contents out.old) (W.contents out.new) size) }
 {
     let mut told = told;
+    let mut hasher = hasher_of(alloc, size)?;
     let mut left = size;
     while left > 0 {
-        let piece = left.min(PIECE);
-        copy_piece(alloc, input, piece as usize, out)?;
-        left -= piece;
         told(size - left);
+        let piece = left.min(PIECE);
+        copy_piece(alloc, input, piece as usize, out, &mut hasher)?;
+        left -= piece;
     }
-    Ok(())
+    Ok(hasher.finalize())
 }
 
-/// Reads the answer that has `blob`, and writes its bytes to `out`. Tells by `told` how many were written, after each piece.
-#[tactic(auto, using(crate::proofs::Copying::is_copied))]
+/// Reads the answer that has `blob`, and writes its bytes to `out`. Tells by `told` how many were written, but of the last
+/// piece. Fails if the bytes have another name than was asked for.
 pub(crate) fn copy_blob<I: Read, W: Write, F: FnMut(u64)>(
     alloc: Global,
     input: &mut I,
@@ -223,6 +229,10 @@ pub(crate) fn copy_blob<I: Read, W: Write, F: FnMut(u64)>(
         (W.contents out.old) (W.contents out.new) blob.object blob.size) }
 {
     read_head(alloc, input, blob)?;
-    copy_bytes(alloc, input, blob.size, out, told)?;
-    read_end(input)
+    let name = copy_bytes(alloc, input, blob.size, out, told)?;
+    read_end(input)?;
+    if name != blob.object {
+        return Err(ObjectFault::Damaged);
+    }
+    Ok(())
 }

@@ -1,9 +1,8 @@
 //! The process that answers questions for objects.
-ghost use Rattle.std.specs.Prelude.{◌≡◌, OnOk};
-ghost use Rattle.std.specs.Io.KnownBytes.{Appends};
-ghost use Rattle.git_objects.specs.CatFile.{question_of};
+ghost use Rattle.std.specs.Prelude.{◌≡◌, IfOk};
 
 use crate::answer::{copy_blob, read_blob};
+use crate::blob::Blob;
 use crate::fault::ObjectFault;
 use crate::git_command::GitCommand;
 use crate::question::question_of;
@@ -66,13 +65,18 @@ impl<P: OpenProcess + Drop> Batch<P> {
         }
     }
 
-    /// Asks for a blob, and returns its bytes.
-    pub(crate) fn fetch(&mut self, alloc: Global, sought: Sought) -> Result<Vec<u8>, ObjectFault> {
+    /// Asks for a blob, and returns it if the bytes that git gives have its name.
+    pub(crate) fn fetch(&mut self, alloc: Global, sought: Sought) -> Result<Blob, ObjectFault>
+        ensures object { IfOk result (λ blob. blob.object ≡ sought.object) }
+        ensures size { IfOk result (λ blob. blob.size ≡ sought.size) }
+    {
         self.ask(alloc, &sought.object)?;
-        read_blob(alloc, &mut self.answers, sought)
+        let bytes = read_blob(alloc, &mut self.answers, sought)?;
+        Blob::of_bytes(alloc, sought, bytes)
     }
 
-    /// Asks for a blob, and writes its bytes to `out`. Tells by `told` how many were written, after each piece.
+    /// Asks for a blob, and writes its bytes to `out`. Tells by `told` how many were written, but of the
+    /// last piece.
     pub(crate) fn copy<F: FnMut(u64)>(
         &mut self,
         alloc: Global,

@@ -1,82 +1,79 @@
-//! The bytes of a blob that git has answered.
-ghost use Rattle.std.specs.Prelude.{◌≡◌, length, IfOk};
-ghost use Rattle.byte_codec.specs.Bytes.{range_of};
-ghost use Rattle.git_objects.specs.Blob.{HasPart, IsSame};
+//! The blobs that git gave.
+ghost use Rattle.std.specs.Prelude.{◌≡◌, length, Some, IfErr, IfOk};
+ghost use Rattle.std.specs.Option.{ForSome};
+ghost use Rattle.git_objects.specs.Content.{IsNoBlob, IsSame, blob_name, known_bytes};
 
+use crate::content::Content;
 use crate::fault::ObjectFault;
-use byte_codec::Bytes;
+use crate::name::name_of;
+use crate::sought::Sought;
 use eden_base::NoMemory;
 use std::alloc::Global;
 use std::fs::File;
-use std::io::{Error, ErrorKind};
-use std::os::unix::fs::FileExt;
 use std::sync::Arc;
 
-/// The bytes of a blob. Its owners share them.
+/// A blob that git gave: its name and its size, by which it was asked for, and its bytes. Those in memory have that name.
 #[derive(Drop)]
-pub(crate) enum Blob {
-    InMemory(Arc<Vec<u8>>),
-    /// A file of the system that has no name any more.
-    InFile(Arc<File>),
+pub(crate) struct Blob {
+    pub object: [u8; 20],
+    pub size: u64,
+    pub content: Content,
+    ghost is_named: { ForSome (known_bytes content) (λ bytes. blob_name bytes ≡ object) },
+    ghost is_whole: { ForSome (known_bytes content) (λ bytes. length bytes ≡ size) },
 }
 
 impl Blob {
-    /// Returns one more owner of the same bytes.
+    /// Makes the blob of these bytes. Fails if they have another name than was asked for.
+    pub(crate) fn of_bytes(
+        alloc: Global,
+        sought: Sought,
+        bytes: Vec<u8>,
+    ) -> Result<Blob, ObjectFault>
+        requires whole { length bytes.items ≡ sought.size }
+        ensures object { IfOk result (λ blob. blob.object ≡ sought.object) }
+        ensures size { IfOk result (λ blob. blob.size ≡ sought.size) }
+        ensures bytes { IfOk result (λ blob. known_bytes blob.content ≡ Some bytes.items) }
+        ensures refused { IfErr result (IsNoBlob sought.object bytes.items) }
+    {
+        let name = name_of(alloc, bytes.as_slice())?;
+        if name != sought.object {
+            return Err(ObjectFault::Damaged);
+        }
+        let Ok(bytes) = Arc::new(alloc, bytes) else {
+            return Err(ObjectFault::NoMemory);
+        };
+        let object = sought.object;
+        Ok(Blob {
+            object,
+            size: sought.size,
+            content: Content::InMemory(bytes),
+        })
+    }
+
+    /// Makes the blob that was asked for, of a file to which it was written or is being written.
+    pub(crate) fn of_file(sought: Sought, file: Arc<File>) -> Blob
+        ensures object { result.object ≡ sought.object }
+        ensures size { result.size ≡ sought.size }
+    {
+        let object = sought.object;
+        Blob {
+            object,
+            size: sought.size,
+            content: Content::InFile(file),
+        }
+    }
+
+    /// Returns one more owner of the same blob.
     pub(crate) fn share(&self) -> Result<Blob, NoMemory>
-        ensures same { IfOk result (IsSame self.now) }
+        ensures object { IfOk result (λ blob. blob.object ≡ self.now.object) }
+        ensures size { IfOk result (λ blob. blob.size ≡ self.now.size) }
+        ensures content { IfOk result (λ blob. IsSame self.now.content blob.content) }
     {
-        match self {
-            Blob::InMemory(bytes) => Ok(Blob::InMemory(Arc::try_clone(bytes)?)),
-            Blob::InFile(file) => Ok(Blob::InFile(Arc::try_clone(file)?)),
-        }
-    }
-
-    /// Returns the `len` bytes of the blob from `offset` on. Those in memory are not copied.
-    pub(crate) fn part(&self, alloc: Global, offset: u64, len: usize) -> Result<Bytes, ObjectFault>
-        ensures part { IfOk result (HasPart self.now offset len) }
-    {
-        match self {
-            Blob::InMemory(bytes) => shared_part(bytes, offset, len),
-            Blob::InFile(file) => file_part(alloc, file, offset, len),
-        }
-    }
-}
-
-/// Returns the `len` bytes of `bytes` from `offset` on, which are not copied.
-fn shared_part(bytes: &Arc<Vec<u8>>, offset: u64, len: usize) -> Result<Bytes, ObjectFault>
-    ensures part { IfOk result (λ part. part ≡ range_of offset len bytes.now.value.items) }
-    ensures len { IfOk result (λ part. length part ≡ len) }
-{
-    let size = bytes.len();
-    if offset > size as u64 || len > size - offset as usize {
-        return Err(ObjectFault::Beyond);
-    }
-    match Bytes::shared(bytes, offset as usize, len) {
-        Ok(part) => Ok(part),
-        Err(_refused) => Err(ObjectFault::NoMemory),
-    }
-}
-
-/// Reads the `len` bytes of `file` from `offset` on.
-fn file_part(alloc: Global, file: &File, offset: u64, len: usize) -> Result<Bytes, ObjectFault>
-    ensures len { IfOk result (λ part. length part ≡ len) }
-{
-    let Ok(mut bytes) = Vec::with_capacity(alloc, len) else {
-        return Err(ObjectFault::NoMemory);
-    };
-    if bytes.resize(len, 0).is_err() {
-        return Err(ObjectFault::NoMemory);
-    }
-    match file.read_exact_at(bytes.as_mut_slice(), offset) {
-        Ok(()) => Ok(Bytes::of(bytes)),
-        Err(error) => Err(unread(error)),
-    }
-}
-
-/// Returns the fault of a file that can't be read for `error`.
-fn unread(error: Error) -> ObjectFault {
-    match error.kind() {
-        ErrorKind::UnexpectedEof => ObjectFault::Beyond,
-        _ => ObjectFault::NoSpool(error),
+        let object = self.object;
+        Ok(Blob {
+            object,
+            size: self.size,
+            content: self.content.share()?,
+        })
     }
 }

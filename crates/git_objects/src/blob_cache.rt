@@ -134,16 +134,16 @@ impl BlobCache {
         }
     }
 
-    /// Keeps the blob `object` of `size` bytes, unless it is kept. Returns whether it is kept then: memory for it may be
-    /// refused.
-    pub(crate) fn keep(&mut self, object: [u8; 20], blob: Blob, size: u64) -> bool
-        ensures entries { self.new.kept.entries ≡ kept_by self.old.bound self.old.kept.entries result object blob size }
+    /// Keeps a blob by its name, unless it is kept. Returns whether it is kept then: memory for it may be refused.
+    pub(crate) fn keep(&mut self, blob: Blob) -> bool
+        ensures entries { self.new.kept.entries ≡ kept_by self.old.bound self.old.kept.entries result blob }
         ensures bound { self.new.bound ≡ self.old.bound }
     {
+        let object = blob.object;
         if self.kept.contains(&object) {
             return true;
         }
-        let cost = cost_of(size, self.bound);
+        let cost = cost_of(blob.size, self.bound);
         self.make_room(cost);
         match self.kept.put(object, Kept { blob, cost }) {
             Ok(_none) => {

@@ -2,7 +2,7 @@
 ghost use Rattle.std.specs.Prelude.{◌≡◌, ◌<◌, [], length, map, position, Some, IfOk, IfSome, OnErr};
 ghost use Rattle.std.specs.Map.{lookup};
 ghost use Rattle.git_objects.specs.BlobCache.{same_id};
-ghost use Rattle.git_objects.specs.Desk.{Delivers, FindsBlob, FindsIf, IsAsked, Looks, has_ticket, is_next, is_there, next_of, verdict, with_fault};
+ghost use Rattle.git_objects.specs.Desk.{Delivers, FindsBlob, FindsIf, IsAsked, Looks, has_ticket, is_next, is_there, left_arriving, next_of, verdict, with_fault};
 
 use crate::blob::Blob;
 use crate::blob_cache::{BlobCache, is_large};
@@ -23,7 +23,6 @@ pub(crate) struct Want {
 /// A blob in a file that git is still writing there, and how many bytes are there.
 #[derive(Drop)]
 pub(crate) struct Arriving {
-    pub object: [u8; 20],
     pub blob: Blob,
     pub count: u64,
 }
@@ -33,7 +32,7 @@ impl Arriving {
     fn part(&self, sought: Sought, end: u64) -> Result<Option<Blob>, NoMemory>
         ensures part { FindsIf (is_there self.now end sought.object) self.now.blob result }
     {
-        if same_id(&self.object, &sought.object) && end <= self.count {
+        if self.is_of(sought) && end <= self.count {
             return match self.blob.share() {
                 Ok(blob) => Ok(Some(blob)),
                 Err(NoMemory) => Err(NoMemory),
@@ -44,9 +43,9 @@ impl Arriving {
 
     /// Returns whether it is the blob that `sought` names.
     fn is_of(&self, sought: Sought) -> bool
-        ensures { result ≡ same_id self.now.object sought.object }
+        ensures { result ≡ same_id self.now.blob.object sought.object }
     {
-        same_id(&self.object, &sought.object)
+        same_id(&self.blob.object, &sought.object)
     }
 }
 
@@ -121,6 +120,7 @@ impl Desk {
     pub(crate) fn ask(&mut self, sought: Sought) -> Result<Asked, NoMemory>
         ensures asked { IfOk result (IsAsked self.old.cache.kept.entries self.old.tickets sought self.old.wants.items self.new.wants.items) }
         ensures refused { OnErr result (self.new.wants.items ≡ self.old.wants.items) }
+        ensures arriving { self.new.arriving ≡ self.old.arriving }
     {
         if let Some(blob) = self.cache.find(&sought.object)? {
             return Ok(Asked::Here(blob));
@@ -161,6 +161,7 @@ impl Desk {
     ) -> Option<Result<Blob, ObjectFault>>
         ensures looks { Looks self.old.arriving self.old.cache.kept.entries ticket sought end is_over
             self.old.wants.items result self.new.wants.items }
+        ensures arriving { self.new.arriving ≡ self.old.arriving }
     {
         let found = self.found(sought, end);
         let Some(place) = place_of(self.wants.as_slice(), ticket) else {
@@ -196,17 +197,13 @@ impl Desk {
             && !self.cache.has(&want.sought.object)
     }
 
-    /// Notes that the first `count` bytes of a large blob have arrived, which are those of `blob`.
-    pub(crate) fn arrive(&mut self, object: [u8; 20], blob: Blob, count: u64)
-        ensures arriving { self.new.arriving ≡ Some (record { object = object; blob = blob; count = count }) }
+    /// Notes that the first `count` bytes of a large blob have arrived.
+    pub(crate) fn arrive(&mut self, blob: Blob, count: u64)
+        ensures arriving { self.new.arriving ≡ Some (record { blob = blob; count = count }) }
         ensures wants { self.new.wants ≡ self.old.wants }
         ensures cache { self.new.cache ≡ self.old.cache }
     {
-        self.arriving = Some(Arriving {
-            object,
-            blob,
-            count,
-        });
+        self.arriving = Some(Arriving { blob, count });
     }
 
     /// Notes what git gave for `sought`: a blob, which is kept then, or why it gave none, which is told to all who wait for
@@ -214,6 +211,7 @@ impl Desk {
     pub(crate) fn deliver(&mut self, sought: Sought, fetched: Result<Blob, ObjectFault>)
         ensures delivers { Delivers sought fetched self.old.cache.bound self.old.cache.kept.entries self.new.cache.kept.entries
             self.old.wants.items self.new.wants.items }
+        ensures arriving { self.new.arriving ≡ left_arriving self.old.arriving sought.object }
         ensures bound { self.new.cache.bound ≡ self.old.cache.bound }
     {
         if self
@@ -225,7 +223,7 @@ impl Desk {
         }
         match fetched {
             Ok(blob) => {
-                if !self.cache.keep(sought.object, blob, sought.size) {
+                if !self.cache.keep(blob) {
                     set_faults(&mut self.wants, &sought.object, ObjectFault::NoMemory);
                 }
             }

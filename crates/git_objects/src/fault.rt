@@ -18,6 +18,10 @@ pub enum ObjectFault {
     OtherSize,
     /// The object is a tree, a commit or a tag.
     NotABlob,
+    /// The bytes that git gave have another name by their hash.
+    Damaged,
+    /// Another blob stood in the place of the one that was asked for.
+    OtherBlob,
     /// What git answered is no answer to the question.
     Unreadable,
     /// Git ended before it had answered.
@@ -48,6 +52,10 @@ impl Display for ObjectFault {
             ObjectFault::Ambiguous => f.write_str("its id names several objects"),
             ObjectFault::OtherSize => f.write_str("the object has another size than its tree says"),
             ObjectFault::NotABlob => f.write_str("the object is no blob"),
+            ObjectFault::Damaged => f.write_str(
+                "the object is damaged: its bytes have another name",
+            ),
+            ObjectFault::OtherBlob => f.write_str("another object is kept in its place"),
             ObjectFault::Unreadable => f.write_str("git gave an answer that cannot be read"),
             ObjectFault::Ended => f.write_str("git ended before it answered"),
             ObjectFault::Late => f.write_str("git did not answer in time"),

@@ -1,5 +1,5 @@
 //! A thread that owns a process of git, and fetches by it what workers ask for.
-ghost use Rattle.std.specs.Prelude.{◌≡◌};
+ghost use Rattle.std.specs.Prelude.{◌≡◌, IfOk};
 ghost use Rattle.git_objects.specs.Fetching.{asks_again, is_in_step};
 
 use crate::batch::Batch;
@@ -27,13 +27,14 @@ const LOOKS: usize = 100;
 /// How many milliseconds pass between two of them.
 const PAUSE: u64 = 10;
 
-/// Returns whether a process stands behind its answer, and may be asked again: it gave the blob, or said that it has none.
+/// Returns whether a process stands behind its answer, and may be asked again: it gave a whole blob,
+/// or said that it has none.
 fn is_in_step(fault: Option<ObjectFault>) -> bool
     ensures { result ≡ is_in_step fault }
 {
     matches!(
         fault,
-        None | Some(ObjectFault::Missing) | Some(ObjectFault::Ambiguous)
+        None | Some(ObjectFault::Missing | ObjectFault::Ambiguous | ObjectFault::Damaged)
     )
 }
 
@@ -84,7 +85,10 @@ impl<'a, R: Wait + Clock + Files<File = File> + Net + Processes> Fetcher<'a, R> 
     }
 
     /// Fetches a blob. Where the process ended amid its answer, the next one is asked too.
-    fn fetch(&mut self, sought: Sought) -> Result<Blob, ObjectFault> {
+    fn fetch(&mut self, sought: Sought) -> Result<Blob, ObjectFault>
+        ensures object { IfOk result (λ blob. blob.object ≡ sought.object) }
+        ensures size { IfOk result (λ blob. blob.size ≡ sought.size) }
+    {
         let mut fault = ObjectFault::Ended;
         for _attempt in 0..ATTEMPTS {
             match self.ask(sought) {
@@ -97,7 +101,10 @@ impl<'a, R: Wait + Clock + Files<File = File> + Net + Processes> Fetcher<'a, R> 
     }
 
     /// Asks the process for a blob, which is started if none runs. One that can't be asked again is killed.
-    fn ask(&mut self, sought: Sought) -> Result<Blob, ObjectFault> {
+    fn ask(&mut self, sought: Sought) -> Result<Blob, ObjectFault>
+        ensures object { IfOk result (λ blob. blob.object ≡ sought.object) }
+        ensures size { IfOk result (λ blob. blob.size ≡ sought.size) }
+    {
         let mut batch = self.take_batch()?;
         let asked = self.ask_by(&mut batch, sought);
         if is_in_step(asked.as_ref().err().copied()) {
@@ -109,19 +116,21 @@ impl<'a, R: Wait + Clock + Files<File = File> + Net + Processes> Fetcher<'a, R> 
     }
 
     /// Asks `batch` for a blob. A large one goes to a file.
-    fn ask_by(&self, batch: &mut Batch<R::Started>, sought: Sought) -> Result<Blob, ObjectFault> {
+    fn ask_by(&self, batch: &mut Batch<R::Started>, sought: Sought) -> Result<Blob, ObjectFault>
+        ensures object { IfOk result (λ blob. blob.object ≡ sought.object) }
+        ensures size { IfOk result (λ blob. blob.size ≡ sought.size) }
+    {
         if self.is_large {
             return self.copy_by(batch, sought);
         }
-        let bytes = batch.fetch(self.alloc, sought)?;
-        match Arc::new(self.alloc, bytes) {
-            Ok(bytes) => Ok(Blob::InMemory(bytes)),
-            Err(_refused) => Err(ObjectFault::NoMemory),
-        }
+        batch.fetch(self.alloc, sought)
     }
 
     /// Asks `batch` for a blob, and has it written to a file, whose bytes may be read as they come.
-    fn copy_by(&self, batch: &mut Batch<R::Started>, sought: Sought) -> Result<Blob, ObjectFault> {
+    fn copy_by(&self, batch: &mut Batch<R::Started>, sought: Sought) -> Result<Blob, ObjectFault>
+        ensures object { IfOk result (λ blob. blob.object ≡ sought.object) }
+        ensures size { IfOk result (λ blob. blob.size ≡ sought.size) }
+    {
         let file = spool(self.rt, self.alloc).map_err(ObjectFault::NoSpool)?;
         let mut out = file.try_clone().map_err(ObjectFault::NoSpool)?;
         let Ok(file) = Arc::new(self.alloc, file) else {
@@ -130,10 +139,10 @@ impl<'a, R: Wait + Clock + Files<File = File> + Net + Processes> Fetcher<'a, R> 
         batch.copy(self.alloc, sought, &mut out, |count| {
             if let Ok(arriving) = Arc::try_clone(&file) {
                 self.shared
-                    .arrive(self.rt, sought.object, Blob::InFile(arriving), count);
+                    .arrive(self.rt, Blob::of_file(sought, arriving), count);
             }
         })?;
-        Ok(Blob::InFile(file))
+        Ok(Blob::of_file(sought, file))
     }
 
     /// Returns the process that runs, or else a new one.

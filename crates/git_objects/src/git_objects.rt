@@ -1,6 +1,9 @@
 //! The blobs of a repository.
 ghost use Rattle.std.specs.Prelude.{◌≡◌, ◌+◌, ◌≤◌, length, IfOk, OnOk};
+ghost use Rattle.git_objects.specs.Reading.{IsRead, is_sought};
 
+use crate::blob::Blob;
+use crate::blob_cache::is_large;
 use crate::fault::ObjectFault;
 use crate::fetcher::Fetcher;
 use crate::shared::Shared;
@@ -10,6 +13,7 @@ use eden_base::NoMemory;
 use std::alloc::Global;
 use std::fs::File;
 use std::io::{self, Error, ErrorKind};
+use std::marker::Model;
 use std::net::{Net, TcpListener, TcpStream};
 use std::process::{Processes, SystemProcess};
 use std::rt::{Clock, Files};
@@ -33,8 +37,26 @@ pub struct GitObjects {
     shared: Arc<Shared>,
 }
 
+impl Model for GitObjects {
+    ghost use Rattle.std.specs.Prelude.{ℕ};
+
+    ghost Value = { ℕ };
+
+    ghost view = { λ objects. objects.shared.value.bound };
+}
+
+/// Returns whether `blob` is the one that is sought, and in a file exactly if one of its size is too large for memory.
+fn is_sought(bound: u64, sought: Sought, blob: &Blob) -> bool
+    ensures { result ≡ is_sought bound sought blob.now }
+{
+    blob.object.as_slice() == sought.object.as_slice()
+        && blob.size == sought.size
+        && blob.content.is_in_file() == is_large(sought.size, bound)
+}
+
 impl GitObjects {
-    /// Makes the threads for the repository at the path `repository`. Blobs are kept within `bound` bytes.
+    /// Makes the threads for the repository at the path `repository`. Blobs are kept within `bound` bytes, by which contracts
+    /// know it.
     pub fn start<
         R: Threads
             + Wait
@@ -48,6 +70,7 @@ impl GitObjects {
     >(rt: &R, alloc: Global, repository: &str, bound: u64) -> io::Result<GitObjects>
     where
         R::Dir: Send,
+        ensures bound { IfOk result (λ objects. objects ≡ bound) }
     {
         let shared = match Shared::new(alloc, repository, bound) {
             Ok(shared) => Arc::new(alloc, shared)?,
@@ -58,13 +81,15 @@ impl GitObjects {
         Ok(GitObjects { shared })
     }
 
-    /// Returns the bytes of a part of a blob. Waits for git for 20 seconds at most.
+    /// Returns the bytes of a part of a blob. Waits for git for 20 seconds at most. No clause knows what stands behind the
+    /// lock, so the blob that comes from there is compared with the one that is sought.
     pub fn read<R: Wait + Clock>(
         &self,
         rt: &R,
         alloc: Global,
         part: BlobPart,
     ) -> Result<Bytes, ObjectFault>
+        ensures part { IfOk result (IsRead self.now part) }
         ensures len { IfOk result (λ bytes. length bytes ≡ part.len) }
         ensures within { OnOk result (part.offset + part.len ≤ part.size) }
     {
@@ -76,7 +101,10 @@ impl GitObjects {
         let sought = Sought { object, size };
         let end = part.offset + part.len as u64;
         let blob = self.shared.blob(rt, sought, end)?;
-        blob.part(alloc, part.offset, part.len)
+        if !is_sought(self.shared.bound, sought, &blob) {
+            return Err(ObjectFault::OtherBlob);
+        }
+        blob.content.part(alloc, part.offset, part.len)
     }
 }
 

@@ -1,4 +1,6 @@
 //! The desk that workers and the processes' threads share.
+ghost use Rattle.std.specs.Prelude.{◌≡◌, IfOk};
+
 use crate::blob::Blob;
 use crate::desk::{Asked, Desk};
 use crate::fault::ObjectFault;
@@ -29,7 +31,9 @@ pub(crate) struct Shared {
 
 impl Shared {
     /// Makes the desk for a repository, whose blobs are kept within `bound` bytes.
-    pub(crate) fn new(alloc: Global, repository: &str, bound: u64) -> Result<Shared, NoMemory> {
+    pub(crate) fn new(alloc: Global, repository: &str, bound: u64) -> Result<Shared, NoMemory>
+        ensures bound { IfOk result (λ shared. shared.bound ≡ bound) }
+    {
         Ok(Shared {
             desk: Monitor::new(Desk::new(alloc, bound)?),
             asked: Condition::new(),
@@ -83,9 +87,9 @@ impl Shared {
     }
 
     /// Notes that the first `count` bytes of a large blob have arrived in `blob`.
-    pub(crate) fn arrive<R: Wait>(&self, rt: &R, object: [u8; 20], blob: Blob, count: u64) {
+    pub(crate) fn arrive<R: Wait>(&self, rt: &R, blob: Blob, count: u64) {
         self.desk
-            .change(rt, &self.came, |desk| desk.arrive(object, blob, count));
+            .change(rt, &self.came, |desk| desk.arrive(blob, count));
     }
 
     /// Notes what git gave for `sought`.

@@ -10,5 +10,6 @@ loop-left-preserved g c =
     let piece = c.min-piece.ensures in (
       mut_next g.F.FnMut _ _ _ _ _ c.told.ensures refl before.0,
       omega arith,
-      copies_more _ _ _ _ _ _ (c.args.size - c.loop-left.left) c.min-piece.result _ before.2 c.in_ok-copy_piece.ensures.copied (omega arith),
+      before.2,
+      copies_more _ _ _ _ _ _ _ _ _ (c.args.size - c.loop-left.left) c.min-piece.result _ before.3 c.in_ok-copy_piece.ensures.copied (omega arith),
     )
