@@ -1,5 +1,5 @@
 -- Who waits for which blob, what a look gives, and what is asked next. Each that waits has a ticket.
-use Rattle.std.specs.Prelude.{◌≡◌, ◌==◌, ◌&&◌, ◌++◌, ◌∷◌, ℕ, Bool, true, false, not, nat_le, List, [], map, position, slice_get, Option, Some, None, is_some, is_none, Result, Ok, Err, ⊤, if◌then◌else◌}
+use Rattle.std.specs.Prelude.{◌≡◌, ◌==◌, ◌&&◌, ◌+◌, ◌%◌, ◌^◌, ◌++◌, ◌∷◌, ℕ, Bool, true, false, not, nat_le, List, [], map, position, slice_get, Option, Some, None, is_some, is_none, Result, Ok, Err, ⊤, if◌then◌else◌}
 use Rattle.std.specs.List.{remove}
 use Rattle.std.specs.Option.{option_and_then}
 use Rattle.std.specs.Map.{lookup}
@@ -12,6 +12,7 @@ use Rattle.git_objects.specs.declared.blob_cache.Kept.{Kept}
 use Rattle.git_objects.specs.declared.desk.Arriving.{Arriving}
 use Rattle.git_objects.specs.declared.desk.Asked.{Asked}
 use Rattle.git_objects.specs.declared.desk.Asked.TheVariants.{Here, Waits}
+use Rattle.git_objects.specs.declared.desk.Came.{Came}
 use Rattle.git_objects.specs.declared.desk.Want.{Want}
 use Rattle.git_objects.specs.declared.fault.ObjectFault.{ObjectFault}
 use Rattle.git_objects.specs.declared.fault.ObjectFault.TheVariants.{Late, NoMemory}
@@ -95,6 +96,16 @@ next_of bound entries large (want ∷ wants) =
     if is_next bound entries large want then Some want.sought else next_of bound entries large wants
 
 -- ---- what git gave
+
+-- how often something came from the process for large blobs, or from the other one
+abbrev pub came_by : Came → Bool → ℕ
+came_by came true = came.large
+came_by came false = came.small
+
+-- something came once more; the count begins again behind 2^64 - 1
+abbrev pub came_more : Came → Bool → Came
+came_more came true = record { large = (came.large + 1) % 2 ^ 64; small = came.small }
+came_more came false = record { large = came.large; small = (came.small + 1) % 2 ^ 64 }
 
 -- the one who waits, with the fault if it is for this object
 abbrev pub with_fault : List ℕ → ObjectFault → Want → Want

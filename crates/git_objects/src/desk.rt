@@ -1,8 +1,8 @@
 //! Who waits for which blob, and what is asked next.
-ghost use Rattle.std.specs.Prelude.{◌≡◌, ◌<◌, [], length, map, position, Some, IfOk, IfSome, OnErr};
+ghost use Rattle.std.specs.Prelude.{◌≡◌, ◌<◌, [], length, true, map, position, Some, IfOk, IfSome, OnErr};
 ghost use Rattle.std.specs.Map.{lookup};
-ghost use Rattle.git_objects.specs.BlobCache.{same_id};
-ghost use Rattle.git_objects.specs.Desk.{Delivers, FindsBlob, FindsIf, IsAsked, Looks, has_ticket, is_next, is_there, left_arriving, next_of, verdict, with_fault};
+ghost use Rattle.git_objects.specs.BlobCache.{is_large, same_id};
+ghost use Rattle.git_objects.specs.Desk.{Delivers, FindsBlob, FindsIf, IsAsked, Looks, came_by, came_more, has_ticket, is_next, is_there, left_arriving, next_of, verdict, with_fault};
 
 use crate::blob::Blob;
 use crate::blob_cache::{BlobCache, is_large};
@@ -65,6 +65,40 @@ pub(crate) struct Desk {
     pub wants: Vec<Want>,
     pub arriving: Option<Arriving>,
     pub tickets: u64,
+    /// How often something came from the process for large blobs, and from the other one.
+    pub came: Came,
+}
+
+/// How often something came from each of the two processes.
+#[derive(Clone, Copy)]
+pub(crate) struct Came {
+    pub large: u64,
+    pub small: u64,
+}
+
+impl Came {
+    /// Returns how often something came from the process for large blobs, or from the other one.
+    pub(crate) fn by(self, is_large: bool) -> u64
+        ensures { result ≡ came_by self is_large }
+    {
+        if is_large { self.large } else { self.small }
+    }
+
+    /// Counts once more that something came.
+    fn more(self, is_large: bool) -> Came
+        ensures { result ≡ came_more self is_large }
+    {
+        if is_large {
+            return Came {
+                large: self.large.wrapping_add(1),
+                small: self.small,
+            };
+        }
+        Came {
+            large: self.large,
+            small: self.small.wrapping_add(1),
+        }
+    }
 }
 
 /// Returns whether the two ids are the same.
@@ -113,6 +147,7 @@ impl Desk {
             wants: Vec::new(alloc),
             arriving: None,
             tickets: 0,
+            came: Came { large: 0, small: 0 },
         })
     }
 
@@ -202,7 +237,9 @@ impl Desk {
         ensures arriving { self.new.arriving ≡ Some (record { blob = blob; count = count }) }
         ensures wants { self.new.wants ≡ self.old.wants }
         ensures cache { self.new.cache ≡ self.old.cache }
+        ensures came { self.new.came ≡ came_more self.old.came true }
     {
+        self.came = self.came.more(true);
         self.arriving = Some(Arriving { blob, count });
     }
 
@@ -213,7 +250,9 @@ impl Desk {
             self.old.wants.items self.new.wants.items }
         ensures arriving { self.new.arriving ≡ left_arriving self.old.arriving sought.object }
         ensures bound { self.new.cache.bound ≡ self.old.cache.bound }
+        ensures came { self.new.came ≡ came_more self.old.came (is_large sought.size self.old.cache.bound) }
     {
+        self.came = self.came.more(is_large(sought.size, self.cache.bound));
         if self
             .arriving
             .as_ref()

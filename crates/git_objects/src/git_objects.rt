@@ -81,7 +81,8 @@ impl GitObjects {
         Ok(GitObjects { shared })
     }
 
-    /// Returns the bytes of a part of a blob. Waits for git for 20 seconds at most. No clause knows what stands behind the
+    /// Returns the bytes of a part of a blob. Waits for git, for 20 seconds at most in which it gives
+    /// nothing. No clause knows what stands behind the
     /// lock, so the blob that comes from there is compared with the one that is sought.
     pub fn read<R: Wait + Clock>(
         &self,

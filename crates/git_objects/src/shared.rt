@@ -2,6 +2,7 @@
 ghost use Rattle.std.specs.Prelude.{◌≡◌, IfOk};
 
 use crate::blob::Blob;
+use crate::blob_cache::is_large;
 use crate::desk::{Asked, Desk};
 use crate::fault::ObjectFault;
 use crate::patience::Patience;
@@ -13,7 +14,7 @@ use std::rt::Clock;
 use std::sync::Wait;
 use std::time::{Duration, Instant};
 
-/// How many seconds a worker waits for a blob at most.
+/// For how many seconds a worker waits for a blob at most while the process that fetches it gives nothing.
 const LONGEST_WAIT: u64 = 20;
 
 /// How many milliseconds a worker sleeps between two looks at most.
@@ -43,7 +44,8 @@ impl Shared {
         })
     }
 
-    /// Returns the blob, of which the first `end` bytes are wanted at least. Waits for it for 20 seconds at most.
+    /// Returns the blob, of which the first `end` bytes are wanted at least. Waits for 20 seconds at most in which the process
+    /// that fetches it gives nothing, of this blob or of one that was asked for before.
     pub(crate) fn blob<R: Wait + Clock>(
         &self,
         rt: &R,
@@ -68,11 +70,10 @@ impl Shared {
         sought: Sought,
         end: u64,
     ) -> Result<Blob, ObjectFault> {
-        let mut patience = Instant::now(rt)
-            .ok()
-            .map(|now| Patience::new(LONGEST_WAIT, now));
+        let is_large = is_large(sought.size, self.bound);
+        let mut patience = None;
         self.desk.wait_until(rt, &self.came, |desk| {
-            let is_over = is_over(rt, &mut patience);
+            let is_over = is_over(rt, &mut patience, desk.came.by(is_large));
             match desk.look(ticket, sought, end, is_over) {
                 Some(told) => Look::Found(told),
                 None => Look::Again(Duration::from_millis(SLICE)),
@@ -104,10 +105,17 @@ impl Shared {
     }
 }
 
-/// Returns whether the time of a wait is over. Without a clock no time can be told, and it is over.
-fn is_over<R: Clock>(rt: &R, patience: &mut Option<Patience>) -> bool {
-    match (Instant::now(rt), patience) {
-        (Ok(now), Some(patience)) => patience.is_over(now),
-        (_, _) => true,
+/// Returns whether the time of a wait is over, which begins with the first look. Without a clock no time can be told, and it
+/// is over.
+fn is_over<R: Clock>(rt: &R, patience: &mut Option<Patience>, came: u64) -> bool {
+    let Ok(now) = Instant::now(rt) else {
+        return true;
+    };
+    match patience {
+        Some(patience) => patience.is_over(now, came),
+        None => {
+            *patience = Some(Patience::new(LONGEST_WAIT, now, came));
+            false
+        }
     }
 }
