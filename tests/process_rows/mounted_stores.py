@@ -9,6 +9,7 @@ import signal
 import subprocess
 import threading
 import time
+import zlib
 
 from process_rows.checks import WAIT, row, row_of_proved, same, took_between
 from process_rows.mounts import Mount, drop_caches, until
@@ -28,6 +29,14 @@ case "$*" in
 esac
 if [ -e "$0.answer" ]; then
   while read -r object; do sed "s/OID/$object/" "$0.answer"; done
+  exit
+fi
+if [ -e "$0.slowly" ]; then
+  while read -r object; do
+    printf '%s blob %d\\n' "$object" "$("$REAL_GIT" -C "$2" cat-file -s "$object")"
+    "$REAL_GIT" -C "$2" cat-file blob "$object" | split -b 1M --filter='sleep 3; cat'
+    echo
+  done
   exit
 fi
 if [ -e "$0.halves" ]; then
@@ -210,36 +219,74 @@ def a_repository_that_goes_away_is_missed_by_what_was_not_read(room):
     mount.unmount()
 
 
+def overwrite_object(path, name, content):
+    """Overwrites the file that has the object of a name in a repository."""
+    object_id = git(path, "rev-parse", f"HEAD:{name}", stdout=subprocess.PIPE).decode().strip()
+    at = f"{path}/.git/objects/{object_id[:2]}/{object_id[2:]}"
+    os.chmod(at, 0o644)
+    with open(at, "wb") as file:
+        file.write(content)
+
+
+def object_of(content):
+    """Returns what a file has that has a blob of these bytes as an object."""
+    return zlib.compress(b"blob %d\0" % len(content) + content)
+
+
 @row
 def an_object_that_is_damaged_fails_alone(room):
     """The object of one file is overwritten: reading that ends by EIO, and it is named. All other files have their bytes."""
     contents = small_files()
     mount, path = mounted(room, contents)
     name = list(contents)[3]
-    object_id = git(path, "rev-parse", f"HEAD:{name}", stdout=subprocess.PIPE).decode().strip()
-    at = f"{path}/.git/objects/{object_id[:2]}/{object_id[2:]}"
-    os.chmod(at, 0o644)
-    with open(at, "wb") as file:
-        file.write(b"no object")
+    overwrite_object(path, name, b"no object")
     reads(mount, contents | {name: errno.EIO})
     ends_with(mount, f"edend: cannot read {name}: ")
 
 
-def with_git_in_front(room, answer=None, half=None):
+@row
+def bytes_of_another_name_are_refused(room):
+    """The object of one file has other bytes, as many as before, which git gives as they are: reading the file ends by EIO, and
+    it is named. The process of git stays, and all other files have their bytes."""
+    contents = small_files()
+    mount, path = mounted(room, contents)
+    name = list(contents)[3]
+    overwrite_object(path, name, object_of(contents[name][::-1]))
+    reads(mount, {list(contents)[0]: contents[list(contents)[0]]})
+    before = gits_of(mount)
+    reads(mount, contents | {name: errno.EIO})
+    same(gits_of(mount), before)
+    ends_with(mount, f"edend: cannot read {name}: the object is damaged: its bytes have another name\n")
+
+
+@row
+def a_large_file_of_another_name_is_not_read_to_its_end(room):
+    """The object of a large file has another byte in its first half. What came before the end is read, since its name is known
+    only then; the last megabyte is not."""
+    content = random.Random(6).randbytes(LARGE_OF_UNPROVED)
+    mount, path = mounted(room, {"large": content}, "--cache", "1")
+    wrong = bytearray(content)
+    wrong[1 << 20] ^= 1
+    overwrite_object(path, "large", object_of(wrong))
+    same(read_once(mount, "large", len(content) - len(content) % 4096), errno.EIO)
+    same(read(mount, "large"), errno.EIO)
+    ends_with(mount, "edend: cannot read large: the object is damaged: its bytes have another name\n")
+
+
+def with_git_in_front(room, answer=None, half=None, slowly=None):
     """Puts a program in front of git, and returns the environment by which it is found, and its path. It may answer each question
-    by an answer, or by a blob of two halves that are the same, with two seconds between them."""
+    by an answer, by a blob of two halves that are the same, with two seconds between them, or as git does, but with three
+    seconds before each megabyte."""
     folder = f"{room.path}/front"
     os.mkdir(folder)
     at = f"{folder}/git"
     with open(at, "w") as file:
         file.write(IN_FRONT)
     os.chmod(at, 0o755)
-    if answer is not None:
-        with open(f"{at}.answer", "wb") as file:
-            file.write(answer)
-    if half is not None:
-        with open(f"{at}.halves", "wb") as file:
-            file.write(half)
+    for name, content in (("answer", answer), ("halves", half), ("slowly", slowly)):
+        if content is not None:
+            with open(f"{at}.{name}", "wb") as file:
+                file.write(content)
     return {**os.environ, "PATH": f"{folder}:{os.environ['PATH']}", "REAL_GIT": shutil.which("git")}, at
 
 
@@ -316,6 +363,91 @@ def a_part_of_a_large_file_is_given_once_it_came(room):
     took_between(2, time.monotonic() - began, LONGEST_WAIT, "the other half")
     reads(mount, {"file": half * 2})
     mount.unmount()
+
+
+@row
+def a_wait_goes_on_while_something_comes(room):
+    """Git takes 27 seconds for a large file, and gives a megabyte every three: who waits for its end gets it, and so does who waits
+    for another large file behind it."""
+    dice = random.Random(11)
+    contents = {"first": dice.randbytes(9 << 20), "second": dice.randbytes(3 << 19)}
+    env, _ = with_git_in_front(room, slowly=b"")
+    mount, _ = mounted(room, contents, "--cache", "1", "--workers", "4", env=env)
+    got = {}
+
+    def read_end(name):
+        offset = len(contents[name]) - (1 << 15)
+        got[name] = read_once(mount, name, offset) == contents[name][offset:]
+
+    began = time.monotonic()
+    threads = [threading.Thread(target=read_end, args=(name,)) for name in contents]
+    for it in threads:
+        it.start()
+        time.sleep(0.5)
+    for it in threads:
+        it.join(WAIT)
+    same(got, {"first": True, "second": True})
+    took_between(LONGEST_WAIT, time.monotonic() - began, 3 * WAIT, "both")
+    mount.unmount()
+
+
+def mounted_with(room, contents, script):
+    """Mounts a commit of these contents with little memory for them. The daemon has mounts of its own, which a script makes."""
+    path = repository_of(room, contents)
+    plain = room.run
+
+    def run(word, *words, **streams):
+        if word != "daemon":
+            return plain(word, *words, **streams)
+        program, room.program = room.program, shutil.which("unshare")
+        try:
+            return plain("--mount", "sh", "-c", f'{script} && exec "$0" "$@"', program, word, *words, **streams)
+        finally:
+            room.program = program
+
+    room.run = run
+    mount = Mount(room, "--cache", "1", tree=("--git", path))
+    room.run = plain
+    return mount
+
+
+@row
+def names_that_others_took_are_in_no_way(room):
+    """Another user took names in the folders of large files: these are read all the same."""
+    content = random.Random(6).randbytes(LARGE_OF_UNPROVED)
+    taken = "/tmp/edend-blob-0"
+    names = 'mount -t tmpfs none /var/tmp && for at in $(seq 0 200); do touch "/var/tmp/edend-blob-$at"; done'
+    with open(taken, "w"):
+        mount = mounted_with(room, {"large": content}, names)
+    try:
+        reads(mount, {"large": content})
+    finally:
+        os.unlink(taken)
+    mount.unmount()
+    same(mount.daemon.said(), "")
+
+
+@row
+def a_folder_that_is_read_only_is_passed_over(room):
+    """Where /var/tmp is read-only, a large file goes to /tmp."""
+    content = random.Random(6).randbytes(LARGE_OF_UNPROVED)
+    mount = mounted_with(room, {"large": content}, "mount -t tmpfs -o ro none /var/tmp")
+    reads(mount, {"large": content})
+    mount.unmount()
+    same(mount.daemon.said(), "")
+
+
+@row
+def a_disk_that_is_full_fails_large_files_alone(room):
+    """The disk has no room for a large file: reading that ends by EIO, and it is said. Small files are read, and so is the large
+    one once there is room."""
+    contents = {"large": random.Random(6).randbytes(LARGE_OF_UNPROVED), "small": b"some bytes\n"}
+    mount = mounted_with(room, contents, "mount -t tmpfs -o size=1m none /var/tmp")
+    reads(mount, {"large": errno.EIO, "small": contents["small"]})
+    enter = ["nsenter", "-t", str(mount.daemon.pid), "-m", "mount", "-o", "remount,size=9m", "/var/tmp"]
+    same(run_to_end(enter)[0], 0)
+    reads(mount, contents)
+    ends_with(mount, "edend: cannot read large: it cannot be kept in a file: No space left on device (os error 28)\n")
 
 
 def reads_by_dice(mount, contents):
