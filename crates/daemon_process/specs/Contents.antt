@@ -2,6 +2,7 @@
 use Rattle.std.specs.Prelude.{◌≡◌, ℕ, List, Result, Err}
 use Rattle.fuse_wire.specs.declared.reply.Extent.{Extent}
 use Rattle.blob_store.specs.FileBlobs.{ReadsFiles}
+use Rattle.git_blobs.specs.Serving.{ReadsCommit}
 use Rattle.blob_store.specs.declared.blob_store.BlobFault.{BlobFault}
 use Rattle.blob_store.specs.declared.blob_store.BlobFault.TheVariants.{Failed}
 use Rattle.daemon_process.specs.declared.contents.Contents.{Contents}
@@ -11,4 +12,5 @@ use Rattle.daemon_process.specs.declared.contents.Contents.TheVariants as of
 abbrev pub ReadsContents : {R : Type 0} → Contents R → Extent → Result (List ℕ) BlobFault → Type 0
 ReadsContents of.None extent result = result ≡ Err Failed
 ReadsContents (of.Directory files) extent result = ReadsFiles files.manifest extent result
-ReadsContents (of.Repository blobs) extent result = ReadsFiles blobs.manifest extent result
+ReadsContents (of.Repository blobs) extent result =
+    ReadsCommit blobs.manifest blobs.names blobs.objects extent result

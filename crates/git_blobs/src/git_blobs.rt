@@ -1,6 +1,7 @@
 //! The blobs of a commit's files.
 ghost use Rattle.std.specs.Prelude.{◌≡◌, length, IfOk, OnOk};
-ghost use Rattle.blob_store.specs.FileBlobs.{IsWithin, ReadsFiles};
+ghost use Rattle.blob_store.specs.FileBlobs.{IsWithin};
+ghost use Rattle.git_blobs.specs.Serving.{IsOfObject, ReadsCommit};
 
 use blob_store::{BlobFault, BlobStore, FailureNotes, line_within};
 use fuse_wire::{Buffer, Extent};
@@ -32,6 +33,8 @@ impl<'a, R: Clock + Wait> GitBlobs<'a, R> {
         failures: FailureNotes,
     ) -> GitBlobs<'a, R>
         ensures manifest { result.manifest ≡ manifest }
+        ensures names { result.names ≡ names }
+        ensures objects { result.objects ≡ objects }
     {
         GitBlobs {
             rt,
@@ -46,6 +49,7 @@ impl<'a, R: Clock + Wait> GitBlobs<'a, R> {
     fn fetch(&self, alloc: Global, extent: &Extent) -> Result<Buffer, ObjectFault>
         ensures within { OnOk result (IsWithin self.now.manifest extent.now) }
         ensures whole { IfOk result (λ bytes. length bytes ≡ extent.now.len) }
+        ensures object { IfOk result (IsOfObject self.now.names self.now.objects extent.now) }
     {
         let Some(line) = line_within(&self.manifest, extent) else {
             return Err(ObjectFault::Beyond);
@@ -69,7 +73,7 @@ impl<'a, R: Clock + Wait> GitBlobs<'a, R> {
 }
 
 impl<R: Clock + Wait> BlobStore for GitBlobs<'_, R> {
-    ghost reads = { λ store extent result. ReadsFiles store.manifest extent result };
+    ghost reads = { λ store extent result. ReadsCommit store.manifest store.names store.objects extent result };
 
     fn read(&self, alloc: Global, extent: &Extent) -> Result<Buffer, BlobFault> {
         match self.fetch(alloc, extent) {

@@ -1,0 +1,24 @@
+-- What a read of a commit's files gives.
+use Rattle.std.specs.Prelude.{◌≡◌, ◌+◌, ◌≤◌, ℕ, List, Some, Result, Ok, Err, ⊤}
+use Rattle.fuse_wire.specs.declared.reply.Extent.{Extent}
+use Rattle.git_objects.specs.Reading.{IsRead}
+use Rattle.git_tree.specs.GitObject.{object_at}
+use Rattle.git_tree.specs.declared.object_id.ObjectId.{ObjectId}
+use Rattle.blob_store.specs.FileBlobs.{IsWithin}
+use Rattle.blob_store.specs.declared.blob_store.BlobFault.{BlobFault}
+use Rattle.manifest.specs.Manifest.{Manifest}
+
+-- The bytes are that part of the object that the commit names for the file, which has some size. Blobs are kept within this
+-- bound, and of one that is too large for memory the bytes are unknown.
+pub record IsOfObject (names : List ObjectId) (bound : ℕ) (extent : Extent) (bytes : List ℕ) : Type 0 where
+  pub name : ObjectId
+  pub size : ℕ
+  pub is_name : object_at names extent.file ≡ Some name
+  pub is_within : extent.offset + extent.len ≤ size
+  pub is_read : IsRead bound (record { object = name.0; size = size; offset = extent.offset; len = extent.len }) bytes
+
+-- What a read gives: bytes only of an extent that the manifest has, and of the file's object. Why it gives none is unknown
+-- before git is asked.
+abbrev pub ReadsCommit : Manifest → List ObjectId → ℕ → Extent → Result (List ℕ) BlobFault → Type 0
+ReadsCommit manifest names bound extent (Ok bytes) = IsWithin manifest extent × IsOfObject names bound extent bytes
+ReadsCommit manifest names bound extent (Err fault) = ⊤
