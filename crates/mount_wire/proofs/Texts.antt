@@ -6,6 +6,6 @@ use Rattle.fuse_wire.proofs.Lengths.{length-u32_bytes, length-i32_bytes, length-
 
 pub ruleset texts = (append_assoc, append-nil, length-append, length-u32_bytes, length-i32_bytes, length-u64_bytes, length-zeros)
 
--- the first of sixty zero bytes
-pub zeros_in_zeros : (count : ℕ) → count ≤ 60 → take {A = ℕ} count (replicate 60 0) ≡ replicate count 0
-zeros_in_zeros count le = take-replicate count 60 0 le
+-- the first of 104 zero bytes
+pub zeros_in_zeros : (count : ℕ) → count ≤ 104 → take {A = ℕ} count (replicate 104 0) ≡ replicate count 0
+zeros_in_zeros count le = take-replicate count 104 0 le

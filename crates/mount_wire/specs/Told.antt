@@ -1,13 +1,16 @@
 -- A daemon's answer as the kernel is told it. A daemon tells neither blocks nor times nor an owner, nor how long the kernel
 -- may keep what it is told. These stand as zeros in its reply, and the program that mounts puts them in (linux/fuse.h:
--- fuse_entry_out, fuse_attr_out, fuse_attr).
-use Rattle.std.specs.Prelude.{ℕ, ◌+◌, Bool, true, false, List, ◌++◌, take, drop, Option, Some, None}
+-- fuse_entry_out, fuse_attr_out, fuse_attr). It also says what the kernel may keep of what is not there, and of a listing.
+use Rattle.std.specs.Prelude.{ℕ, ◌+◌, ◌==◌, ◌&&◌, nat_lt, pos, Bool, true, false, List, ◌++◌, length, take, drop, Option, Some, None, if◌then◌else◌}
 use Rattle.std.specs.Int.{div_ceil}
 use Rattle.eden_base.specs.declared.errno.Errno.{Errno}
+use Rattle.eden_base.specs.declared.errno.Errno.TheVariants.{ENOENT}
 use Rattle.fuse_wire.specs.declared.reply.Answer.{Answer}
-use Rattle.fuse_wire.specs.declared.reply.Answer.TheVariants.{Entry, Opened, Attrs, Error}
-use Rattle.fuse_wire.specs.Field.{u32_bytes, u64_bytes}
-use Rattle.fuse_wire.specs.ReplyText.{reply_text}
+use Rattle.fuse_wire.specs.declared.reply.Answer.TheVariants.{Entry, Opened, Attrs, Buffer, Error}
+use Rattle.fuse_wire.specs.Field.{u32_bytes, u64_bytes, zeros}
+use Rattle.fuse_wire.specs.ReplyText.{reply_header, reply_text}
+use Rattle.mount_wire.specs.declared.kept.Kept.{Kept}
+use Rattle.mount_wire.specs.declared.kept.Kept.TheVariants.{Told, Absence, Listing, NoListing}
 use Rattle.mount_wire.specs.declared.mount_reply.ReplyKind.{ReplyKind}
 use Rattle.mount_wire.specs.declared.mount_reply.ReplyKind.TheVariants.{Short, Long}
 use Rattle.mount_wire.specs.declared.told_answer.FileOwner.{FileOwner}
@@ -84,6 +87,37 @@ completed text None own = text
 abbrev pub told_text : ℕ → Answer → MountAttributes → List ℕ
 told_text unique answer own =
     completed (reply_text (record { unique = unique; answer = answer })) (attributes_told answer) own
+
+-- an answer says that a name is not there
+abbrev pub is_absence : Answer → Bool
+is_absence (Error ENOENT) = true
+is_absence answer = false
+
+-- the reply with this unique that a name is not there, which the kernel may keep for as many seconds: an entry of the number
+-- 0 (linux/fuse.h: nodeid and entry_valid of fuse_entry_out; fuse_lookup_name in fs/fuse/dir.c of Linux)
+abbrev pub absence_text : ℕ → ℕ → List ℕ
+absence_text unique seconds = reply_header 144 (pos 0) unique ++ zeros 16 ++ u64_bytes seconds ++ zeros 104
+
+-- an answer has no bytes, which is the end of a listing where a READDIR asked for more
+abbrev pub is_end : Answer → Bool
+is_end (Buffer bytes) = length bytes == 0
+is_end answer = false
+
+-- The reply with this unique that a listing is at its end, but is not to be kept: eight bytes, which is less than an entry
+-- has. By a reply without bytes the kernel takes what it kept of the directory for the whole of it (fuse_readdir_uncached
+-- and parse_dirfile in fs/fuse/readdir.c of Linux).
+abbrev pub unkept_end_text : ℕ → List ℕ
+unkept_end_text unique = reply_header 24 (pos 0) unique ++ zeros 8
+
+-- the text of the reply with this unique that tells an answer, by what the kernel may keep of it; where nothing is valid it
+-- may keep neither that a name is not there nor a listing
+abbrev pub told_by : Kept → ℕ → Answer → MountAttributes → List ℕ
+told_by Told unique answer own = told_text unique answer own
+told_by Absence unique answer own =
+    if nat_lt 0 own.valid && is_absence answer then absence_text unique own.valid else told_text unique answer own
+told_by Listing unique answer own =
+    if own.valid == 0 && is_end answer then unkept_end_text unique else told_text unique answer own
+told_by NoListing unique answer own = if is_end answer then unkept_end_text unique else told_text unique answer own
 
 -- the text of the reply with this unique that tells an error
 abbrev pub error_text : ℕ → Errno → List ℕ

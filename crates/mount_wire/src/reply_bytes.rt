@@ -25,7 +25,7 @@ impl Model for ReplyBytes {
 }
 
 /// As many zero bytes as the longest run of them in a reply.
-const ZEROS: [u8; 60] = [0; 60];
+const ZEROS: [u8; 104] = [0; 104];
 
 impl ReplyBytes {
     /// The length of a reply's header, in bytes (`struct fuse_out_header`).
@@ -92,7 +92,7 @@ impl ReplyBytes {
     /// Appends `count` bytes that are 0.
     #[tactic(auto, using(crate::proofs::Texts::zeros_in_zeros), unfolding(fuse_wire::specs::Field::zeros))]
     pub(crate) fn put_zeros(&mut self, count: usize)
-        requires few { count ≤ 60 }
+        requires few { count ≤ 104 }
         requires room { length self.old + count ≤ 160 }
         ensures put { self.new ≡ self.old ++ zeros count }
         ensures len { length self.new ≡ length self.old + count }

@@ -1,10 +1,10 @@
 //! A daemon's answer, as the kernel is told it.
 ghost use Rattle.std.specs.Prelude.{◌≡◌, ◌+◌, ◌≤◌, ◌++◌, length, false, true, IfOk, OnErr};
-ghost use Rattle.mount_wire.specs.Told.{attributes_told, blocks_at, error_text, filled, front_told, owner_text, told_text, validity, validity_at, validity_len, with_own};
+ghost use Rattle.mount_wire.specs.Told.{absence_text, attributes_told, blocks_at, error_text, filled, front_told, is_absence, is_end, owner_text, told_by, told_text, unkept_end_text, validity, validity_at, validity_len, with_own};
 ghost use Rattle.fuse_wire.specs.declared.reply.Answer.TheVariants.{Buffer as ABuffer};
 ghost use Rattle.fuse_wire.specs.ReplyText.{is_buffer, reply_text};
 
-use crate::{MountReply, ReplyBytes};
+use crate::{Kept, MountReply, ReplyBytes};
 use eden_base::{Errno, NoMemory};
 use fuse_wire::{Answer, Buffer, MAX_REPLY_LEN, Reply, write_reply};
 use std::alloc::Global;
@@ -43,6 +43,21 @@ pub(crate) struct Shown {
 /// The size of the blocks in which `st_blocks` counts, in bytes.
 const BLOCK: u64 = 512;
 
+/// The length of a whole reply with an entry, in bytes: the header, and `struct fuse_entry_out`.
+const ENTRY_LEN: u32 = 144;
+
+/// The length in bytes of the fields of `struct fuse_entry_out` before entry_valid: nodeid, generation.
+const NUMBERS_LEN: usize = 16;
+
+/// The length in bytes of the fields after it: attr_valid, the nanoseconds of both, and the attributes.
+const REST_LEN: usize = 104;
+
+/// The length of the whole reply at the end of a listing that is not kept, in bytes: the header, and less than an entry.
+const UNKEPT_END_LEN: u32 = 24;
+
+/// The length in bytes of what stands behind that header.
+const NO_ENTRY_LEN: usize = 8;
+
 /// The length in bytes of these fields of `struct fuse_attr`: blocks, atime, mtime, ctime and their nanoseconds.
 const BLOCKS_AND_TIMES_LEN: usize = 44;
 
@@ -56,10 +71,32 @@ const OWNER_LEN: usize = 8;
 /// and `ino` and `size` of `struct fuse_attr`.
 const NANOSECONDS_TO_SIZE_LEN: usize = 24;
 
-/// Returns the reply with this `unique` that tells `answer`. A daemon tells neither blocks nor times, no owner, and not how
-/// long the kernel may keep the reply. So they are put in: the blocks follow from the size, and the others are those of the
-/// mount, `own`. Only a buffer that came by no frame takes memory.
+/// Returns the reply with this `unique` that tells `answer`, of which the kernel may keep what `kept` says. A daemon tells
+/// neither blocks nor times, no owner, and not how long the kernel may keep the reply. So they are put in: the blocks follow
+/// from the size, and the others are those of the mount, `own`. Only a buffer that came by no frame takes memory.
 pub fn tell_answer(
+    alloc: Global,
+    unique: u64,
+    answer: Answer,
+    kept: Kept,
+    own: &MountAttributes,
+) -> Result<MountReply, NoMemory>
+    ensures text { IfOk result (λ reply. reply ≡ told_by kept unique answer own.now) }
+    ensures lacks { OnErr result (is_buffer answer ≡ true) }
+{
+    let short = match kept {
+        Kept::Absence if own.valid > 0 && is_absence(&answer) => tell_absence(unique, own.valid),
+        Kept::Listing if own.valid == 0 && is_end(&answer) => tell_unkept_end(unique),
+        Kept::NoListing if is_end(&answer) => tell_unkept_end(unique),
+        Kept::Told | Kept::Absence | Kept::Listing | Kept::NoListing => {
+            return tell_whole(alloc, unique, answer, own);
+        }
+    };
+    Ok(MountReply::short(short))
+}
+
+/// Returns the reply with this `unique` that tells `answer`, with what is put in.
+fn tell_whole(
     alloc: Global,
     unique: u64,
     answer: Answer,
@@ -72,6 +109,45 @@ pub fn tell_answer(
         Answer::Buffer(buffer) => tell_buffer(alloc, unique, buffer),
         answer => Ok(MountReply::short(tell_fixed(unique, answer, own))),
     }
+}
+
+/// Returns whether an `answer` says that a name is not there.
+fn is_absence(answer: &Answer) -> bool
+    ensures absence { result ≡ is_absence answer.now }
+{
+    matches!(answer, Answer::Error(Errno::ENOENT))
+}
+
+/// Returns the reply with this `unique` that a name is not there, which the kernel may keep for as many `seconds`.
+#[tactic(auto, using(crate::proofs::Texts::texts))]
+fn tell_absence(unique: u64, seconds: u64) -> ReplyBytes
+    ensures text { result ≡ absence_text unique seconds }
+{
+    let mut reply = ReplyBytes::with_header(ENTRY_LEN, 0, unique);
+    reply.put_zeros(NUMBERS_LEN);
+    reply.put_u64(seconds);
+    reply.put_zeros(REST_LEN);
+    reply
+}
+
+/// Returns whether an `answer` has no bytes.
+fn is_end(answer: &Answer) -> bool
+    ensures end { result ≡ is_end answer.now }
+{
+    match answer {
+        Answer::Buffer(buffer) => buffer.as_slice().is_empty(),
+        _ => false,
+    }
+}
+
+/// Returns the reply with this `unique` that a listing is at its end, which the kernel doesn't take for a whole one.
+#[tactic(auto, using(crate::proofs::Texts::texts))]
+fn tell_unkept_end(unique: u64) -> ReplyBytes
+    ensures text { result ≡ unkept_end_text unique }
+{
+    let mut reply = ReplyBytes::with_header(UNKEPT_END_LEN, 0, unique);
+    reply.put_zeros(NO_ENTRY_LEN);
+    reply
 }
 
 /// Returns the reply with this `unique` that tells an answer which is a `buffer`.

@@ -6,9 +6,10 @@
 //! `kernel items BYTES`: the items of a batch of forgets, each as the 16 bytes that it has there.
 //! `kernel read BYTES`: what becomes of a message: `asked UNIQUE REQUEST`, `forgot N K`, `forgot_many`, `ignored`, or the
 //! bytes of a reply. `kernel error UNIQUE ERRNO`, `kernel tell UNIQUE SECONDS NANOSECONDS USER GROUP VALID ANSWER`: the bytes of
-//! that reply.
+//! that reply. `kernel tell-absence ..`, `kernel tell-listing ..` and `kernel tell-no-listing ..`: the same, by what
+//! the kernel may keep of it.
 use mount_wire::{
-    Agreement, BatchReader, FileOwner, KernelMessage, KernelMessageFault, MountAttributes,
+    Agreement, BatchReader, FileOwner, Kept, KernelMessage, KernelMessageFault, MountAttributes,
     MountTime, Offer, RequestHeader, Responder, agree, answer_init, answer_statfs, read_header,
     read_message, read_offer, responder_of, tell_answer, tell_error,
 };
@@ -23,14 +24,17 @@ enum KernelCall {
     Responder,
     Statfs,
     Error,
-    Tell,
+    Tell(Kept),
 }
 
-static KERNEL_CALLS: [(&str, KernelCall); 4] = [
+static KERNEL_CALLS: [(&str, KernelCall); 7] = [
     ("responder", KernelCall::Responder),
     ("statfs", KernelCall::Statfs),
     ("error", KernelCall::Error),
-    ("tell", KernelCall::Tell),
+    ("tell", KernelCall::Tell(Kept::Told)),
+    ("tell-absence", KernelCall::Tell(Kept::Absence)),
+    ("tell-listing", KernelCall::Tell(Kept::Listing)),
+    ("tell-no-listing", KernelCall::Tell(Kept::NoListing)),
 ];
 
 /// How many items a message may have.
@@ -210,13 +214,13 @@ fn read_attributes(words: &mut Words<'_>) -> MountAttributes {
     }
 }
 
-/// Tells an answer.
-fn call_tell(words: &mut Words<'_>, output: &mut Output) -> Result<(), RowFault> {
+/// Tells an answer, of which the kernel may keep what `kept` says.
+fn call_tell(words: &mut Words<'_>, kept: Kept, output: &mut Output) -> Result<(), RowFault> {
     let alloc = words.alloc();
     let unique = words.number();
     let own = read_attributes(words);
     let answer = read_answer(words)?;
-    output.bytes(tell_answer(alloc, unique, answer, &own)?.as_slice());
+    output.bytes(tell_answer(alloc, unique, answer, kept, &own)?.as_slice());
     Ok(())
 }
 
@@ -230,7 +234,7 @@ pub(crate) fn call_kernel(words: &mut Words<'_>, output: &mut Output) -> Result<
             let unique = words.number();
             output.bytes(tell_error(unique, read_errno(words)).as_slice());
         }
-        Some(KernelCall::Tell) => return call_tell(words, output),
+        Some(KernelCall::Tell(kept)) => return call_tell(words, kept, output),
         None => return call_message(word, words, output),
     }
     words.end()
