@@ -1,3 +1,4 @@
+pub mod Changed
 pub mod Desk
 pub mod Forgets
 pub mod Inside

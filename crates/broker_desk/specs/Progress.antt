@@ -13,22 +13,21 @@ use Rattle.mount_wire.specs.declared.message.KernelMessage.TheVariants.{Answered
 use Rattle.broker_core.specs.Broker.{IsIssueRefusal}
 use Rattle.broker_core.specs.declared.broker.IssueFault.TheVariants as issue
 use Rattle.broker_desk.specs.Forgets.{IsForgotten}
-use Rattle.broker_desk.specs.Kernel.{IsAsked, IsAskRefused, IsKept}
+use Rattle.broker_desk.specs.Kernel.{IsAsked, IsAskRefused, IsKept, KernelState}
 use Rattle.broker_desk.specs.declared.progress.Progress.{Progress}
 use Rattle.broker_desk.specs.declared.progress.Progress.TheVariants.{Done, Answers, Leaves, NotMounted}
-use Rattle.broker_desk.specs.declared.pair.Pair.{Pair}
 
 -- ---- asks
 
 -- an ask is issued; or it goes to a number that the kernel doesn't hold, and is answered ESTALE here; or it is left
 -- whole; or the mount is over
-abbrev pub HearsAsk : DeskState → List Pair → Ask → Progress → DeskState → List Pair → Type 0
-HearsAsk old pairs ask Done new after = IsAsked old pairs ask new after
-HearsAsk old pairs ask (Answers text) new after =
-    (text ≡ error_text ask.unique ESTALE) × IsAskRefused old pairs ask issue.NotHeld new after
-HearsAsk old pairs ask (Leaves message) new after =
-    (message ≡ Asked ask) × (IsAskRefused old pairs ask issue.Full new after ⊎ IsAskRefused old pairs ask issue.NoMemory new after)
-HearsAsk old pairs ask NotMounted new after = IsAskRefused old pairs ask issue.NotMounted new after
+abbrev pub HearsAsk : DeskState → KernelState → Ask → Progress → DeskState → KernelState → Type 0
+HearsAsk old kernel ask Done new after = IsAsked old kernel ask new after
+HearsAsk old kernel ask (Answers text) new after =
+    (text ≡ error_text ask.unique ESTALE) × IsAskRefused old kernel ask issue.NotHeld new after
+HearsAsk old kernel ask (Leaves message) new after =
+    (message ≡ Asked ask) × (IsAskRefused old kernel ask issue.Full new after ⊎ IsAskRefused old kernel ask issue.NoMemory new after)
+HearsAsk old kernel ask NotMounted new after = IsAskRefused old kernel ask issue.NotMounted new after
 
 -- ---- forgets
 
@@ -59,12 +58,12 @@ HearsItems (item ∷ items) old progress new =
 -- ---- whole messages
 
 -- a message; one that no daemon hears of changes nothing, and its answer is what it came with
-abbrev pub HearsMessage : DeskState → List Pair → KernelMessage → Progress → DeskState → List Pair → Type 0
-HearsMessage old pairs (Answered text) progress new after = (progress ≡ Answers text) × IsKept old pairs new after
-HearsMessage old pairs (Asked ask) progress new after = HearsAsk old pairs ask progress new after
-HearsMessage old pairs (Forgot item) progress new after = HearsItem old item progress new × (after ≡ pairs)
-HearsMessage old pairs (ForgotMany items) progress new after = HearsItems items old progress new × (after ≡ pairs)
-HearsMessage old pairs Ignored progress new after = (progress ≡ Done) × IsKept old pairs new after
+abbrev pub HearsMessage : DeskState → KernelState → KernelMessage → Progress → DeskState → KernelState → Type 0
+HearsMessage old kernel (Answered text) progress new after = (progress ≡ Answers text) × IsKept old kernel new after
+HearsMessage old kernel (Asked ask) progress new after = HearsAsk old kernel ask progress new after
+HearsMessage old kernel (Forgot item) progress new after = HearsItem old item progress new × (after ≡ kernel)
+HearsMessage old kernel (ForgotMany items) progress new after = HearsItems items old progress new × (after ≡ kernel)
+HearsMessage old kernel Ignored progress new after = (progress ≡ Done) × IsKept old kernel new after
 
 -- what is left may be heard again
 abbrev pub LeavesForDaemons : Progress → Type 0

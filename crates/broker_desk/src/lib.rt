@@ -2,6 +2,7 @@
 //! kernel's messages there.
 #![tactic(auto)]
 
+mod changed;
 mod desk;
 mod forgets;
 mod kernel;

@@ -10,7 +10,9 @@
 //! `desk issue REQUEST`: the unique, or none for a forget, or the fault.
 //! `desk deliver`: unique and answer, or the fault.
 //! `mount ask U REQUEST`: ok, or the fault. The kernel asks by a unique of its own.
-//! `mount deliver`: unique and answer; or `unasked` and the answer; or the fault.
+//! `mount deliver`: unique and answer; or `unasked` and the answer; or the fault. `mount deliver-kept`: the same, behind what the
+//! kernel may keep of the answer: `told`, `absence`, `listing` or `no-listing`.
+//! `mount let-go`: ok. Where the kernel holds the next one of the directories that changed no more, it counts so no more.
 //! `mount forget N K`, `mount take-back ANSWER`: ok, or the fault.
 //! `mount hear BYTES`: `done`, `answers BYTES`, `leaves ask U`, `leaves K` for K forgets, or NotMounted.
 use crate::broker_calls::{tell_delivered, tell_issued, tell_reply};
@@ -22,7 +24,7 @@ use byte_codec::Bytes;
 use eden_base::Number;
 use frames::Frame;
 use fuse_wire::{Ask, Item, MAX_REPLY_LEN, Reply, write_reply};
-use mount_wire::{BatchReader, KernelMessage, read_message};
+use mount_wire::{BatchReader, Kept, KernelMessage, read_message};
 use row_words::{
     Output, RowFault, Words, chosen, read_answer, read_request, tell_answer, tell_request,
     tell_wire_fault,
@@ -70,14 +72,18 @@ static DESK_CALLS: [(&str, DeskCall); 6] = [
 enum MountCall {
     Ask,
     Deliver,
+    DeliverKept,
+    LetGo,
     Forget,
     TakeBack,
     Hear,
 }
 
-static MOUNT_CALLS: [(&str, MountCall); 5] = [
+static MOUNT_CALLS: [(&str, MountCall); 7] = [
     ("ask", MountCall::Ask),
     ("deliver", MountCall::Deliver),
+    ("deliver-kept", MountCall::DeliverKept),
+    ("let-go", MountCall::LetGo),
     ("forget", MountCall::Forget),
     ("take-back", MountCall::TakeBack),
     ("hear", MountCall::Hear),
@@ -225,11 +231,23 @@ fn tell_accepted(output: &mut Output, accepted: Result<(), IssueFault>) -> Calle
 /// Writes what was delivered.
 fn tell_brought(output: &mut Output, delivered: Delivered) {
     match delivered {
-        Delivered::Reply(reply) => tell_reply(output, &reply),
+        Delivered::Reply(reply, _) => tell_reply(output, &reply),
         Delivered::Unasked(answer) => {
             output.word("unasked");
             tell_answer(output, &answer);
         }
+    }
+}
+
+/// Writes what the kernel may keep of an answer.
+fn tell_kept(output: &mut Output, delivered: &Result<Delivered, DeliverFault>) {
+    if let Ok(Delivered::Reply(_, kept)) = delivered {
+        output.word(match kept {
+            Kept::Told => "told",
+            Kept::Absence => "absence",
+            Kept::Listing => "listing",
+            Kept::NoListing => "no-listing",
+        });
     }
 }
 
@@ -320,5 +338,15 @@ pub(crate) fn call_mount(
             tell_accepted(output, mount.desk.take_back(answer.given_out()))
         }
         MountCall::Deliver => tell_delivery(output, mount.kernel.deliver(&mut mount.desk)),
+        MountCall::DeliverKept => {
+            let delivered = mount.kernel.deliver(&mut mount.desk);
+            tell_kept(output, &delivered);
+            tell_delivery(output, delivered)
+        }
+        MountCall::LetGo => {
+            mount.kernel.let_go(&mount.desk);
+            output.word("ok");
+            words.end()
+        }
     }
 }
