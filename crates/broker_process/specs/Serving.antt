@@ -4,7 +4,7 @@ use Rattle.broker_desk.specs.Desk.{DeskState}
 use Rattle.broker_desk.specs.Progress.{HearsMessage}
 use Rattle.broker_desk.specs.declared.progress.Progress.{Progress}
 use Rattle.broker_desk.specs.declared.progress.Progress.TheVariants.{Done, Answers, Leaves, NotMounted}
-use Rattle.broker_desk.specs.declared.pair.Pair.{Pair}
+use Rattle.broker_desk.specs.Kernel.{KernelState}
 use Rattle.mount_wire.specs.Message.{Reads}
 use Rattle.mount_wire.specs.declared.message.KernelMessage.{KernelMessage}
 use Rattle.broker_process.specs.Device.{ReadsDevice}
@@ -27,8 +27,8 @@ use Rattle.broker_process.specs.declared.reply_write.Written.TheVariants as writ
 -- a message was heard as far as it could be, over some state of the desk
 abbrev pub IsHeard : KernelMessage → Progress → Type 0
 IsHeard message progress =
-    (old : DeskState) × (pairs : List Pair) × (new : DeskState) × (after : List Pair)
-    × HearsMessage old pairs message progress new after
+    (old : DeskState) × (kernel : KernelState) × (new : DeskState) × (after : KernelState)
+    × HearsMessage old kernel message progress new after
 
 -- nothing is left of the message
 abbrev pub IsEnd : Progress → Type 0

@@ -13,7 +13,7 @@ use broker_core::IssueFault;
 use broker_desk::Progress;
 use eden_base::{Errno, NoMemory, Number};
 use fuse_wire::Reply;
-use mount_wire::{KernelMessage, MountAttributes, read_message, tell_answer, tell_error};
+use mount_wire::{Kept, KernelMessage, MountAttributes, read_message, tell_answer, tell_error};
 use std::fs::File;
 use std::io::{self, Read, Write};
 use std::process::Processes;
@@ -145,8 +145,8 @@ impl<R: Wait + Clock> MountService<'_, R> {
                 NextWrite::Over => return Delivery::Over,
                 NextWrite::Gone => return Delivery::Gone,
                 NextWrite::Unasked(answer) => self.take_back(answer.given_out()),
-                NextWrite::Reply(reply) => {
-                    if !self.deliver(&mut device, reply) {
+                NextWrite::Reply(reply, kept) => {
+                    if !self.deliver(&mut device, reply, kept) {
                         return Delivery::Refused;
                     }
                 }
@@ -155,14 +155,14 @@ impl<R: Wait + Clock> MountService<'_, R> {
         unreachable!()
     }
 
-    /// Writes one reply to the kernel, and forgets its number where the kernel did not take it. Returns whether the
-    /// device takes replies. Where memory for a buffer is refused, the program gets ENOMEM.
-    fn deliver(&self, device: &mut File, reply: Reply) -> bool {
+    /// Writes one reply to the kernel, of which that may keep what `kept` says, and forgets its number where the kernel did
+    /// not take it. Returns whether the device takes replies. Where memory for a buffer is refused, the program gets ENOMEM.
+    fn deliver(&self, device: &mut File, reply: Reply, kept: Kept) -> bool {
         let (rt, alloc) = (self.context.rt, self.context.alloc);
         let Reply { unique, answer } = reply;
         let given = answer.given_out();
         let error = tell_error(unique, Errno::EIO);
-        let written = match tell_answer(alloc, unique, answer, &self.own) {
+        let written = match tell_answer(alloc, unique, answer, kept, &self.own) {
             Ok(text) => {
                 let texts = Texts {
                     reply: text.as_slice(),

@@ -14,7 +14,7 @@ use eden_base::Number;
 use fuse_wire::{Answer, Reply};
 use links::Frame;
 use monitor::Look;
-use mount_wire::KernelMessage;
+use mount_wire::{Kept, KernelMessage};
 use std::rt::Clock;
 use std::sync::Wait;
 use std::time::{Duration, Instant};
@@ -22,8 +22,8 @@ use std::time::{Duration, Instant};
 /// The next write to the kernel: a reply, or why there is none.
 #[derive(Drop)]
 pub(crate) enum NextWrite {
-    /// A reply, with the unique of the kernel's ask.
-    Reply(Reply),
+    /// A reply, with the unique of the kernel's ask, and what the kernel may keep of it.
+    Reply(Reply, Kept),
     /// Nothing, but the answer to an ask that the kernel didn't make has to be taken back.
     Unasked(Answer),
     /// Nothing yet.
@@ -43,7 +43,7 @@ impl NextWrite {
         match self {
             NextWrite::Nothing => Look::of(None),
             NextWrite::NoMemory => Look::Again(Duration::from_millis(PAUSE)),
-            NextWrite::Reply(_) | NextWrite::Unasked(_) | NextWrite::Over | NextWrite::Gone =>
+            NextWrite::Reply(..) | NextWrite::Unasked(_) | NextWrite::Over | NextWrite::Gone =>
                 Look::Found(self),
         }
     }
@@ -52,7 +52,7 @@ impl NextWrite {
 /// Returns what comes next where something was delivered: a reply to write, or an answer to take back.
 fn next_of(delivered: Delivered) -> NextWrite {
     match delivered {
-        Delivered::Reply(reply) => NextWrite::Reply(reply),
+        Delivered::Reply(reply, kept) => NextWrite::Reply(reply, kept),
         Delivered::Unasked(answer) => NextWrite::Unasked(answer),
     }
 }
@@ -163,6 +163,7 @@ impl SharedDesk {
         let is_ask = matches!(message, KernelMessage::Asked(_));
         let mut state = self.state.lock(rt);
         let SharedDeskState { desk, kernel, .. } = &mut *state;
+        kernel.let_go(desk);
         let progress = kernel.hear(desk, message);
         if is_ask {
             state.asked = now;
