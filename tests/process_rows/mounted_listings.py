@@ -1,6 +1,8 @@
 """Rows: programs list what stands in the directories of a mount."""
 import errno
+import itertools
 import os
+import random
 import signal
 import subprocess
 import tempfile
@@ -10,7 +12,8 @@ from process_rows.checks import WAIT, row, same
 from process_rows.getdents import DT_DIR, DT_REG, UNKNOWN_INODE, entries_of, names_of, some_entries, steps
 from process_rows.mounted_beside_tmpfs import TMPFS
 from process_rows.mounted_ends import mounts_anew
-from process_rows.mounts import ASKS_AGAIN, DIRECTORIES, FILES, WORK, Mount, drop_caches, size_of, until
+from process_rows.mounted_validity import waits_for_the_daemon
+from process_rows.mounts import ASKS_AGAIN, CACHES, DIRECTORIES, FILES, WORK, Mount, drop_caches, size_of, until
 from process_rows.rooms import run_to_end
 
 COMMIT = f"commit {'01' * 20}"
@@ -359,11 +362,11 @@ def a_listing_goes_on_behind_a_name_that_is_gone(room):
     """A program lists a part of a directory, the last name that it got is removed, and another program lists the whole. The
     first one goes on, and gets each name that stays. (Where a kernel keeps listings, it may take the position of a name that
     is gone for the end, if what it keeps fills its last page, as 128 entries of 32 bytes do.)"""
-    for count in (126, 127, 128, 255):
+    for count, valid in itertools.product((126, 127, 128, 255), ((), ASKS_AGAIN)):
         names = [f"f{it}" for it in range(count)]
         inner = room.inner()
         inner.write("m", lines_of(["dir a", *(f"file 0644 0 a/{it}" for it in names)]))
-        mount = Mount(inner)
+        mount = Mount(inner, valid=valid)
         lists_all(mount.at("a"), names)
         directory = os.open(mount.at("a"), os.O_RDONLY)
         entries = some_entries(directory, 256)
@@ -448,4 +451,259 @@ def a_listing_waits_for_a_stopped_daemon(room):
     os.kill(mount.daemon.pid, signal.SIGCONT)
     lister.join(WAIT)
     same(sorted(listed), sorted([WORK, *(f"d{it}" for it in range(DIRECTORIES))]))
+    mount.unmount()
+
+
+def lists_at_once(room, mount, directory):
+    """Shows that a program lists a directory while the daemon is stopped."""
+    os.kill(mount.daemon.pid, signal.SIGSTOP)
+    program = room.program_in(f"ls {directory} >/dev/null; [ -d {directory} ]")
+    program.works_on()
+    program.ends()
+    os.kill(mount.daemon.pid, signal.SIGCONT)
+
+
+def listing_waits(room, mount, directory):
+    """Shows that a program which lists a directory waits while the daemon is stopped."""
+    os.kill(mount.daemon.pid, signal.SIGSTOP)
+    waits_for_the_daemon(room, mount, f"ls {directory} >/dev/null")
+
+
+@row
+def a_listing_of_what_nobody_changed_is_kept(room):
+    """A directory that was listed to its end is listed again without a request, also behind takeovers. Once something in it
+    was made or moved it is asked for each time, until the kernel lets the directory go. So is one of which only a part was
+    listed, and each where the kernel keeps nothing."""
+    mount = Mount(room, valid=())
+    with CACHES:
+        names = [f"f{it}" for it in range(FILES)]
+        for _ in range(2):
+            # A listing makes the time of access old, which `ls` wants.
+            lists_all(mount.at("d5"), names)
+            os.stat(mount.at("d5"))
+        for _ in range(2):
+            lists_at_once(room, mount, "d5")
+            mount.take_over()
+        os.rename(mount.at("d5/f1"), mount.at("d6/moved"))
+        names.remove("f1")
+        for _ in range(3):
+            lists_all(mount.at("d5"), names)
+            os.stat(mount.at("d5"))
+            listing_waits(room, mount, "d5")
+        part = os.open(mount.at("d7"), os.O_RDONLY)
+        same(len(some_entries(part, LEAST)) < FILES, True)
+        os.close(part)
+        listing_waits(room, mount, "d7")
+    held = os.stat(mount.at("d5")).st_ino
+    until(lambda: drop_caches() or held not in mount.counts_what_is_held(), "a directory that the kernel let go")
+    with CACHES:
+        for _ in range(2):
+            lists_all(mount.at("d5"), names)
+            os.stat(mount.at("d5"))
+        lists_at_once(room, mount, "d5")
+    mount.unmount()
+    inner = room.inner()
+    mount = Mount(inner)
+    for _ in range(2):
+        lists_all(mount.at("d5"), [f"f{it}" for it in range(FILES)])
+    listing_waits(inner, mount, "d5")
+    mount.unmount()
+
+
+@row
+def a_name_that_was_moved_in_is_listed_behind_a_seek(room):
+    """A program lists a part of a directory, an older file is moved into that part, and the program begins anew. It gets the
+    file, and so it does where it goes back to the entry before it. (A kernel that takes what it kept of both times for one
+    listing would leave the file out: it kept the part from before.)"""
+    for count in (126, 600):
+        inner = room.inner()
+        files = [f"file 0644 0 a/n{it:03}" for it in range(count)]
+        inner.write("m", lines_of(["dir b", "file 0644 0 b/older", "dir a", *files]))
+        mount = Mount(inner, valid=())
+        directory = os.open(mount.at("a"), os.O_RDONLY)
+        same(len(some_entries(directory, 1024)) < count, True)
+        os.rename(mount.at("b/older"), mount.at("a/older"))
+        os.lseek(directory, 0, os.SEEK_SET)
+        entries = [it for step in steps(directory, 1024) for it in step]
+        same(entries[2].name, "older")
+        for at in range(len(entries) - 1):
+            os.lseek(directory, entries[at].offset, os.SEEK_SET)
+            same(some_entries(directory, LEAST)[0].name, entries[at + 1].name)
+        os.close(directory)
+        mount.unmount()
+
+
+class Reader:
+    """A program that lists a directory by steps, goes back, and begins anew. `there` are the names that stood there when it
+    opened the directory or began anew, and stay; `came` those that came or went since."""
+
+    def __init__(self, path):
+        self.path = path
+        self.directory = os.open(path, os.O_RDONLY)
+
+    def begins(self, there):
+        os.lseek(self.directory, 0, os.SEEK_SET)
+        self.there, self.came, self.seen, self.positions = set(there), set(), [], [0]
+        self.position = 0
+
+    def opens(self, there):
+        os.close(self.directory)
+        self.directory = os.open(self.path, os.O_RDONLY)
+        self.begins(there)
+
+    def goes_back(self, dice):
+        self.position = dice.choice(self.positions)
+        os.lseek(self.directory, self.position, os.SEEK_SET)
+        self.seen = []
+
+    def changes(self, name):
+        self.there.discard(name)
+        self.came.add(name)
+
+    def reads(self, dice, offsets):
+        """Reads some entries, and returns them. At the end each name that stays was given once, if it stands behind where this
+        pass began."""
+        entries = some_entries(self.directory, dice.choice((LEAST, 1024, 4096, 32_768)))
+        offsets.update((it.name, it.offset) for it in entries)
+        self.seen += [it.name for it in entries]
+        self.positions += [it.offset for it in entries]
+        if not entries:
+            wanted = {it for it in self.there if not self.position or offsets.get(it, 0) > self.position}
+            same(wanted - set(self.seen), set())
+        given = [it for it in self.seen if it not in self.came]
+        same(sorted(given), sorted(set(given)))
+        return entries
+
+
+def change_by(dice, mount, names, offsets):
+    """Makes, moves or removes a name of two directories, as dice choose, and returns which names came or went. A name is never
+    made anew, and a file that is moved keeps its position."""
+    here, there = dice.sample(sorted(names), 2)
+    name, fresh = dice.choice(sorted(names[here])), f"m{next(MADE):03}"
+    match dice.choice(("make", "remove", "move", "away", "away", "away")):
+        case "make":
+            os.close(os.open(mount.at(f"{here}/{fresh}"), os.O_CREAT | os.O_WRONLY, 0o600))
+            names[here].add(fresh)
+            return {fresh}
+        case "remove":
+            os.unlink(mount.at(f"{here}/{name}"))
+            names[here].remove(name)
+            return {name}
+        case word:
+            to = here if word == "move" else there
+            os.rename(mount.at(f"{here}/{name}"), mount.at(f"{to}/{fresh}"))
+            names[here].remove(name)
+            names[to].add(fresh)
+            offsets[fresh] = offsets.get(name, 0)
+            return {name, fresh}
+
+
+MADE = itertools.count()
+
+
+def turn_by(dice, mount, names, readers, offsets):
+    """Lets one of the readers go on, go back or begin anew, or changes a name, as dice choose."""
+    reader, there = dice.choice(readers), names[min(names)]
+    match dice.randrange(20):
+        case 0 | 1:
+            reader.begins(there)
+        case 2:
+            reader.opens(there)
+        case 3 | 4 | 5:
+            reader.goes_back(dice)
+        case 6 | 7:
+            changed = change_by(dice, mount, names, offsets)
+            for name, it in itertools.product(changed, readers):
+                it.changes(name)
+        case 8 | 9:
+            while reader.reads(dice, offsets):
+                pass
+        case _:
+            reader.reads(dice, offsets)
+
+
+def read_by_dice(dice, mount, names):
+    """Three programs read one directory by turns, while names come, go and move between it and another one."""
+    offsets = {}
+    readers = [Reader(mount.at(min(names))) for _ in range(3)]
+    for it in readers:
+        it.begins(names[min(names)])
+    for _ in range(50):
+        turn_by(dice, mount, names, readers, offsets)
+    for it in readers:
+        os.close(it.directory)
+    for it in names:
+        lists_all(mount.at(it), names[it])
+        lists_all(mount.at(it), names[it])
+
+
+@row
+def readers_that_overlap_get_each_name_that_stays(room):
+    """Three programs list one directory by steps of any length, go back and begin anew, by dice, while names come, go and
+    move, in forty directories one after another. Daemons take over, and the kernel drops what it keeps. Whoever comes to the
+    end got each name that stayed, and none twice."""
+    counts = dict(zip(range(40), itertools.cycle((20, 60, 126, 250))))
+    # The files of two directories by turns, so that one that is moved comes to stand between others.
+    lines = [f"dir {it}{at}" for at in counts for it in "ab"]
+    lines += [f"file 0644 0 {it}{at}/{it}{number:03}" for at, count in counts.items() for number in range(count) for it in "ab"]
+    room.write("m", lines_of(lines))
+    mount = Mount(room, valid=())
+    for at, count in counts.items():
+        read_by_dice(random.Random(at), mount, {f"{it}{at}": {f"{it}{number:03}" for number in range(count)} for it in "ab"})
+        if at % 8 == 7:
+            mount.take_over()
+            drop_caches(with_pages=True)
+    mount.counts_what_is_held()
+    mount.unmount()
+
+
+@row
+def many_handles_of_one_directory_are_closed_in_any_order(room):
+    """A directory is opened 64 times, also by handles that were copied; each is read to its end by steps, and closed, in an
+    order of its own. Each gets every name, the copies together."""
+    dice = random.Random(5)
+    mount = mounted_beside(room, valid=())
+    for _ in range(2):
+        handles = [os.open(mount.at("a"), os.O_RDONLY) for _ in range(64)]
+        given = {it: [] for it in handles}
+        while handles:
+            it = dice.choice(handles)
+            copy = os.dup(it)
+            entries = some_entries(dice.choice((it, copy)), 16_384)
+            os.close(copy)
+            given[it] += entries
+            if not entries:
+                same(names_of(given[it]), stays_of(room))
+                os.close(it)
+                handles.remove(it)
+        mount.take_over()
+    mount.unmount()
+
+
+@row
+def a_kept_listing_tells_the_numbers_of_its_time(room):
+    """A listing that is kept tells the numbers that the kernel held when it asked: none of a file that a program looks at since.
+    `ls`, `du`, `tar` and `rm -r` make of it what they do elsewhere. `find -inum` finds a file by its number only once the
+    listing is asked for again."""
+    names = [f"f{it}" for it in range(FILES)]
+    room.write("m", lines_of(["dir d", "dir e", *(f"file 0644 0 {at}/{it}" for at in "de" for it in names)]))
+    mount = Mount(room, valid=())
+    with CACHES:
+        lists_all(mount.at("d"), names)
+        held = {it: os.open(mount.at(f"d/{it}"), os.O_PATH) for it in names}
+        same(numbers_told(mount.at("d")).keys() - {".", ".."}, set())
+        number = os.fstat(held["f5"]).st_ino
+        found = ["find", mount.at("d"), "-inum", str(number)]
+        same(run_to_end(found, stdout=subprocess.PIPE)[1], b"")
+        for script in ("ls d", "find d -name f5", "du -a d", "tar c d | tar t"):
+            child = run_to_end(["sh", "-c", script], cwd=mount.path, stdout=subprocess.PIPE)
+            same((script, child[0], child[1].decode().count("f5\n")), (script, 0, 1))
+    os.mkdir(mount.at("d/new"))
+    same(run_to_end(found, stdout=subprocess.PIPE)[1].decode(), f"{mount.at('d/f5')}\n")
+    for it in held.values():
+        os.close(it)
+    for it in "de":
+        lists_all(mount.at(it), [*names, *(["new"] if it == "d" else [])])
+        same(run_to_end(["rm", "-r", mount.at(it)])[0], 0)
+    mount.counts_what_is_held()
     mount.unmount()

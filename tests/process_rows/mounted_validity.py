@@ -5,14 +5,19 @@ import signal
 import time
 
 from process_rows.checks import row, same
-from process_rows.mounted_ends import error_of
-from process_rows.mounts import CACHES, DIRECTORIES, FILES, WORK, Mount, drop_caches, size_of, until
+from process_rows.mounted_ends import error_of, mounts_anew
+from process_rows.mounts import CACHES, DIRECTORIES, FILES, WORK, Mount, drop_caches, manifest, size_of, until
+from process_rows.rooms import run_to_end
 
 # A program that nobody keeps waiting makes a round in a small part of this time, in seconds.
 AT_ONCE = 0.5
 # A round of looks at each file of the checkout.
 LOOKS = f"""for d in {" ".join(map(str, range(DIRECTORIES)))}; do
   for f in {" ".join(map(str, range(FILES)))}; do [ -f "d$d/f$f" ]; done
+done"""
+# A round of looks for headers in twelve folders, of which one has them, as a compiler looks.
+HEADERS = """for f in 0 1 2 3 4 5 6 7 8 9 10 11 12 13; do
+  for d in 0 1 2 3 4 5 6 7 8 9 10; do [ ! -e "d$d/h$f" ]; done; [ -e "d11/f$f" ]
 done"""
 
 
@@ -179,4 +184,132 @@ def a_mount_is_valid_for_as_long_as_is_asked(room):
     os.kill(mount.daemon.pid, signal.SIGSTOP)
     time.sleep(1.5)
     waits_for_the_daemon(room, mount, "stat d5/f5 >/dev/null")
+    mount.unmount()
+
+
+def runs_without_the_daemon(room, mount, script):
+    """Shows that a program makes rounds of a script while the daemon is stopped."""
+    os.kill(mount.daemon.pid, signal.SIGSTOP)
+    program = room.program_in(script)
+    program.works_on()
+    program.ends()
+    os.kill(mount.daemon.pid, signal.SIGCONT)
+
+
+@row
+def a_name_that_is_not_there_is_asked_for_once(room):
+    """A program looks for headers in twelve folders, as a compiler does, and another one does so again: the second look costs no
+    request, also behind takeovers. Where the kernel keeps nothing each look is a request."""
+    mount = kept(room)
+    with CACHES:
+        program = room.program_in(HEADERS)
+        program.works_on()
+        program.ends()
+        for _ in range(2):
+            runs_without_the_daemon(room, mount, HEADERS)
+            mount.take_over()
+    mount.counts_what_is_held()
+    mount.unmount()
+    inner = room.inner()
+    mount = Mount(inner)
+    same(error_of(mount.at("d5/none")), errno.ENOENT)
+    os.kill(mount.daemon.pid, signal.SIGSTOP)
+    waits_for_the_daemon(inner, mount, "[ ! -e d5/none ]")
+    mount.unmount()
+
+
+def comes_and_goes(mount, makes, removes, name):
+    """Shows that a name which was not there is there for another program once it was made, and is not there once it was
+    removed."""
+    for _ in range(2):
+        same(error_of(mount.at(name)), errno.ENOENT)
+    makes(mount.at(name))
+    same((error_of(mount.at(name)), run_to_end(["test", "-e", mount.at(name)])[0]), (0, 0))
+    removes(mount.at(name))
+    for _ in range(2):
+        same((error_of(mount.at(name)), run_to_end(["test", "-e", mount.at(name)])[0]), (errno.ENOENT, 1))
+
+
+def makes_file(path):
+    os.close(os.open(path, os.O_CREAT | os.O_EXCL | os.O_WRONLY, 0o600))
+
+
+def opens_or_makes(path):
+    os.close(os.open(path, os.O_CREAT | os.O_RDWR, 0o600))
+
+
+@row
+def a_name_that_comes_is_seen_at_once(room):
+    """The kernel keeps that a name is not there. Once a program makes it, as a file or a directory, or moves a file there from
+    the same directory or another one, each program finds it. Once it is removed or moved away no program does; so before a
+    takeover and behind it."""
+    mount = kept(room)
+    for turn in range(3):
+        other, near = mount.at(f"d7/other{turn}"), mount.at(f"d6/near{turn}")
+        makes_file(other)
+        makes_file(near)
+        name = f"d6/none{turn}"
+        comes_and_goes(mount, makes_file, os.unlink, name)
+        comes_and_goes(mount, opens_or_makes, os.unlink, name)
+        comes_and_goes(mount, os.mkdir, os.rmdir, name)
+        for it in (other, near):
+            comes_and_goes(mount, lambda path, it=it: os.rename(it, path), lambda path, it=it: os.rename(path, it), name)
+        with open(other), open(near):
+            os.replace(near, other)
+        same([error_of(it) for it in (near, other)], [errno.ENOENT, 0])
+        mount.take_over()
+    mount.counts_what_is_held()
+    mount.unmount()
+
+
+@row
+def a_name_below_a_directory_that_moves_is_looked_for_anew(room):
+    """A name is not there in a directory, which is moved or removed and made anew: what stands there then is found, also where
+    the directory's place was taken by another one that has the name."""
+    mount = kept(room)
+    for turn in range(2):
+        one, two = mount.at(f"{WORK}/one{turn}"), mount.at(f"{WORK}/two{turn}")
+        os.mkdir(one)
+        os.mkdir(two)
+        makes_file(f"{two}/name")
+        same([error_of(f"{it}/name") for it in (one, two)], [errno.ENOENT, 0])
+        os.rmdir(one)
+        same(error_of(f"{one}/name"), errno.ENOENT)
+        os.rename(two, one)
+        same([error_of(f"{it}/name") for it in (one, two)], [0, errno.ENOENT])
+        os.mkdir(two)
+        same(error_of(f"{two}/name"), errno.ENOENT)
+        makes_file(f"{two}/name")
+        same(error_of(f"{two}/name"), 0)
+        mount.take_over()
+    mount.counts_what_is_held()
+    mount.unmount()
+
+
+@row
+def a_dead_mount_keeps_what_was_not_there(room):
+    """A daemon is killed: of a name that was not there a program is told so as before, until the kernel drops that. The next
+    mount has nothing of it, and finds what its manifest has there."""
+    mount = kept(room)
+    with CACHES:
+        same(error_of(mount.at("d5/none")), errno.ENOENT)
+        mount.daemon.kill()
+        mount.broker.printed("dead")
+        same(error_of(mount.at("d5/none")) in (errno.ENOENT, errno.ENOTCONN), True)
+    until(lambda: drops(mount.at("d5/none")), "a name that the kernel dropped")
+    room.write("m", manifest() + b"file 0644 0 d5/none\n")
+    mounts_anew(room, mount)
+    same(error_of(mount.at("d5/none")), 0)
+    mount.unmount()
+
+
+@row
+def a_name_is_not_there_for_as_long_as_is_asked(room):
+    """With --valid 1 the kernel asks for a name that was not there again after a second."""
+    mount = Mount(room, valid=("--valid", "1"))
+    for wait in (0, 1.5):
+        same(error_of(mount.at("d5/none")), errno.ENOENT)
+        time.sleep(wait)
+    os.kill(mount.daemon.pid, signal.SIGSTOP)
+    waits_for_the_daemon(room, mount, "[ ! -e d5/none ]")
     mount.unmount()
