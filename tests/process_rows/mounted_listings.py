@@ -13,7 +13,9 @@ from process_rows.getdents import DT_DIR, DT_REG, UNKNOWN_INODE, entries_of, nam
 from process_rows.mounted_beside_tmpfs import TMPFS
 from process_rows.mounted_ends import mounts_anew
 from process_rows.mounted_validity import waits_for_the_daemon
-from process_rows.mounts import ASKS_AGAIN, CACHES, DIRECTORIES, FILES, WORK, Mount, drop_caches, size_of, until
+from process_rows.mounts import (
+    ASKS_AGAIN, CACHES, DIRECTORIES, FILES, WORK, Mount, all_end, all_work_on, drop_caches, size_of, until,
+)
 from process_rows.rooms import run_to_end
 
 COMMIT = f"commit {'01' * 20}"
@@ -126,9 +128,21 @@ def sized(count):
 def lists_all(directory, names, room=32768):
     """Shows that a listing has each of these names once and nothing else, each behind the one before, after `.` and `..`."""
     entries = entries_of(directory, room)
-    same(sorted(names_of(entries)), sorted(names))
+    same_names(sorted(names_of(entries)), sorted(names))
+    rises(entries)
+
+
+def same_names(got, wanted):
+    """Fails where two lists of names differ, and tells the first place where they do."""
+    if got != wanted:
+        at = next((it for it, (one, other) in enumerate(zip(got, wanted)) if one != other), min(len(got), len(wanted)))
+        raise AssertionError(f"{len(got)} names, not {len(wanted)}: {got[at : at + 3]}, not {wanted[at : at + 3]}, from {at} on")
+
+
+def rises(entries):
+    """Shows that each entry stands behind the one before."""
     offsets = [it.offset for it in entries]
-    same(offsets, sorted(set(offsets)))
+    same(offsets == sorted(set(offsets)), True)
 
 
 def changes_some(directory, names):
@@ -213,16 +227,14 @@ def stays_while_others_come_and_go(room, workers, valid):
     mount = mounted_beside(room, "--workers", str(workers), valid=valid)
     programs = [room.program_in(it, directory="a") for it in (COME_AND_GO, LIST)]
     for step in (LEAST, 1024):
-        for it in programs:
-            it.works_on()
+        all_work_on(programs)
         generation = mount.generation
         entries = listed_over_takeovers(mount, step)
         same(mount.generation >= generation + TAKEOVERS - 1, True)
-        same([it for it in names_of(entries) if it.startswith("s")], stays_of(room))
-        same([it.offset for it in entries], sorted({it.offset for it in entries}))
-    for it in programs:
-        it.works_on()
-        it.ends()
+        same_names([it for it in names_of(entries) if it.startswith("s")], stays_of(room))
+        rises(entries)
+    all_work_on(programs)
+    all_end(programs)
     mount.counts_what_is_held()
     mount.unmount()
 

@@ -3,7 +3,7 @@ daemon counts."""
 import random
 
 from process_rows.checks import row
-from process_rows.mounts import DIRECTORIES, FILES, WORK, Mount, drop_caches, size_of
+from process_rows.mounts import DIRECTORIES, FILES, WORK, Mount, all_end, drop_caches, size_of
 
 # A program without a proof is slow: it gets fewer rounds, and fewer files are looked for.
 ROUNDS, ROUNDS_OF_UNPROVED = 20, 4
@@ -75,8 +75,7 @@ def taken_over_below_programs(room, workers):
         else:
             held, image = mount.take_over()
             covers(image, held)
-    for it in programs:
-        it.ends()
+    all_end(programs)
     mount.counts_what_is_held()
     mount.unmount()
 

@@ -9,14 +9,18 @@ import signal
 import socket
 import subprocess
 import threading
+import time
 
 from process_rows.checks import TOP, WAIT, row, same
 from process_rows.contents import BORDERS, FROM_FILES, NEEDLE, contents_of, tree_of, write_files, write_manifest
 from process_rows.mounted_ends import mounts_anew
-from process_rows.mounts import ASKS_AGAIN, CACHES, Mount, drop_caches, size_of
+from process_rows.mounts import ASKS_AGAIN, CACHES, Mount, all_end, all_work_on, drop_caches, size_of
 from process_rows.rooms import run_to_end, start
 
 TAKEOVERS = 5
+# How many takeovers there are below programs that read a tree, and how many seconds pass between two: a round of theirs
+# takes longer.
+BELOW_A_TREE, BETWEEN = 10, 0.5
 # Programs that read a whole tree, and say where it is not what stands beside it.
 SUMS = 'sha256sum --quiet -c "$1" >&2'
 DIFF = 'diff -r "$1" . >&2'
@@ -83,18 +87,18 @@ def programs_that_read(room, folder, contents):
 
 
 def tree_is_read_below_takeovers(room, workers, valid):
-    """Has programs read a tree while daemons take over and the kernel drops what it keeps."""
+    """Has programs read a tree while daemons take over and the kernel drops what it keeps. Each reads the whole tree once more
+    behind the last takeover."""
     contents = tree_of(room)
     folder = write_files(room, contents)
     mount = Mount(room, *FROM_FILES, "--workers", str(workers), valid=valid)
     programs = programs_that_read(room, folder, contents)
-    for _ in range(TAKEOVERS):
+    for _ in range(BELOW_A_TREE):
         drop_caches(with_pages=True)
         mount.take_over()
-        for it in programs:
-            it.works_on()
-    for it in programs:
-        it.ends()
+        time.sleep(BETWEEN)
+    all_work_on(programs)
+    all_end(programs)
     same(len(os.listdir(f"/proc/{mount.daemon.pid}/fd")) <= OPEN_FILES, True)
     mount.counts_what_is_held()
     mount.unmount()

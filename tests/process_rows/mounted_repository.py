@@ -4,7 +4,7 @@ import subprocess
 import time
 
 from process_rows.checks import row, same
-from process_rows.mounts import ASKS_AGAIN, Mount, drop_caches
+from process_rows.mounts import ASKS_AGAIN, Mount, all_end, drop_caches
 from process_rows.repositories import LINKS, git, make_repository
 from process_rows.rooms import run_to_end
 
@@ -56,8 +56,7 @@ def repository_is_worked_in(room, workers, valid):
             drop_caches(with_pages=True)
         mount.take_over()
         time.sleep(BETWEEN)
-    for it in programs:
-        it.ends()
+    all_end(programs)
     mount.counts_what_is_held()
     mount.unmount()
 

@@ -208,8 +208,11 @@ done"""
 
     def works_on(self):
         """Waits until a round is over that began from now on."""
-        made = self.rounds()
-        until(lambda: self.rounds() >= made + 2 or self.child.poll() is not None, f"two rounds more than {made}", 3 * WAIT)
+        self.comes_to(self.rounds() + 2)
+
+    def comes_to(self, count):
+        """Waits until it made so many rounds, and shows that it goes on."""
+        until(lambda: self.rounds() >= count or self.child.poll() is not None, f"{count} rounds", 3 * WAIT)
         same((self.child.poll(), self.said()), (None, ""))
 
     def said(self):
@@ -224,10 +227,14 @@ done"""
     def go_on(self):
         os.killpg(self.child.pid, signal.SIGCONT)
 
-    def ends(self):
-        """Has it end behind its round, and shows that nothing failed."""
+    def is_to_end(self):
+        """Has it end behind its round."""
         with open(self.end_at, "w"):
             pass
+
+    def ends(self):
+        """Has it end behind its round, and shows that nothing failed."""
+        self.is_to_end()
         status = self.child.wait(3 * WAIT)
         same((status, self.said()), (0, ""))
         if self.rounds() == 0:
@@ -246,6 +253,20 @@ done"""
         except ProcessLookupError:
             pass
         self.child.wait(WAIT)
+
+
+def all_work_on(programs):
+    """Waits until each program made a round that began from now on. They make these side by side."""
+    for it, count in [(it, it.rounds() + 2) for it in programs]:
+        it.comes_to(count)
+
+
+def all_end(programs):
+    """Has programs end behind their rounds, and shows that nothing failed. None makes a round more while others end."""
+    for it in programs:
+        it.is_to_end()
+    for it in programs:
+        it.ends()
 
 
 def states_of(group):

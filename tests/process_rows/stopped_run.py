@@ -8,7 +8,7 @@ import time
 
 from process_rows.checks import WAIT, same
 from process_rows.mounted_programs import programs_of
-from process_rows.mounts import Mount, drop_caches, until
+from process_rows.mounts import Mount, all_end, drop_caches, until
 
 LONGEST = 20
 # How long processes stand still, and how often: a share of stops, with the least and the most of seconds.
@@ -77,8 +77,7 @@ class StoppedRun:
 
     def finish(self):
         """Shows that no call of a program failed, and that the last daemon counts what the kernel holds."""
-        for it in self.programs:
-            it.ends()
+        all_end(self.programs)
         self.mount.generation = int(self.mount.daemon.lines[-1].split(" ")[1])
         self.mount.counts_what_is_held()
         self.mount.unmount()
