@@ -1,6 +1,7 @@
 """Repositories of git, made for rows, and what a plain checkout of one has."""
 import os
 import random
+import subprocess
 
 from process_rows.rooms import run_to_end
 
@@ -27,6 +28,8 @@ LINKS = {
     "round_b": "round_a", "far": "x/" * 2047 + "y", "src/parts/over": "../../to_main",
 }
 SUBMODULE = "modules/other"
+# What each file of a large directory contains.
+LINE = b"one line\n"
 
 
 def git(folder, *words, **streams):
@@ -72,3 +75,25 @@ def make_repository(room):
     git(repository, f"--work-tree={plain}", "checkout", "-q", "-f", "HEAD", "--", ".")
     os.makedirs(f"{plain}/{SUBMODULE}", exist_ok=True)
     return repository, plain
+
+
+def says(folder, *words, **streams):
+    """Runs git in a folder, and returns the word that it prints."""
+    return git(folder, *words, stdout=subprocess.PIPE, **streams).decode().strip()
+
+
+def make_directories(room, directories):
+    """Makes a bare repository in a folder of a row: its commit has directories with these names of files, by their paths.
+    Returns the repository's path."""
+    repository = f"{room.path}/directories"
+    os.mkdir(repository)
+    git(repository, "init", "-q", "--bare")
+    room.write("line", LINE)
+    blob = says(repository, "hash-object", "-w", f"{room.path}/line")
+    lines = (f"100644 {blob}\t{path}/{it}\n" for path, names in directories.items() for it in names)
+    room.write("index", "".join(lines).encode())
+    with open(f"{room.path}/index", "rb") as file:
+        git(repository, "update-index", "--add", "--index-info", stdin=file)
+    commit = says(repository, "commit-tree", "-m", "one", says(repository, "write-tree"))
+    git(repository, "update-ref", "HEAD", commit)
+    return repository
