@@ -25,8 +25,10 @@ LOOKS = {
 # A program does this in the mount, and compares with what stands in the file of its word.
 COMPARES = '{ %s ; } | cmp - "$1" >&2'
 DIFF = 'diff -r --no-dereference "$1" . >&2'
-BUILDS = 'cc -Iinclude -o "$1" src/main.c src/parts/*.c >&2; test "$("$1")" = "42 42" >&2'
-CLEAN = 'test -z "$(GIT_INDEX_FILE="$1.index" git --git-dir="$1/.git" --work-tree=. status --porcelain 2>&1)" >&2'
+BUILDS = """cc -Iinclude -o "$1" src/main.c src/parts/*.c >&2; said=$("$1")
+test "$said" = "42 42" || { echo "$said" >&2; exit 1; }"""
+CLEAN = """said=$(GIT_INDEX_FILE="$1.index" git --git-dir="$1/.git" --work-tree=. status --porcelain 2>&1)
+test -z "$said" || { echo "$said" >&2; exit 1; }"""
 
 
 def programs_that_work(room, repository, plain):
