@@ -527,14 +527,15 @@ def a_name_that_was_moved_in_is_listed_behind_a_seek(room):
     """A program lists a part of a directory, an older file is moved into that part, and the program begins anew. It gets the
     file, and so it does where it goes back to the entry before it. (A kernel that takes what it kept of both times for one
     listing would leave the file out: it kept the part from before.)"""
-    for count in (126, 600):
-        inner = room.inner()
-        files = [f"file 0644 0 a/n{it:03}" for it in range(count)]
-        inner.write("m", lines_of(["dir b", "file 0644 0 b/older", "dir a", *files]))
-        mount = Mount(inner, valid=())
-        directory = os.open(mount.at("a"), os.O_RDONLY)
+    counts = (126, 600)
+    lines = [f"dir {it}{count}" for count in counts for it in "ba"]
+    lines += [f"file 0644 0 b{count}/older" for count in counts]
+    room.write("m", lines_of(lines + [f"file 0644 0 a{count}/n{it:03}" for count in counts for it in range(count)]))
+    mount = Mount(room, valid=())
+    for count in counts:
+        directory = os.open(mount.at(f"a{count}"), os.O_RDONLY)
         same(len(some_entries(directory, 1024)) < count, True)
-        os.rename(mount.at("b/older"), mount.at("a/older"))
+        os.rename(mount.at(f"b{count}/older"), mount.at(f"a{count}/older"))
         os.lseek(directory, 0, os.SEEK_SET)
         entries = [it for step in steps(directory, 1024) for it in step]
         same(entries[2].name, "older")
@@ -542,7 +543,7 @@ def a_name_that_was_moved_in_is_listed_behind_a_seek(room):
             os.lseek(directory, entries[at].offset, os.SEEK_SET)
             same(some_entries(directory, LEAST)[0].name, entries[at + 1].name)
         os.close(directory)
-        mount.unmount()
+    mount.unmount()
 
 
 class Reader:
