@@ -27,7 +27,10 @@ COMPARES = '{ %s ; } | cmp - "$1" >&2'
 DIFF = 'diff -r --no-dereference "$1" . >&2'
 BUILDS = """cc -Iinclude -o "$1" src/main.c src/parts/*.c >&2; said=$("$1")
 test "$said" = "42 42" || { echo "$said" >&2; exit 1; }"""
-CLEAN = """said=$(GIT_INDEX_FILE="$1.index" git --git-dir="$1/.git" --work-tree=. status --porcelain 2>&1)
+# `git status` reads each file anew, as its index is a copy of one that knows no times. It looks at a link twice, and would take
+# another inode number for a change (core.checkStat): a file that the kernel forgot in between has one.
+CLEAN = """cp "$1.index" "$1.copy"
+said=$(GIT_INDEX_FILE="$1.copy" git -c core.checkStat=minimal --git-dir="$1/.git" --work-tree=. status --porcelain 2>&1) || said="$said, status $?"
 test -z "$said" || { echo "$said" >&2; exit 1; }"""
 
 
