@@ -1,7 +1,6 @@
 -- Who waits for which blob, what a look gives, and what is asked next. Each that waits has a ticket.
-use Rattle.std.specs.Prelude.{◌≡◌, ◌==◌, ◌&&◌, ◌+◌, ◌%◌, ◌^◌, ◌++◌, ◌∷◌, ℕ, Bool, true, false, not, nat_le, List, [], map, position, slice_get, Option, Some, None, is_some, is_none, Result, Ok, Err, ⊤, if◌then◌else◌}
+use Rattle.std.specs.Prelude.{◌≡◌, ◌==◌, ◌&&◌, ◌+◌, ◌%◌, ◌^◌, ◌++◌, ◌∷◌, ℕ, Bool, true, false, not, nat_le, List, [], map, position, slice_get, slice_set, Option, Some, None, is_some, is_none, Result, Ok, Err, ⊤, if◌then◌else◌}
 use Rattle.std.specs.List.{remove}
-use Rattle.std.specs.Option.{option_and_then}
 use Rattle.std.specs.Map.{lookup}
 use mathlib.Core.Bool.{beq}
 use Rattle.eden_base.specs.declared.memory.NoMemory.{NoMemory as WantOfMemory}
@@ -16,20 +15,25 @@ use Rattle.git_objects.specs.declared.desk.Came.{Came}
 use Rattle.git_objects.specs.declared.desk.Want.{Want}
 use Rattle.git_objects.specs.declared.fault.ObjectFault.{ObjectFault}
 use Rattle.git_objects.specs.declared.fault.ObjectFault.TheVariants.{Late, NoMemory}
+use Rattle.git_objects.specs.ObjectWait.{IsAfter, IsBegun}
+use Rattle.git_objects.specs.declared.object_wait.ObjectWait.{ObjectWait}
 use Rattle.git_objects.specs.declared.sought.Sought.{Sought}
+use Rattle.std.specs.Duration.{as_nanos}
+use Rattle.std.specs.declared.time.Instant.{Instant}
 
 -- whether this is the one who waits by this ticket
 abbrev pub has_ticket : ℕ → Want → Bool
 has_ticket ticket want = want.ticket == ticket
 
 -- who asks gets the blob if it is kept, and else waits behind all others
-abbrev pub IsAsked : List Entry → ℕ → Sought → List Want → List Want → Asked → Type 0
-IsAsked entries tickets sought old new (Here blob) =
+abbrev pub IsAsked : List Entry → ℕ → Sought → Option Instant → (came : ℕ) → List Want → List Want → Asked → Type 0
+IsAsked entries tickets sought now came old new (Here blob) =
     Finds (lookup (same_id sought.object) entries) (Ok (Some blob)) × (new ≡ old)
-IsAsked entries tickets sought old new (Waits ticket) =
+IsAsked entries tickets sought now came old new (Waits ticket) =
     Finds (lookup (same_id sought.object) entries) (Ok None)
     × (ticket ≡ tickets)
-    × (new ≡ old ++ record { ticket = tickets; sought = sought; fault = None } ∷ [])
+    × ((wait : ObjectWait) × IsBegun now came wait
+    × (new ≡ old ++ record { ticket = tickets; sought = sought; fault = None; wait = wait } ∷ []))
 
 -- ---- a look
 
@@ -63,23 +67,38 @@ verdict (Ok None) (Some fault) is_over = Some (Err fault)
 verdict (Ok None) None true = Some (Err Late)
 verdict (Ok None) None false = None
 
--- the fault of the one who waits at this place
-abbrev pub fault_at : ℕ → List Want → Option ObjectFault
-fault_at place wants = option_and_then (λ (want : Want). want.fault) (slice_get wants place)
+-- one who waits, with another wait
+abbrev pub with_wait : ObjectWait → Want → Want
+with_wait wait want = record { ticket = want.ticket; sought = want.sought; fault = want.fault; wait = wait }
 
--- what a look tells to the one who waits at this place, who waits no more then; one who has no place gave up before
-abbrev pub LooksAt : Option ℕ → Result (Option Blob) WantOfMemory → Bool → List Want → Option (Result Blob ObjectFault) → List Want → Type 0
-LooksAt None found is_over old told new = (told ≡ verdict found None true) × (new ≡ old)
-LooksAt (Some place) found is_over old told new =
-    (told ≡ verdict found (fault_at place old) is_over)
-    × (new ≡ (if is_some told then remove old place else old))
+-- those who wait after this was told to the one at a place: that one waits no more if something was, and else waits so
+abbrev pub told_wants : ℕ → List Want → Want → ObjectWait → Option (Result Blob ObjectFault) → List Want
+told_wants place old want wait (Some told) = remove old place
+told_wants place old want wait None = slice_set old place (with_wait wait want)
+
+-- what a look at this moment tells to the one who waits at this place, by when something had come so often; one who has no place
+-- gave up before
+abbrev pub LooksAt :
+    Option ℕ → Result (Option Blob) WantOfMemory → Option Instant → (came : ℕ) → List Want → Option (Result Blob ObjectFault) →
+    List Want → Type 0
+LooksAt None found now came old told new = (told ≡ verdict found None true) × (new ≡ old)
+LooksAt (Some place) found now came old told new =
+    (want : Want) × (slice_get old place ≡ Some want)
+    × ((wait : ObjectWait) × IsAfter (not (came == want.wait.seen)) want.wait now came wait
+    × (told ≡ verdict found want.fault (as_nanos wait.patience.left == 0))
+    × (new ≡ told_wants place old want wait told))
 
 -- a look by this ticket for the first bytes of a blob
-pub record Looks (arriving : Option Arriving) (entries : List Entry) (ticket : ℕ) (sought : Sought) (end : ℕ) (is_over : Bool)
-    (old : List Want) (told : Option (Result Blob ObjectFault)) (new : List Want) : Type 0 where
+pub record Looks (arriving : Option Arriving) (entries : List Entry) (ticket : ℕ) (sought : Sought) (end : ℕ)
+    (now : Option Instant) (came : ℕ) (old : List Want) (told : Option (Result Blob ObjectFault)) (new : List Want) : Type 0 where
   pub found : Result (Option Blob) WantOfMemory
   pub finds : FindsBlob arriving end sought.object (lookup (same_id sought.object) entries) found
-  pub tells : LooksAt (position (has_ticket ticket) old) found is_over old told new
+  pub tells : LooksAt (position (has_ticket ticket) old) found now came old told new
+
+-- nobody waits at this place any more, if somebody did
+abbrev pub ForgetsAt : Option ℕ → List Want → List Want → Type 0
+ForgetsAt None old new = new ≡ old
+ForgetsAt (Some place) old new = new ≡ remove old place
 
 -- ---- what is asked next
 
@@ -110,7 +129,8 @@ came_more came false = record { large = came.large; small = (came.small + 1) % 2
 -- the one who waits, with the fault if it is for this object
 abbrev pub with_fault : List ℕ → ObjectFault → Want → Want
 with_fault object fault want =
-    if same_id want.sought.object object then record { ticket = want.ticket; sought = want.sought; fault = Some fault } else want
+    if same_id want.sought.object object
+    then record { ticket = want.ticket; sought = want.sought; fault = Some fault; wait = want.wait } else want
 
 -- the fault that is told for what git gave, by whether a blob is kept
 abbrev pub fault_by : Result Blob ObjectFault → Bool → Option ObjectFault

@@ -2,14 +2,16 @@
 ghost use Rattle.std.specs.Prelude.{◌≡◌, ◌<◌, [], length, true, map, position, Some, IfOk, IfSome, OnErr};
 ghost use Rattle.std.specs.Map.{lookup};
 ghost use Rattle.git_objects.specs.BlobCache.{is_large, same_id};
-ghost use Rattle.git_objects.specs.Desk.{Delivers, FindsBlob, FindsIf, IsAsked, Looks, came_by, came_more, has_ticket, is_next, is_there, left_arriving, next_of, verdict, with_fault};
+ghost use Rattle.git_objects.specs.Desk.{Delivers, FindsBlob, FindsIf, ForgetsAt, IsAsked, Looks, came_by, came_more, has_ticket, is_next, is_there, left_arriving, next_of, verdict, with_fault};
 
 use crate::blob::Blob;
 use crate::blob_cache::{BlobCache, is_large};
 use crate::fault::ObjectFault;
+use crate::object_wait::ObjectWait;
 use crate::sought::Sought;
 use eden_base::NoMemory;
 use std::alloc::Global;
+use std::time::Instant;
 
 /// A worker that waits for a blob, by its ticket.
 #[derive(Clone, Copy)]
@@ -18,6 +20,7 @@ pub(crate) struct Want {
     pub sought: Sought,
     /// Why git gave no blob, once that is known.
     pub fault: Option<ObjectFault>,
+    pub wait: ObjectWait,
 }
 
 /// A blob in a file that git is still writing there, and how many bytes are there.
@@ -151,9 +154,10 @@ impl Desk {
         })
     }
 
-    /// Asks for a blob: returns it if it is kept, and else a ticket for it.
-    pub(crate) fn ask(&mut self, sought: Sought) -> Result<Asked, NoMemory>
-        ensures asked { IfOk result (IsAsked self.old.cache.kept.entries self.old.tickets sought self.old.wants.items self.new.wants.items) }
+    /// Asks for a blob at the moment `now`: returns it if it is kept, and else a ticket for it.
+    pub(crate) fn ask(&mut self, sought: Sought, now: Option<Instant>) -> Result<Asked, NoMemory>
+        ensures asked { IfOk result (IsAsked self.old.cache.kept.entries self.old.tickets sought now
+            (came_by self.old.came (is_large sought.size self.old.cache.bound)) self.old.wants.items self.new.wants.items) }
         ensures refused { OnErr result (self.new.wants.items ≡ self.old.wants.items) }
         ensures arriving { self.new.arriving ≡ self.old.arriving }
     {
@@ -161,13 +165,22 @@ impl Desk {
             return Ok(Asked::Here(blob));
         }
         let ticket = self.tickets;
+        let wait = ObjectWait::new(now, self.came_for(sought));
         self.wants.push(Want {
             ticket,
             sought,
             fault: None,
+            wait,
         })?;
         self.tickets = ticket.wrapping_add(1);
         Ok(Asked::Waits(ticket))
+    }
+
+    /// Returns how often something came from the process that fetches the blob `sought`.
+    fn came_for(&self, sought: Sought) -> u64
+        ensures came { result ≡ came_by self.now.came (is_large sought.size self.now.cache.bound) }
+    {
+        self.came.by(is_large(sought.size, self.cache.bound))
     }
 
     /// Returns the blob that `sought` names, if it is kept, or if its first `end` bytes have arrived.
@@ -185,29 +198,46 @@ impl Desk {
         }
     }
 
-    /// Looks for the blob `sought` by `ticket`, of which the first `end` bytes are wanted. `is_over` says whether the time
-    /// of the wait is over. Where the wait ends by this look, its ticket is gone.
+    /// Looks at the moment `now` for the blob `sought` by `ticket`, of which the first `end` bytes are wanted. Where the wait ends
+    /// by this look, its ticket is gone.
     pub(crate) fn look(
         &mut self,
         ticket: u64,
         sought: Sought,
         end: u64,
-        is_over: bool,
+        now: Option<Instant>,
     ) -> Option<Result<Blob, ObjectFault>>
-        ensures looks { Looks self.old.arriving self.old.cache.kept.entries ticket sought end is_over
-            self.old.wants.items result self.new.wants.items }
+        ensures looks { Looks self.old.arriving self.old.cache.kept.entries ticket sought end now
+            (came_by self.old.came (is_large sought.size self.old.cache.bound)) self.old.wants.items result
+            self.new.wants.items }
         ensures arriving { self.new.arriving ≡ self.old.arriving }
     {
+        let came = self.came_for(sought);
         let found = self.found(sought, end);
         let Some(place) = place_of(self.wants.as_slice(), ticket) else {
             return verdict(found, None, true);
         };
-        let fault = self.wants[place].fault;
-        let told = verdict(found, fault, is_over);
+        let want = self.wants[place];
+        let wait = want.wait.after(now, came);
+        let told = verdict(found, want.fault, wait.is_over());
         if told.is_some() {
             self.wants.remove(place);
+            return told;
         }
-        told
+        self.wants[place].wait = wait;
+        None
+    }
+
+    /// Forgets the want that has `ticket`: nobody waits by that any more.
+    pub(crate) fn forget(&mut self, ticket: u64)
+        ensures forgets { ForgetsAt (position (has_ticket ticket) self.old.wants.items) self.old.wants.items
+            self.new.wants.items }
+        ensures arriving { self.new.arriving ≡ self.old.arriving }
+        ensures cache { self.new.cache ≡ self.old.cache }
+    {
+        if let Some(place) = place_of(self.wants.as_slice(), ticket) {
+            self.wants.remove(place);
+        }
     }
 
     /// Returns the blob that is asked next by the process for large blobs, or by the one for the others: the first that
@@ -282,6 +312,7 @@ fn with_fault(want: Want, object: &[u8; 20], fault: ObjectFault) -> Want
         ticket: want.ticket,
         sought: want.sought,
         fault: Some(fault),
+        wait: want.wait,
     }
 }
 

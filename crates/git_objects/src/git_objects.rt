@@ -1,9 +1,11 @@
 //! The blobs of a repository.
-ghost use Rattle.std.specs.Prelude.{◌≡◌, ◌+◌, ◌≤◌, length, IfOk, OnOk};
-ghost use Rattle.git_objects.specs.Reading.{IsRead, is_sought};
+ghost use Rattle.std.specs.Prelude.{◌≡◌, ◌+◌, ◌≤◌, ◌↔◌, IfOk, IsTrue};
+ghost use Rattle.std.specs.Option.{IfSome};
+ghost use Rattle.git_objects.specs.Reading.{IsGiven, IsStarted, is_sought};
 
 use crate::blob::Blob;
 use crate::blob_cache::is_large;
+use crate::desk::Asked;
 use crate::fault::ObjectFault;
 use crate::fetcher::Fetcher;
 use crate::shared::Shared;
@@ -20,6 +22,7 @@ use std::rt::{Clock, Files};
 use std::sync::{Arc, Wait};
 use std::thread;
 use std::thread::Threads;
+use std::time::Duration;
 
 /// A part of a blob: the id of the object, the size that its tree says, and the bytes that are wanted.
 #[derive(Clone, Copy)]
@@ -28,6 +31,22 @@ pub struct BlobPart {
     pub size: u64,
     pub offset: u64,
     pub len: usize,
+}
+
+/// A part of a blob for which git was asked, and the ticket by which its read is known.
+#[derive(Clone, Copy)]
+pub struct PendingPart {
+    pub part: BlobPart,
+    pub ticket: u64,
+}
+
+/// A read of a part of a blob that was started.
+#[derive(Drop)]
+pub enum StartedPart {
+    /// It is over: the bytes, or why there are none.
+    Done(Result<Bytes, ObjectFault>),
+    /// It waits for git.
+    Pending(PendingPart),
 }
 
 /// The blobs of a repository. Two threads fetch them, each by a process of git of its own: one those that are kept in
@@ -81,32 +100,95 @@ impl GitObjects {
         Ok(GitObjects { shared })
     }
 
-    /// Returns the bytes of a part of a blob. Waits for git, for 20 seconds at most in which it gives
-    /// nothing. No clause knows what stands behind the
-    /// lock, so the blob that comes from there is compared with the one that is sought.
-    pub fn read<R: Wait + Clock>(
+    /// Starts to read a part of a blob, and waits for nothing: git is asked for a blob that is not kept.
+    pub fn start_read<R: Wait + Clock>(&self, rt: &R, alloc: Global, part: BlobPart) -> StartedPart
+        ensures done { IsStarted self.now part result }
+    {
+        if !is_within(part) {
+            return StartedPart::Done(Err(ObjectFault::Beyond));
+        }
+        match self.shared.ask(rt, sought_of(part)) {
+            Ok(Asked::Here(blob)) => StartedPart::Done(self.part_of(alloc, part, blob)),
+            Ok(Asked::Waits(ticket)) => StartedPart::Pending(PendingPart { part, ticket }),
+            Err(NoMemory) => StartedPart::Done(Err(ObjectFault::NoMemory)),
+        }
+    }
+
+    /// Waits for a part of a blob for `longest` at most, and returns its bytes, or why there are none, once that is known. Its
+    /// ticket is of no use after that.
+    pub fn poll_read<R: Wait + Clock>(
         &self,
         rt: &R,
         alloc: Global,
-        part: BlobPart,
-    ) -> Result<Bytes, ObjectFault>
-        ensures part { IfOk result (IsRead self.now part) }
-        ensures len { IfOk result (λ bytes. length bytes ≡ part.len) }
-        ensures within { OnOk result (part.offset + part.len ≤ part.size) }
+        pending: PendingPart,
+        longest: Duration,
+    ) -> Option<Result<Bytes, ObjectFault>>
+        ensures told { IfSome result (IsGiven self.now pending.part) }
     {
-        if part.offset > part.size || part.len as u64 > part.size - part.offset {
+        let PendingPart { part, ticket } = pending;
+        let wanted = (sought_of(part), end_of(part));
+        match self.shared.poll(rt, ticket, wanted, longest)? {
+            Ok(blob) => Some(self.part_of(alloc, part, blob)),
+            Err(fault) => Some(Err(fault)),
+        }
+    }
+
+    /// Waits for a part of a blob for `longest` at most, and returns its bytes, or why there are none. One that did not come by
+    /// then is late.
+    pub fn end_read<R: Wait + Clock>(
+        &self,
+        rt: &R,
+        alloc: Global,
+        pending: PendingPart,
+        longest: Duration,
+    ) -> Result<Bytes, ObjectFault>
+        ensures told { IsGiven self.now pending.part result }
+    {
+        match self.poll_read(rt, alloc, pending, longest) {
+            Some(told) => told,
+            None => {
+                self.shared.forget(rt, pending.ticket);
+                Err(ObjectFault::Late)
+            }
+        }
+    }
+
+    /// Returns the bytes of a part of `blob`. No clause knows what stands behind the lock, so the blob that comes from there is
+    /// compared with the one that is sought.
+    fn part_of(&self, alloc: Global, part: BlobPart, blob: Blob) -> Result<Bytes, ObjectFault>
+        ensures told { IsGiven self.now part result }
+    {
+        if !is_within(part) {
             return Err(ObjectFault::Beyond);
         }
-        let object = part.object;
-        let size = part.size;
-        let sought = Sought { object, size };
-        let end = part.offset + part.len as u64;
-        let blob = self.shared.blob(rt, sought, end)?;
-        if !is_sought(self.shared.bound, sought, &blob) {
+        if !is_sought(self.shared.bound, sought_of(part), &blob) {
             return Err(ObjectFault::OtherBlob);
         }
         blob.content.part(alloc, part.offset, part.len)
     }
+}
+
+/// Returns whether a part is within the size that its tree says.
+fn is_within(part: BlobPart) -> bool
+    ensures within { IsTrue result ↔ (part.offset + part.len ≤ part.size) }
+{
+    part.offset <= part.size && part.len as u64 <= part.size - part.offset
+}
+
+/// Returns the blob of which a part is wanted.
+fn sought_of(part: BlobPart) -> Sought
+    ensures sought { result ≡ record { object = part.object; size = part.size } }
+{
+    let object = part.object;
+    Sought {
+        object,
+        size: part.size,
+    }
+}
+
+/// Returns how many of the first bytes of a blob are wanted.
+fn end_of(part: BlobPart) -> u64 {
+    part.offset.saturating_add(part.len as u64)
 }
 
 /// Makes a thread that fetches large blobs or the others, as long as this process runs.

@@ -12,7 +12,7 @@ mod fetcher;
 mod git_command;
 mod git_objects;
 mod name;
-mod patience;
+mod object_wait;
 mod question;
 mod shared;
 mod sought;
@@ -20,4 +20,4 @@ mod spool;
 
 pub use fault::ObjectFault;
 pub use git_command::GitCommand;
-pub use git_objects::{BlobPart, GitObjects};
+pub use git_objects::{BlobPart, GitObjects, PendingPart, StartedPart};

@@ -2,23 +2,15 @@
 ghost use Rattle.std.specs.Prelude.{◌≡◌, IfOk};
 
 use crate::blob::Blob;
-use crate::blob_cache::is_large;
 use crate::desk::{Asked, Desk};
 use crate::fault::ObjectFault;
-use crate::patience::Patience;
 use crate::sought::Sought;
 use eden_base::NoMemory;
-use monitor::{Condition, Look, Monitor};
+use monitor::{Condition, Look, Monitor, Patience};
 use std::alloc::Global;
 use std::rt::Clock;
 use std::sync::Wait;
 use std::time::{Duration, Instant};
-
-/// For how many seconds a worker waits for a blob at most while the process that fetches it gives nothing.
-const LONGEST_WAIT: u64 = 20;
-
-/// How many milliseconds a worker sleeps between two looks at most.
-const SLICE: u64 = 100;
 
 /// The desk, and who waits for what: the processes' threads until a blob is asked for, and workers until one came.
 #[derive(Drop)]
@@ -44,41 +36,41 @@ impl Shared {
         })
     }
 
-    /// Returns the blob, of which the first `end` bytes are wanted at least. Waits for 20 seconds at most in which the process
-    /// that fetches it gives nothing, of this blob or of one that was asked for before.
-    pub(crate) fn blob<R: Wait + Clock>(
-        &self,
-        rt: &R,
-        sought: Sought,
-        end: u64,
-    ) -> Result<Blob, ObjectFault> {
-        let asked = self.desk.lock(rt).ask(sought);
-        match asked? {
-            Asked::Here(blob) => Ok(blob),
-            Asked::Waits(ticket) => {
-                self.asked.notify_all();
-                self.wait(rt, ticket, sought, end)
-            }
+    /// Asks for a blob: returns it if it is kept, and else a ticket for it.
+    pub(crate) fn ask<R: Wait + Clock>(&self, rt: &R, sought: Sought) -> Result<Asked, NoMemory> {
+        let now = Instant::now(rt).ok();
+        let asked = self.desk.lock(rt).ask(sought, now)?;
+        if let Asked::Waits(_) = &asked {
+            self.asked.notify_all();
         }
+        Ok(asked)
     }
 
-    /// Waits by `ticket` for the blob, of which the first `end` bytes are wanted.
-    fn wait<R: Wait + Clock>(
+    /// Waits by `ticket` for the blob, of which the first `end` bytes are wanted at least, for `longest` at most. Returns it, or
+    /// why it can't be had: also where the process that fetches it gave nothing for 20 seconds, of this blob or of one that was
+    /// asked for before.
+    pub(crate) fn poll<R: Wait + Clock>(
         &self,
         rt: &R,
         ticket: u64,
-        sought: Sought,
-        end: u64,
-    ) -> Result<Blob, ObjectFault> {
-        let is_large = is_large(sought.size, self.bound);
-        let mut patience = None;
+        wanted: (Sought, u64),
+        longest: Duration,
+    ) -> Option<Result<Blob, ObjectFault>> {
+        let (sought, end) = wanted;
+        let mut patience = Patience::start(rt, longest);
         self.desk.wait_until(rt, &self.came, |desk| {
-            let is_over = is_over(rt, &mut patience, desk.came.by(is_large));
-            match desk.look(ticket, sought, end, is_over) {
-                Some(told) => Look::Found(told),
-                None => Look::Again(Duration::from_millis(SLICE)),
+            let now = Instant::now(rt).ok();
+            match desk.look(ticket, sought, end, now) {
+                Some(told) => Look::Found(Some(told)),
+                None if patience.is_over(now) => Look::Found(None),
+                None => Look::Again(patience.slice()),
             }
         })
+    }
+
+    /// Notes that nobody waits by `ticket` any more.
+    pub(crate) fn forget<R: Wait>(&self, rt: &R, ticket: u64) {
+        self.desk.lock(rt).forget(ticket);
     }
 
     /// Waits until the process for large blobs or the other one has something to ask for, and returns that.
@@ -102,20 +94,5 @@ impl Shared {
     ) {
         self.desk
             .change(rt, &self.came, |desk| desk.deliver(sought, fetched));
-    }
-}
-
-/// Returns whether the time of a wait is over, which begins with the first look. Without a clock no time can be told, and it
-/// is over.
-fn is_over<R: Clock>(rt: &R, patience: &mut Option<Patience>, came: u64) -> bool {
-    let Ok(now) = Instant::now(rt) else {
-        return true;
-    };
-    match patience {
-        Some(patience) => patience.is_over(now, came),
-        None => {
-            *patience = Some(Patience::new(LONGEST_WAIT, now, came));
-            false
-        }
     }
 }

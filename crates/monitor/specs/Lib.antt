@@ -1,1 +1,2 @@
 pub mod Wait
+pub mod Patience

@@ -4,9 +4,11 @@
 mod condition;
 mod look;
 mod monitor;
+mod patience;
 #[cfg(test)]
 mod tests;
 
 pub use condition::Condition;
 pub use look::Look;
 pub use monitor::Monitor;
+pub use patience::Patience;
