@@ -1,3 +1,4 @@
 pub mod Parts
 pub mod Paths
 pub mod PartReads
+pub mod Waiting

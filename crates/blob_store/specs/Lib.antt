@@ -3,6 +3,8 @@ pub mod ByteFile
 pub mod Fetching
 pub mod FileBlobs
 pub mod FilePath
+pub mod FileReadPool
 pub mod MemoryBlobs
+pub mod ReadTable
+pub mod Reads
 pub mod SaidFiles
-pub mod Store

@@ -1,48 +1,93 @@
 //! Where the bytes of files come from.
-ghost use Rattle.std.specs.Prelude.{◌≡◌, ℕ, List, length, IfOk, Result};
+ghost use Rattle.std.specs.Prelude.{List, ℕ, Result};
+ghost use Rattle.std.specs.Option.{IfSome};
 ghost use Rattle.fuse_wire.specs.declared.reply.Extent.{Extent as ExtentValue};
-ghost use Rattle.blob_store.specs.Store.{ReadsIf};
+ghost use Rattle.blob_store.specs.Reads.{IsGiven, IsStarted};
 ghost use Rattle.blob_store.specs.declared.blob_store.BlobFault.{BlobFault as FaultValue};
 
 use fuse_wire::{Buffer, Extent};
 use std::alloc::Global;
+use std::time::Duration;
 
 /// Why a store gave no bytes.
 #[derive(Clone, Copy, PartialEq, Eq)]
 pub enum BlobFault {
     /// Memory for the bytes was refused.
     NoMemory,
-    /// The store has no such bytes, or can't reach them.
+    /// The store has no such bytes, can't reach them, or took too long.
     Failed,
 }
 
-/// A store of blobs. A blob is all the bytes of one file. Each implementation says by `reads` what a read of it gives.
+/// A read that goes on: the part of a file that is read, and the number by which its store knows the read.
+#[derive(Clone, Copy)]
+pub struct PendingRead {
+    pub extent: Extent,
+    pub ticket: u64,
+}
+
+/// A read that was started.
+#[derive(Drop)]
+pub enum StartedRead {
+    /// It is over, and gave this.
+    Done(Result<Buffer, BlobFault>),
+    /// It goes on.
+    Pending(PendingRead),
+}
+
+/// A store of blobs. A blob is all the bytes of one file. Each implementation says by `reads` what a read of it gives: all
+/// bytes of a part, or why there are none.
+///
+/// A read whose bytes aren't at hand goes on, and its caller may do something else meanwhile. Each read that goes on is
+/// ended: by a `poll_read` that says what it gave, or by `end_read`.
 pub trait BlobStore {
     /// Relates the store and a part of a file to the bytes that the store has there, or to why it gives none.
     ghost reads: { Self → ExtentValue → Result (List ℕ) FaultValue → Type 0 };
 
-    /// Reads a part of a file: all the bytes of the part, or none.
-    fn read(&self, alloc: Global, extent: &Extent) -> Result<Buffer, BlobFault>
-        ensures reads { reads self.now extent.now result }
-        ensures whole { IfOk result (λ bytes. length bytes ≡ extent.now.len) };
+    /// Starts to read a part of a file, and waits for nothing.
+    fn start_read(&self, alloc: Global, extent: &Extent) -> StartedRead
+        ensures started { IsStarted (reads self.now) extent.now result };
+
+    /// Waits for a read for `longest` at most, and returns what it gave, if it is over.
+    fn poll_read(
+        &self,
+        alloc: Global,
+        read: &PendingRead,
+        longest: Duration,
+    ) -> Option<Result<Buffer, BlobFault>>
+        ensures polled { IfSome result (IsGiven (reads self.now) read.now.extent) };
+
+    /// Waits for a read for `longest` at most, and returns what it gave. One that is not over then fails.
+    fn end_read(
+        &self,
+        alloc: Global,
+        read: &PendingRead,
+        longest: Duration,
+    ) -> Result<Buffer, BlobFault>
+        ensures ended { IsGiven (reads self.now) read.now.extent result };
 }
 
 impl<S: BlobStore> BlobStore for &S {
     ghost reads = { λ store extent result. S.reads store.now extent result };
 
-    fn read(&self, alloc: Global, extent: &Extent) -> Result<Buffer, BlobFault> {
-        (**self).read(alloc, extent)
+    fn start_read(&self, alloc: Global, extent: &Extent) -> StartedRead {
+        (**self).start_read(alloc, extent)
     }
-}
 
-impl<S: BlobStore> BlobStore for Option<S> {
-    ghost reads = { λ store extent result. ReadsIf S.reads store extent result };
+    fn poll_read(
+        &self,
+        alloc: Global,
+        read: &PendingRead,
+        longest: Duration,
+    ) -> Option<Result<Buffer, BlobFault>> {
+        (**self).poll_read(alloc, read, longest)
+    }
 
-    /// Fails if there is no store: a daemon that was given no contents has none.
-    fn read(&self, alloc: Global, extent: &Extent) -> Result<Buffer, BlobFault> {
-        match self {
-            Some(store) => store.read(alloc, extent),
-            None => Err(BlobFault::Failed),
-        }
+    fn end_read(
+        &self,
+        alloc: Global,
+        read: &PendingRead,
+        longest: Duration,
+    ) -> Result<Buffer, BlobFault> {
+        (**self).end_read(alloc, read, longest)
     }
 }

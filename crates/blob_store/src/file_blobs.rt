@@ -1,8 +1,10 @@
 //! The files of a directory as blobs.
-ghost use Rattle.std.specs.Prelude.{◌≡◌, ◌+◌, ◌<◌, ◌^◌, length, IfOk, OnOk};
+ghost use Rattle.std.specs.Prelude.{◌≡◌, ◌+◌, ◌<◌, ◌^◌, ◌⊎◌, length, Err, IfOk, OnOk};
+ghost use Rattle.blob_store.specs.declared.blob_store.BlobFault.TheVariants.{Failed};
 ghost use Rattle.blob_store.specs.FileBlobs.{IsWithin, ReadsFiles};
+ghost use Rattle.blob_store.specs.Reads.{IsGiven};
 
-use crate::blob_store::{BlobFault, BlobStore};
+use crate::blob_store::BlobFault;
 use crate::byte_file::read_part;
 use crate::extent_line::line_within;
 use crate::failure_notes::FailureNotes;
@@ -14,6 +16,7 @@ use fuse_wire::{Buffer, Extent};
 use manifest::Manifest;
 use non_blocking::Notes;
 use std::alloc::Global;
+use std::fmt::Display;
 use std::fs::{self, File};
 use std::io::{self, Error, ErrorKind};
 use std::os::fd::AsRawFd;
@@ -25,23 +28,19 @@ use std::sync::Wait;
 /// The store of a directory: the blob of a file stands there under the path that the manifest says. The directory is
 /// held open, so that it is found even where it is renamed, or something is mounted over it.
 #[derive(Drop)]
-pub struct FileBlobs<'a, R> {
-    rt: &'a R,
+pub struct FileBlobs<R> {
+    rt: R,
     manifest: Manifest,
     folder: File,
     failures: FailureNotes,
 }
 
-impl<'a, R: Files<File = File> + Clock + Wait> FileBlobs<'a, R> {
+impl<R: Files<File = File> + Clock + Wait> FileBlobs<R> {
     /// Makes the store of the open directory `folder` for the files of `manifest`. It says by `notes` which files it can't
     /// read.
-    pub fn new(
-        rt: &'a R,
-        alloc: Global,
-        folder: File,
-        manifest: Manifest,
-        notes: Notes,
-    ) -> FileBlobs<'a, R>
+    pub fn new(rt: R, alloc: Global, folder: File, manifest: Manifest, notes: Notes) -> FileBlobs<R>
+    where
+        R: Drop,
         ensures manifest { result.manifest ≡ manifest }
     {
         FileBlobs {
@@ -67,10 +66,10 @@ impl<'a, R: Files<File = File> + Clock + Wait> FileBlobs<'a, R> {
         requires fits { extent.now.offset + extent.now.len < 2 ^ 64 }
         ensures whole { IfOk result (λ bytes. length bytes.items ≡ extent.now.len) }
     {
-        if !fs::symlink_metadata(self.rt, place)?.is_file() {
+        if !fs::symlink_metadata(&self.rt, place)?.is_file() {
             return Err(Error::new(ErrorKind::InvalidData, "it is not a regular file"));
         }
-        let file = File::open(self.rt, place)?;
+        let file = File::open(&self.rt, place)?;
         read_part(alloc, &file, extent.offset, extent.len as usize)
     }
 
@@ -106,20 +105,43 @@ impl<'a, R: Files<File = File> + Clock + Wait> FileBlobs<'a, R> {
             None => Err(Error::from(ErrorKind::InvalidInput)),
         }
     }
-}
 
-impl<R: Files<File = File> + Clock + Wait> BlobStore for FileBlobs<'_, R> {
-    ghost reads = { λ store extent result. ReadsFiles store.manifest extent result };
-
-    fn read(&self, alloc: Global, extent: &Extent) -> Result<Buffer, BlobFault> {
+    /// Reads a part of a file or of a link's target, for as long as the system takes. A file that can't be read is said.
+    pub(crate) fn read(&self, alloc: Global, extent: &Extent) -> Result<Buffer, BlobFault>
+        ensures given { IsGiven (ReadsFiles self.now.manifest) extent.now result }
+    {
         match self.fetch(alloc, extent) {
             Ok(buffer) => Ok(buffer),
             Err(error) if error.kind() == ErrorKind::OutOfMemory => Err(BlobFault::NoMemory),
             Err(error) => {
-                self.failures
-                    .say(self.rt, &self.manifest, extent.file, error);
+                self.say(extent, error);
                 Err(BlobFault::Failed)
             }
+        }
+    }
+
+    /// Says on standard error that a file can't be read for `cause`.
+    pub(crate) fn say<D: Display + Drop>(&self, extent: &Extent, cause: D) {
+        self.failures
+            .say(&self.rt, &self.manifest, extent.file, cause);
+    }
+
+    /// Returns what a thread that read a part of a file gave, if a read may give that, and else fails.
+    pub(crate) fn checked(
+        &self,
+        extent: &Extent,
+        given: Result<Buffer, BlobFault>,
+    ) -> Result<Buffer, BlobFault>
+        ensures given { IsGiven (ReadsFiles self.now.manifest) extent.now result }
+        ensures same { (result ≡ given) ⊎ (result ≡ Err Failed) }
+    {
+        let bytes = given?;
+        if bytes.as_slice().len() != extent.len as usize {
+            return Err(BlobFault::Failed);
+        }
+        match line_within(&self.manifest, extent) {
+            Some(_line) => Ok(bytes),
+            None => Err(BlobFault::Failed),
         }
     }
 }

@@ -1,15 +1,16 @@
 //! Blobs in memory.
-ghost use Rattle.std.specs.Prelude.{◌≡◌, Some};
+ghost use Rattle.std.specs.Prelude.{◌≡◌, length, Some, IfOk};
 ghost use Rattle.std.specs.Option.{option_copied};
 ghost use Rattle.blob_store.specs.MemoryBlobs.{ReadsBlob, blob_of};
 
-use crate::blob_store::{BlobFault, BlobStore};
+use crate::blob_store::{BlobFault, BlobStore, PendingRead, StartedRead};
 use crate::filling::filled_part;
 use byte_codec::Bytes;
 use eden_base::{FileId, NoMemory};
 use fuse_wire::{Buffer, Extent};
 use std::alloc::Global;
 use std::marker::Model;
+use std::time::Duration;
 
 /// The blob of one file in memory, and the size that the manifest says. Contracts see a `StoredBlob`.
 #[derive(Drop)]
@@ -52,14 +53,43 @@ pub struct MemoryBlobs {
     pub blobs: Vec<MemoryBlob>,
 }
 
-impl BlobStore for MemoryBlobs {
-    ghost reads = { λ store extent result. ReadsBlob (blob_of store.blobs.items extent.file) extent.offset extent.len result };
-
-    fn read(&self, alloc: Global, extent: &Extent) -> Result<Buffer, BlobFault> {
+impl MemoryBlobs {
+    /// Reads a part of a file.
+    fn read(&self, alloc: Global, extent: &Extent) -> Result<Buffer, BlobFault>
+        ensures reads { ReadsBlob (blob_of self.now.blobs.items extent.now.file) extent.now.offset extent.now.len result }
+        ensures whole { IfOk result (λ bytes. length bytes ≡ extent.now.len) }
+    {
         match find(self.blobs.as_slice(), extent.file) {
             Some(blob) => blob.read(alloc, extent.offset, extent.len),
             None => Err(BlobFault::Failed),
         }
+    }
+}
+
+/// Each read is over at once.
+impl BlobStore for MemoryBlobs {
+    ghost reads = { λ store extent result. ReadsBlob (blob_of store.blobs.items extent.file) extent.offset extent.len result };
+
+    fn start_read(&self, alloc: Global, extent: &Extent) -> StartedRead {
+        StartedRead::Done(self.read(alloc, extent))
+    }
+
+    fn poll_read(
+        &self,
+        alloc: Global,
+        read: &PendingRead,
+        _longest: Duration,
+    ) -> Option<Result<Buffer, BlobFault>> {
+        Some(self.read(alloc, &read.extent))
+    }
+
+    fn end_read(
+        &self,
+        alloc: Global,
+        read: &PendingRead,
+        _longest: Duration,
+    ) -> Result<Buffer, BlobFault> {
+        self.read(alloc, &read.extent)
     }
 }
 
