@@ -1,7 +1,8 @@
 -- What a read of a commit's files gives.
-use Rattle.std.specs.Prelude.{◌≡◌, ◌+◌, ◌≤◌, ℕ, List, Some, Result, Ok, Err, ⊤}
+use Rattle.std.specs.Prelude.{◌≡◌, ◌+◌, ◌≤◌, ℕ, List, length, Some, Result, Ok, Err, ⊤}
 use Rattle.fuse_wire.specs.declared.reply.Extent.{Extent}
 use Rattle.git_objects.specs.Reading.{IsRead}
+use Rattle.git_objects.specs.declared.git_objects.BlobPart.{BlobPart}
 use Rattle.git_tree.specs.GitObject.{object_at}
 use Rattle.git_tree.specs.declared.object_id.ObjectId.{ObjectId}
 use Rattle.blob_store.specs.FileBlobs.{IsWithin}
@@ -16,6 +17,18 @@ pub record IsOfObject (names : List ObjectId) (bound : ℕ) (extent : Extent) (b
   pub is_name : object_at names extent.file ≡ Some name
   pub is_within : extent.offset + extent.len ≤ size
   pub is_read : IsRead bound (record { object = name.0; size = size; offset = extent.offset; len = extent.len }) bytes
+
+-- the part of an object that an extent is: of the object that the commit names for the file
+pub record IsPartFor (names : List ObjectId) (extent : Extent) (part : BlobPart) : Type 0 where
+  pub name : ObjectId
+  pub is_name : object_at names extent.file ≡ Some name
+  pub is_part : part ≡ record { object = name.0; size = part.size; offset = extent.offset; len = extent.len }
+
+-- these are all the bytes of an extent that the manifest has, and of the file's object
+pub record IsOfFile (manifest : Manifest) (names : List ObjectId) (bound : ℕ) (extent : Extent) (bytes : List ℕ) : Type 0 where
+  pub within : IsWithin manifest extent
+  pub object : IsOfObject names bound extent bytes
+  pub whole : length bytes ≡ extent.len
 
 -- What a read gives: bytes only of an extent that the manifest has, and of the file's object. Why it gives none is unknown
 -- before git is asked.

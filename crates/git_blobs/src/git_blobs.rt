@@ -1,16 +1,19 @@
 //! The blobs of a commit's files.
-ghost use Rattle.std.specs.Prelude.{◌≡◌, length, IfOk, OnOk};
+ghost use Rattle.std.specs.Prelude.{◌≡◌, IfOk, OnOk};
 ghost use Rattle.blob_store.specs.FileBlobs.{IsWithin};
-ghost use Rattle.git_blobs.specs.Serving.{IsOfObject, ReadsCommit};
+ghost use Rattle.blob_store.specs.Reads.{IsGiven};
+ghost use Rattle.git_blobs.specs.Serving.{IsOfFile, IsPartFor, ReadsCommit};
 
-use blob_store::{BlobFault, BlobStore, FailureNotes, line_within};
+use blob_store::{BlobFault, BlobStore, FailureNotes, PendingRead, StartedRead, line_within};
+use byte_codec::Bytes;
 use fuse_wire::{Buffer, Extent};
-use git_objects::{BlobPart, GitObjects, ObjectFault};
+use git_objects::{BlobPart, GitObjects, ObjectFault, PendingPart, StartedPart};
 use git_tree::Objects;
 use manifest::Manifest;
 use std::alloc::Global;
 use std::rt::Clock;
 use std::sync::Wait;
+use std::time::Duration;
 
 /// The store of a commit: the blob of a file is the object that the commit's tree names for it.
 #[derive(Drop)]
@@ -45,11 +48,10 @@ impl<'a, R: Clock + Wait> GitBlobs<'a, R> {
         }
     }
 
-    /// Fetches a part of a file or of a link's target.
-    fn fetch(&self, alloc: Global, extent: &Extent) -> Result<Buffer, ObjectFault>
+    /// Returns the part of an object that an extent is.
+    fn part_of(&self, extent: &Extent) -> Result<BlobPart, ObjectFault>
         ensures within { OnOk result (IsWithin self.now.manifest extent.now) }
-        ensures whole { IfOk result (λ bytes. length bytes ≡ extent.now.len) }
-        ensures object { IfOk result (IsOfObject self.now.names self.now.objects extent.now) }
+        ensures part { IfOk result (IsPartFor self.now.names extent.now) }
     {
         let Some(line) = line_within(&self.manifest, extent) else {
             return Err(ObjectFault::Beyond);
@@ -58,32 +60,91 @@ impl<'a, R: Clock + Wait> GitBlobs<'a, R> {
             return Err(ObjectFault::Missing);
         };
         let object = name.0;
-        let part = BlobPart {
+        Ok(BlobPart {
             object,
             size: line.size,
             offset: extent.offset,
             len: extent.len as usize,
+        })
+    }
+
+    /// Returns what a read of an extent gives, by what git gave of the object's part. A fault is said.
+    fn given_by(
+        &self,
+        extent: &Extent,
+        told: Result<Bytes, ObjectFault>,
+    ) -> Result<Buffer, BlobFault>
+        requires told { IfOk told (IsOfFile self.now.manifest self.now.names self.now.objects extent.now) }
+        ensures given { IsGiven (ReadsCommit self.now.manifest self.now.names self.now.objects) extent.now result }
+    {
+        let fault = match told {
+            Ok(bytes) => match Buffer::of(bytes) {
+                Some(buffer) => return Ok(buffer),
+                None => ObjectFault::Beyond,
+            },
+            Err(ObjectFault::NoMemory) => return Err(BlobFault::NoMemory),
+            Err(fault) => fault,
         };
-        let bytes = self.objects.read(self.rt, alloc, part)?;
-        match Buffer::of(bytes) {
-            Some(buffer) => Ok(buffer),
-            None => Err(ObjectFault::Beyond),
-        }
+        self.failures
+            .say(self.rt, &self.manifest, extent.file, fault);
+        Err(BlobFault::Failed)
     }
 }
 
 impl<R: Clock + Wait> BlobStore for GitBlobs<'_, R> {
     ghost reads = { λ store extent result. ReadsCommit store.manifest store.names store.objects extent result };
 
-    fn read(&self, alloc: Global, extent: &Extent) -> Result<Buffer, BlobFault> {
-        match self.fetch(alloc, extent) {
-            Ok(buffer) => Ok(buffer),
-            Err(ObjectFault::NoMemory) => Err(BlobFault::NoMemory),
-            Err(fault) => {
-                self.failures
-                    .say(self.rt, &self.manifest, extent.file, fault);
-                Err(BlobFault::Failed)
-            }
+    #[tactic(auto, using(crate::proofs::OfFile::of_file))]
+    fn start_read(&self, alloc: Global, extent: &Extent) -> StartedRead {
+        let part = match self.part_of(extent) {
+            Ok(part) => part,
+            Err(fault) => return StartedRead::Done(self.given_by(extent, Err(fault))),
+        };
+        match self.objects.start_read(self.rt, alloc, part) {
+            StartedPart::Done(told) => StartedRead::Done(self.given_by(extent, told)),
+            StartedPart::Pending(pending) => StartedRead::Pending(PendingRead {
+                extent: *extent,
+                ticket: pending.ticket,
+            }),
         }
+    }
+
+    #[tactic(auto, using(crate::proofs::OfFile::of_file))]
+    fn poll_read(
+        &self,
+        alloc: Global,
+        read: &PendingRead,
+        longest: Duration,
+    ) -> Option<Result<Buffer, BlobFault>> {
+        let part = match self.part_of(&read.extent) {
+            Ok(part) => part,
+            Err(fault) => return Some(self.given_by(&read.extent, Err(fault))),
+        };
+        let pending = PendingPart {
+            part,
+            ticket: read.ticket,
+        };
+        let told = self.objects.poll_read(self.rt, alloc, pending, longest)?;
+        Some(self.given_by(&read.extent, told))
+    }
+
+    #[tactic(auto, using(crate::proofs::OfFile::of_file))]
+    fn end_read(
+        &self,
+        alloc: Global,
+        read: &PendingRead,
+        longest: Duration,
+    ) -> Result<Buffer, BlobFault> {
+        let told = match self.part_of(&read.extent) {
+            Ok(part) => {
+                let pending = PendingPart {
+                    part,
+                    ticket: read.ticket,
+                };
+                self.objects.end_read(self.rt, alloc, pending, longest)
+            }
+            Err(fault) => Err(fault),
+        };
+        self.given_by(&read.extent, told)
     }
 }
