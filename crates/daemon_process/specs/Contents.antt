@@ -1,7 +1,9 @@
 -- What a read of a daemon's contents gives. (This project's own.)
 use Rattle.std.specs.Prelude.{◌≡◌, ℕ, List, Result, Err}
 use Rattle.fuse_wire.specs.declared.reply.Extent.{Extent}
+use Rattle.std.specs.Arc.{arc_value}
 use Rattle.blob_store.specs.FileBlobs.{ReadsFiles}
+use Rattle.blob_store.specs.FileReadPool.{manifest_of}
 use Rattle.git_blobs.specs.Serving.{ReadsCommit}
 use Rattle.blob_store.specs.declared.blob_store.BlobFault.{BlobFault}
 use Rattle.blob_store.specs.declared.blob_store.BlobFault.TheVariants.{Failed}
@@ -11,6 +13,6 @@ use Rattle.daemon_process.specs.declared.contents.Contents.TheVariants as of
 -- what a read gives: bytes only of a regular file or a link of the manifest, within its size; and Failed where there are none
 abbrev pub ReadsContents : {R : Type 0} → Contents R → Extent → Result (List ℕ) BlobFault → Type 0
 ReadsContents of.None extent result = result ≡ Err Failed
-ReadsContents (of.Directory files) extent result = ReadsFiles files.manifest extent result
+ReadsContents (of.Directory files) extent result = ReadsFiles (manifest_of (arc_value files)) extent result
 ReadsContents (of.Repository blobs) extent result =
     ReadsCommit blobs.manifest blobs.names blobs.objects extent result

@@ -7,4 +7,5 @@ pub mod Rounds
 pub mod Serving
 pub mod Silence
 pub mod Takeovers
+pub mod Waiting
 pub mod SentFrames

@@ -5,7 +5,8 @@ use Rattle.std.specs.Io.KnownBytes.{Appends}
 use Rattle.daemon.specs.Daemon.{lent_server}
 use Rattle.daemon.specs.Server.{ServerState}
 use Rattle.daemon.specs.declared.lease.Lease.{Lease}
-use Rattle.daemon_desk.specs.Desk.{DeskState, is_draining, lendable}
+use Rattle.daemon_desk.specs.Desk.{DeskState, Drains, is_draining, lendable}
+use Rattle.frames.specs.declared.frame.Frame.{Frame}
 use Rattle.takeover_core.specs.declared.phase.Phase.{Phase}
 use Rattle.takeover_core.specs.declared.phase.Phase.TheVariants as phases
 use Rattle.daemon_process.specs.declared.exit.Exit.{Exit}
@@ -41,26 +42,39 @@ IsRound (Some server) (Some (next.Serve lease stop)) = lent_server lease ≡ ser
 IsRound None None = Unit {0}
 IsRound server other = ⊥
 
--- nothing comes next while the daemon drains, else what `IsRound` says
-abbrev pub ComesWhile : Bool → Option ServerState → Option NextStep → Type 0
-ComesWhile true server what = what ≡ None
-ComesWhile false server what = IsRound server what
+-- while the daemon drains the replies are posted whose bytes have come, as long as some wait, and then nothing comes next; else
+-- what comes next is what `IsRound` says
+abbrev pub ComesWhile : (drains is_waiting : Bool) → Option ServerState → Option NextStep → Type 0
+ComesWhile true true server what = what ≡ Some next.PostReady
+ComesWhile true false server what = what ≡ None
+ComesWhile false is_waiting server what = IsRound server what
 
 -- whether the end of standard input ends a daemon in this phase, if it has come: a takeover goes to its end first
 abbrev pub ends_in : Bool → Phase → Bool
 ends_in true (phases.Serving generation) = true
 ends_in is_closed phase = false
 
--- the end comes next if standard input ends the daemon now; else nothing while the daemon drains, else what `IsRound`
--- says of what may be lent
-abbrev pub ComesOn : Bool → DeskState → Option NextStep → Type 0
-ComesOn true state what = what ≡ Some next.Close
-ComesOn false state what = ComesWhile (is_draining state.daemon.node.phase) (lendable state) what
+-- the last step of a daemon that ends, by whether replies wait: these are posted first
+abbrev pub last_step : Bool → NextStep
+last_step true = next.Finish
+last_step false = next.Close
 
--- the exit comes next if it is noted; else what `ComesOn` says, by whether standard input ended and ends the daemon
-abbrev pub ComesNext : Option Exit → Bool → DeskState → Option NextStep → Type 0
-ComesNext (Some exit) is_closed state what = what ≡ Some (next.Exit exit)
-ComesNext None is_closed state what = ComesOn (ends_in is_closed state.daemon.node.phase) state what
+-- the last step comes next if standard input ends the daemon now; else what `ComesWhile` says
+abbrev pub ComesOn : (ends is_waiting : Bool) → DeskState → Option NextStep → Type 0
+ComesOn true is_waiting state what = what ≡ Some (last_step is_waiting)
+ComesOn false is_waiting state what =
+    ComesWhile (is_draining state.daemon.node.phase) is_waiting (lendable state) what
+
+-- the exit comes next if it is noted; else what `ComesOn` says, by whether standard input ended and ends the daemon, and by
+-- whether replies wait
+abbrev pub ComesNext : Option Exit → (is_closed is_waiting : Bool) → DeskState → Option NextStep → Type 0
+ComesNext (Some exit) is_closed is_waiting state what = what ≡ Some (next.Exit exit)
+ComesNext None is_closed is_waiting state what = ComesOn (ends_in is_closed state.daemon.node.phase) is_waiting state what
+
+-- a daemon in whose channels replies wait has not drained; else it has where its desk says so
+abbrev pub DrainsWith : Bool → DeskState → Option Frame → DeskState → Type 0
+DrainsWith true old said new = (said ≡ None) × (new ≡ old)
+DrainsWith false old said new = Drains old said new
 
 -- ---- what is printed
 

@@ -144,7 +144,9 @@ impl<'a, R: Files<File = File> + Clock + Wait> DaemonContext<'a, R> {
         let mut channels = Vec::with_capacity(self.alloc, workers.len())?;
         for worker in workers {
             let channel = self.channel(worker, generation)?;
-            let fetching = FetchingChannel::new(self.alloc, channel, self.contents);
+            let Ok(fetching) = FetchingChannel::new(self.alloc, channel, self.contents) else {
+                return Err(io::Error::from(ErrorKind::OutOfMemory));
+            };
             channels.push(Patient::new(fetching, Arc::try_clone(stop)?))?;
         }
         Ok(channels)

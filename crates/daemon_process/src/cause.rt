@@ -49,6 +49,9 @@ pub(crate) enum TakeoverFault {
     NoCommon,
     #[error("the other daemon takes no offer at present")]
     Busy,
+    /// Replies wait for the bytes of files, and did so for longer than the patience.
+    #[error("reads of files took too long")]
+    SlowReads,
     #[error("out of memory")]
     NoMemory,
     #[error("another manifest")]

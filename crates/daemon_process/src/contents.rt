@@ -4,7 +4,9 @@ ghost use Rattle.daemon_process.specs.Contents.{ReadsContents};
 use crate::fault::DaemonFault;
 use crate::options::{ContentsSource, RepositorySource};
 use crate::own_mounts::{is_below_own, is_of_own};
-use blob_store::{BlobFault, BlobStore, FailureNotes, FileBlobs};
+use blob_store::{
+    BlobFault, BlobStore, FailureNotes, FileBlobs, FileReadPool, PendingRead, StartedRead,
+};
 use fuse_wire::{Buffer, Extent};
 use git_blobs::GitBlobs;
 use git_objects::GitObjects;
@@ -18,8 +20,9 @@ use std::os::unix::fs::MetadataExt;
 use std::path::AsPath;
 use std::process::{Processes, SystemProcess};
 use std::rt::{Clock, Files};
-use std::sync::Wait;
+use std::sync::{Arc, Wait};
 use std::thread::Threads;
+use std::time::Duration;
 
 /// The table of this process's mounts.
 const MOUNTS: &str = "/proc/self/mountinfo";
@@ -30,10 +33,13 @@ pub(crate) enum Contents<'a, R> {
     /// There are none.
     None,
     /// They stand in a directory.
-    Directory(FileBlobs<'a, R>),
+    Directory(Arc<FileReadPool<R>>),
     /// They are objects of a git repository.
     Repository(GitBlobs<'a, R>),
 }
+
+/// How many threads read files of a directory.
+const READERS: usize = 16;
 
 /// How many descriptors a repository takes: for two processes of git with their questions and answers, and for the files of
 /// large blobs.
@@ -43,7 +49,8 @@ impl<R> Contents<'_, R> {
     /// Returns how many descriptors they take at most, beside those that workers open.
     pub(crate) fn descriptors(&self) -> usize {
         match self {
-            Contents::None | Contents::Directory(_) => 0,
+            Contents::None => 0,
+            Contents::Directory(_) => READERS,
             Contents::Repository(_) => DESCRIPTORS_OF_A_REPOSITORY,
         }
     }
@@ -52,11 +59,37 @@ impl<R> Contents<'_, R> {
 impl<R: Files<File = File> + Clock + Wait> BlobStore for Contents<'_, R> {
     ghost reads = { λ contents extent result. ReadsContents contents extent result };
 
-    fn read(&self, alloc: Global, extent: &Extent) -> Result<Buffer, BlobFault> {
+    fn start_read(&self, alloc: Global, extent: &Extent) -> StartedRead {
+        match self {
+            Contents::None => StartedRead::Done(Err(BlobFault::Failed)),
+            Contents::Directory(files) => files.start_read(alloc, extent),
+            Contents::Repository(blobs) => blobs.start_read(alloc, extent),
+        }
+    }
+
+    fn poll_read(
+        &self,
+        alloc: Global,
+        read: &PendingRead,
+        longest: Duration,
+    ) -> Option<Result<Buffer, BlobFault>> {
+        match self {
+            Contents::None => Some(Err(BlobFault::Failed)),
+            Contents::Directory(files) => files.poll_read(alloc, read, longest),
+            Contents::Repository(blobs) => blobs.poll_read(alloc, read, longest),
+        }
+    }
+
+    fn end_read(
+        &self,
+        alloc: Global,
+        read: &PendingRead,
+        longest: Duration,
+    ) -> Result<Buffer, BlobFault> {
         match self {
             Contents::None => Err(BlobFault::Failed),
-            Contents::Directory(files) => files.read(alloc, extent),
-            Contents::Repository(blobs) => blobs.read(alloc, extent),
+            Contents::Directory(files) => files.end_read(alloc, read, longest),
+            Contents::Repository(blobs) => blobs.end_read(alloc, read, longest),
         }
     }
 }
@@ -72,6 +105,7 @@ pub(crate) fn open_contents<
         + Processes<Started = SystemProcess>
         + Copy
         + Send
+        + Sync
         + 'static,
 >(
     rt: &'a R,
@@ -81,7 +115,7 @@ pub(crate) fn open_contents<
     notes: &Notes,
 ) -> Result<Contents<'a, R>, DaemonFault>
 where
-    R::Dir: Send,
+    R::Dir: Send + Sync,
 {
     let Ok(manifest) = manifest.share() else {
         return Err(DaemonFault::NoMemory);
@@ -90,8 +124,9 @@ where
         ContentsSource::None => Ok(Contents::None),
         ContentsSource::Directory(path) => {
             let folder = open_folder(rt, alloc, path).map_err(fault_of)?;
-            let files = FileBlobs::new(rt, alloc, folder, manifest, notes.again());
-            Ok(Contents::Directory(files))
+            let files = FileBlobs::new(*rt, alloc, folder, manifest, notes.again());
+            let pool = FileReadPool::start(rt, alloc, files, READERS).map_err(unstarted)?;
+            Ok(Contents::Directory(pool))
         }
         ContentsSource::Repository(repository) => {
             let RepositorySource { path, names, bound } = repository;
@@ -102,7 +137,7 @@ where
     }
 }
 
-/// Returns the fault of a daemon whose threads for a repository were not made for `error`.
+/// Returns the fault of a daemon whose threads for its contents were not made for `error`.
 fn unstarted(error: Error) -> DaemonFault {
     match error.kind() {
         ErrorKind::OutOfMemory => DaemonFault::NoMemory,

@@ -10,6 +10,7 @@ use crate::fault::DaemonFault;
 use crate::peer_connections::PeerConnections;
 use crate::peer_queue::OfferingPeer;
 use crate::sent_frames::send_all;
+use crate::shared::Draining;
 use daemon_desk::{Claiming, Hearing};
 use links::Frame;
 use sockets::{Connection, Deadline};
@@ -139,11 +140,13 @@ impl<R: Wait + Clock> HandoverLoop<'_, R> {
         }
     }
 
-    /// Waits until the daemon has drained, and asks the other one whether it is there to take the data.
+    /// Waits until the daemon has drained, for the patience at most, and asks the other one whether it is there to take the data.
     fn ask_whether_there(&self, connection: &mut Connection<'_, R>) -> Course {
         let (rt, shared) = (self.context.rt, self.context.shared);
-        let Some(ready) = shared.drain(rt) else {
-            return Course::Ends;
+        let ready = match shared.drain(rt, self.patience) {
+            Draining::Ready(ready) => ready,
+            Draining::Late => return Course::Fails(TakeoverFault::SlowReads),
+            Draining::Over => return Course::Ends,
         };
         match connection.write(&ready) {
             Ok(()) => Course::GoesOn,

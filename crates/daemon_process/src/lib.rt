@@ -25,6 +25,7 @@ mod sent_frames;
 mod shared;
 mod silence;
 mod takeover;
+mod waiting;
 mod watched;
 
 pub use contents::check_directory;

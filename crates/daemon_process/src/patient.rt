@@ -6,9 +6,11 @@ ghost use Rattle.workers.specs.Channel.{with_ask};
 ghost use Rattle.workers.specs.declared.channel.NextAsk.TheVariants as took;
 
 use crate::channel_end::ChannelEnd;
+use crate::waiting::WaitingChannel;
 use broker_core::TakeFault;
 use fuse_wire::Reply;
 use std::sync::Arc;
+use std::time::Duration;
 use workers::{Channel, NextAsk, Posted, Stop};
 
 /// How often a channel is asked again before a worker's round ends.
@@ -75,6 +77,22 @@ impl<C: Channel> Channel for Patient<C> {
 
     fn post(&mut self, reply: &Reply) -> Posted {
         self.channel.post(reply)
+    }
+}
+
+impl<C: WaitingChannel> WaitingChannel for Patient<C> {
+    ghost waiting = { λ patient. C.waiting patient.channel };
+
+    fn waiting(&self) -> usize {
+        self.channel.waiting()
+    }
+
+    fn post_ready(&mut self, longest: Duration) -> Posted {
+        self.channel.post_ready(longest)
+    }
+
+    fn finish(&mut self, longest: Duration) -> Posted {
+        self.channel.finish(longest)
     }
 }
 

@@ -29,7 +29,7 @@ pub(crate) struct PeerAcceptLoop<'a, R> {
     pub(crate) patience: Duration,
 }
 
-impl<R: Threads + Wait + Clock + Sync> PeerAcceptLoop<'_, R> {
+impl<R: Threads + Wait + Clock + Send + Sync> PeerAcceptLoop<'_, R> {
     /// Accepts connections until no more are let in, and returns when each of them was heard.
     pub(crate) fn run(&self) {
         thread::scope(

@@ -116,11 +116,10 @@ where
 }
 
 /// Gets the seat, serves until the daemon ends, and returns how it ends.
-fn serve_mount<R: Threads + Wait + Clock + Files<File = File> + Net + Sync, W: Unblock + Drop>(
-    context: &DaemonContext<'_, R>,
-    options: &DaemonOptions<'_>,
-    out: W,
-) -> Service<W>
+fn serve_mount<
+    R: Threads + Wait + Clock + Files<File = File> + Net + Send + Sync,
+    W: Unblock + Drop,
+>(context: &DaemonContext<'_, R>, options: &DaemonOptions<'_>, out: W) -> Service<W>
 where
     R::Dir: Send + Sync,
     ensures prints { PrintsServing (W.contents out) (W.contents result.out) }
@@ -176,7 +175,7 @@ fn print_ending<W: Unblock>(out: &mut W, ending: DaemonEnd) -> Result<(), Daemon
 }
 
 /// Serves the mount and takeovers in separate threads until the daemon ends, and returns how it ends.
-fn run<R: Threads + Wait + Clock + Files<File = File> + Sync, W: Unblock + Drop>(
+fn run<R: Threads + Wait + Clock + Files<File = File> + Send + Sync, W: Unblock + Drop>(
     context: &DaemonContext<'_, R>,
     options: &DaemonOptions<'_>,
     seated: Seated<'_, R>,
@@ -224,7 +223,7 @@ where
 
 /// Runs the threads of a daemon in a scope until it ends, and returns how it ends. The seat is claimed over the connection
 /// `broker`.
-fn run_threads<R: Threads + Wait + Clock + Files<File = File> + Sync, W: Unblock + Drop>(
+fn run_threads<R: Threads + Wait + Clock + Files<File = File> + Send + Sync, W: Unblock + Drop>(
     threads: &DaemonThreads<'_, R>,
     broker: Connection<'_, R>,
     out: W,
@@ -252,7 +251,7 @@ struct DaemonThreads<'a, R> {
     rounds: RoundLoop<'a, R>,
 }
 
-impl<R: Threads + Wait + Clock + Files<File = File> + Sync> DaemonThreads<'_, R>
+impl<R: Threads + Wait + Clock + Files<File = File> + Send + Sync> DaemonThreads<'_, R>
 where
     R::Dir: Send + Sync,
 {

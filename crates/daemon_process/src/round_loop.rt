@@ -1,16 +1,17 @@
 //! The loop of rounds in which a daemon serves.
-ghost use Rattle.std.specs.Prelude.{◌≡◌, vec_len, IfOk, OnErr, OnOk};
+ghost use Rattle.std.specs.Prelude.{◌≡◌, vec_len, IfOk, OnErr, OnOk, None, Some, if◌then◌else◌};
 ghost use Rattle.std.specs.Io.KnownBytes.{Appends};
-ghost use Rattle.daemon_process.specs.Ending.{MayEnd, PrintsServing};
-ghost use Rattle.daemon_process.specs.Rounds.{EndsByWorkers};
+ghost use Rattle.daemon_process.specs.Ending.{MayEnd, PrintsServing, exit_of_broken};
+ghost use Rattle.daemon_process.specs.Rounds.{EndsByWorkers, one_is_over};
 ghost use Rattle.daemon_process.specs.Serving.{IsSameSpell, PrintsRound, begins, printed_of, serving_line};
 
 use crate::arrival::Worker;
 use crate::channel_end::ChannelEnd;
 use crate::context::DaemonContext;
 use crate::exit::{DaemonEnd, Exit};
-use crate::rounds::{RoundParts, exit_of, serve_one};
+use crate::rounds::{RoundParts, exit_of, exit_of_broken, one_is_over, serve_one};
 use crate::shared::{NextStep, RoundStop};
+use crate::waiting::{WaitingChannel, finish_all, has_waiting, post_all_ready};
 use daemon::Lease;
 use non_blocking::Unblock;
 use std::fs::File;
@@ -46,7 +47,7 @@ pub(crate) struct RoundLoop<'a, R> {
     pub(crate) until_closed: bool,
 }
 
-impl<'a, R: Files<File = File> + Threads + Wait + Clock + Sync> RoundLoop<'a, R>
+impl<'a, R: Files<File = File> + Threads + Wait + Clock + Send + Sync> RoundLoop<'a, R>
 where
     R::Dir: Send + Sync,
 {
@@ -70,6 +71,16 @@ where
                     }
                 }
                 NextStep::Pause => thread::sleep(rt, Duration::from_millis(PAUSE)),
+                NextStep::PostReady => {
+                    if let Some(exit) = self.post_ready(&mut workers) {
+                        return DaemonEnd::Exits(exit);
+                    }
+                }
+                NextStep::Finish => {
+                    if let Some(exit) = self.finish_replies(&mut workers) {
+                        return DaemonEnd::Exits(exit);
+                    }
+                }
                 NextStep::Exit(exit) => return DaemonEnd::Exits(exit),
                 NextStep::Close => return DaemonEnd::Closed,
             }
@@ -91,17 +102,23 @@ where
     {
         let generation = lease.generation;
         let Ok(is_new) = self.prepare_workers(workers, generation, stop) else {
-            self.context.shared.take_back(self.context.rt, lease);
-            thread::sleep(self.context.rt, Duration::from_millis(PAUSE));
+            self.give_back(workers.channels.as_slice(), lease);
             return None;
         };
         print_round(out, is_new, lease.generation);
         self.serve_by_workers(workers, lease, &stop.stop)
     }
 
+    /// Gives back a lease over which no round could be served, and waits a moment.
+    fn give_back<C: WaitingChannel>(&self, channels: &[C], lease: Lease) {
+        let (rt, shared) = (self.context.rt, self.context.shared);
+        shared.take_back(rt, lease, has_waiting(channels));
+        thread::sleep(rt, Duration::from_millis(PAUSE));
+    }
+
     /// Serves a round over `lease` by the workers' channels, and gives the lease back. Returns the daemon's exit, if
     /// the daemon ends.
-    fn serve_by_workers<C: Channel + ChannelEnd + Drop + Send>(
+    fn serve_by_workers<C: Channel + ChannelEnd + WaitingChannel + Drop + Send>(
         &self,
         workers: &mut Workers<C>,
         lease: Lease,
@@ -124,11 +141,54 @@ where
             Ok(left) => {
                 workers.channels = left.channels;
                 workers.buffers = left.buffers;
-                shared.take_back(rt, left.lease);
+                let is_waiting = has_waiting(workers.channels.as_slice());
+                shared.take_back(rt, left.lease, is_waiting);
                 exit_of(workers.channels.as_slice())
             }
             Err(exit) => Some(exit),
         }
+    }
+
+    /// Posts the replies whose bytes come within a moment, and notes whether others wait. Returns the daemon's exit, if one of
+    /// the channels is broken.
+    fn post_ready<C: Channel + ChannelEnd + WaitingChannel + Drop>(
+        &self,
+        workers: &mut Workers<C>,
+    ) -> Option<Exit>
+        ensures same { IsSameSpell (workers.new.generation, workers.new.stops)
+            (workers.old.generation, workers.old.stops) }
+    {
+        let is_well = post_all_ready(&mut workers.channels);
+        self.note_posted(workers.channels.as_slice(), is_well)
+    }
+
+    /// Posts all replies that wait, and notes that none does. Returns the daemon's exit, if one of the channels is broken.
+    fn finish_replies<C: Channel + ChannelEnd + WaitingChannel + Drop>(
+        &self,
+        workers: &mut Workers<C>,
+    ) -> Option<Exit>
+        ensures same { IsSameSpell (workers.new.generation, workers.new.stops)
+            (workers.old.generation, workers.old.stops) }
+    {
+        let is_well = finish_all(&mut workers.channels);
+        self.note_posted(workers.channels.as_slice(), is_well)
+    }
+
+    /// Notes whether replies wait in these channels. Returns the daemon's exit, if one of them is broken.
+    fn note_posted<C: ChannelEnd + WaitingChannel>(
+        &self,
+        channels: &[C],
+        is_well: bool,
+    ) -> Option<Exit>
+        ensures ends { result ≡ (if is_well then None else Some (exit_of_broken (one_is_over C.why_ended channels.now))) }
+    {
+        if !is_well {
+            return Some(exit_of_broken(one_is_over(channels)));
+        }
+        self.context
+            .shared
+            .note_waiting(self.context.rt, has_waiting(channels));
+        None
     }
 
     /// Makes channels at `generation` if the present ones are of another generation, else lets the present ones end by

@@ -163,7 +163,7 @@ fn back_of<B: Backing + Drop, C: Channel + Drop>(back: RoundState<B, C>) -> Serv
 }
 
 /// Returns how a daemon ends whose round broke, by whether the broker said that the mount is over.
-fn exit_of_broken(is_over: bool) -> Exit
+pub(crate) fn exit_of_broken(is_over: bool) -> Exit
     ensures exit { result ≡ exit_of_broken is_over }
 {
     if is_over {
@@ -174,7 +174,7 @@ fn exit_of_broken(is_over: bool) -> Exit
 }
 
 /// Returns whether the broker said to one of these channels that the mount is over.
-fn one_is_over<C: ChannelEnd>(channels: &[C]) -> bool
+pub(crate) fn one_is_over<C: ChannelEnd>(channels: &[C]) -> bool
     ensures exact { result ≡ one_is_over C.why_ended channels.now }
 {
     channels.iter().any(|channel| is_over(channel.ended()))

@@ -2,9 +2,10 @@
 ghost use Rattle.std.specs.Prelude.{◌≡◌, ◌⊎◌, ◌&&◌, None, Some, is_some, true};
 ghost use Rattle.std.specs.Option.{IfSome};
 ghost use Rattle.takeover_core.specs.declared.phase.Phase.TheVariants.{Serving};
-ghost use Rattle.daemon_desk.specs.Desk.{Hears};
+ghost use Rattle.daemon.specs.Daemon.{lent_server};
+ghost use Rattle.daemon_desk.specs.Desk.{Hears, returned};
 ghost use Rattle.daemon_process.specs.Ending.{ending_before};
-ghost use Rattle.daemon_process.specs.Serving.{ComesNext, IsServing, ends_in, served_next, stops_behind, stops_next};
+ghost use Rattle.daemon_process.specs.Serving.{ComesNext, DrainsWith, IsServing, ends_in, last_step, served_next, stops_behind, stops_next};
 ghost use Rattle.daemon_process.specs.declared.exit.DaemonEnd.TheVariants.{Closed};
 ghost use Rattle.daemon_process.specs.declared.shared.NextStep.TheVariants.{Close};
 
@@ -15,13 +16,15 @@ use daemon::Lease;
 use daemon_desk::{Claiming, DaemonDesk, Hearing, Mounting};
 use eden_base::NoMemory;
 use links::Frame;
-use monitor::{Condition, Look, Monitor};
+use monitor::{Condition, Look, Monitor, Patience};
 use non_blocking::Notes;
 use std::alloc::Global;
 use std::mem;
 use std::net::Shutdown;
 use std::os::unix::net::UnixStream;
+use std::rt::Clock;
 use std::sync::{Arc, Wait};
+use std::time::Duration;
 use takeover_core::Phase;
 use workers::Stop;
 
@@ -38,6 +41,8 @@ struct SharedState {
     is_finished: bool,
     /// Whether standard input ended, so that the daemon is to end.
     is_closed: bool,
+    /// Whether replies wait in the workers' channels for the bytes of files.
+    is_waiting: bool,
     /// A handle of the connection at which the daemon waits before it serves, if it waits.
     waits_at: Option<UnixStream>,
 }
@@ -57,9 +62,24 @@ pub(crate) enum NextStep {
     Serve(Lease, RoundStop),
     /// Waits a moment, since memory was refused.
     Pause,
+    /// Posts the replies whose bytes have come: a daemon that drains waits for all of them.
+    PostReady,
+    /// Posts all replies that wait for the bytes of files, since the daemon ends.
+    Finish,
     Exit(Exit),
     /// Ends, since standard input ended.
     Close,
+}
+
+/// What came of waiting until a daemon has drained.
+#[derive(Drop)]
+pub(crate) enum Draining {
+    /// It has drained, and says this to the other daemon.
+    Ready(Frame),
+    /// It took too long: replies wait for the bytes of files.
+    Late,
+    /// The daemon is over.
+    Over,
 }
 
 /// The state of a daemon under a lock, and the condition by which its threads hear of changes.
@@ -76,7 +96,7 @@ impl SharedState {
     /// if `until_closed`.
     #[tactic(auto, using(crate::proofs::NextRound::serves_at))]
     fn next(&mut self, alloc: Global, until_closed: bool) -> Option<NextStep>
-        ensures next { ComesNext self.old.exit (until_closed && self.old.is_closed) self.old.desk result }
+        ensures next { ComesNext self.old.exit (until_closed && self.old.is_closed) self.old.is_waiting self.old.desk result }
         ensures closes { result ≡ Some Close → until_closed ≡ true }
         ensures serves { IfSome (served_next result) (λ lease.
             self.old.desk.daemon.node.phase ≡ Serving lease.generation) }
@@ -86,11 +106,11 @@ impl SharedState {
         if let Some(exit) = self.exit {
             return Some(NextStep::Exit(exit));
         }
-        if until_closed && self.is_closed && self.is_free() {
-            return Some(NextStep::Close);
+        if self.ends(until_closed) {
+            return Some(self.last_step());
         }
         if self.desk.drains() {
-            return None;
+            return self.is_waiting.then_some(NextStep::PostReady);
         }
         let Ok(stop) = self.stop_of_round(alloc) else {
             return Some(NextStep::Pause);
@@ -100,11 +120,48 @@ impl SharedState {
         Some(NextStep::Serve(lease, RoundStop { stop, stops }))
     }
 
-    /// Returns whether the daemon serves and no takeover is under way.
-    fn is_free(&self) -> bool
-        ensures free { result ≡ ends_in true self.now.desk.daemon.node.phase }
+    /// Returns whether the daemon ends, since standard input ended, it is to end by that if `until_closed`, and no takeover is
+    /// under way.
+    fn ends(&self, until_closed: bool) -> bool
+        ensures ends { result ≡ ends_in (until_closed && self.now.is_closed) self.now.desk.daemon.node.phase }
     {
+        if !until_closed || !self.is_closed {
+            return false;
+        }
         matches!(self.desk.phase(), Phase::Serving { .. })
+    }
+
+    /// Returns the last step of a daemon that ends: to end, behind the one in which the replies are posted that wait.
+    fn last_step(&self) -> NextStep
+        ensures last { result ≡ last_step self.now.is_waiting }
+    {
+        if self.is_waiting {
+            NextStep::Finish
+        } else {
+            NextStep::Close
+        }
+    }
+
+    /// Takes back the lease of a round, behind which replies wait if `is_waiting`.
+    fn take_back(&mut self, lease: Lease, is_waiting: bool)
+        ensures desk { self.new.desk ≡ returned self.old.desk (lent_server lease) }
+        ensures waiting { self.new.is_waiting ≡ is_waiting }
+        ensures exit { self.new.exit ≡ self.old.exit }
+    {
+        self.desk.take_back(lease);
+        self.is_waiting = is_waiting;
+    }
+
+    /// Returns the frame that says that the daemon is ready to hand over, if it has drained: no workers have a lease, and no
+    /// reply waits.
+    fn drained(&mut self) -> Option<Frame>
+        ensures drains { DrainsWith self.old.is_waiting self.old.desk result self.new.desk }
+        ensures exit { self.new.exit ≡ self.old.exit }
+    {
+        if self.is_waiting {
+            return None;
+        }
+        self.desk.drained()
     }
 
     /// Returns whether the daemon's exit is noted, or its main thread has ended.
@@ -179,6 +236,7 @@ impl Shared {
                 exit: None,
                 is_finished: false,
                 is_closed: false,
+                is_waiting: false,
                 waits_at: None,
             }),
             changes: Condition::new(),
@@ -255,20 +313,31 @@ impl Shared {
         })
     }
 
-    /// Takes a round's lease back.
-    pub(crate) fn take_back<R: Wait>(&self, rt: &R, lease: Lease) {
-        self.state
-            .change(rt, &self.changes, |state| state.desk.take_back(lease));
+    /// Takes a round's lease back. `is_waiting` says whether replies wait in the workers' channels.
+    pub(crate) fn take_back<R: Wait>(&self, rt: &R, lease: Lease, is_waiting: bool) {
+        self.state.change(rt, &self.changes, |state| {
+            state.take_back(lease, is_waiting)
+        });
     }
 
-    /// Waits until the workers gave their lease back, and returns the frame to send to the other daemon. Returns none
-    /// if the daemon is over before that.
-    pub(crate) fn drain<R: Wait>(&self, rt: &R) -> Option<Frame> {
+    /// Notes whether replies wait in the workers' channels, of which some may have been posted.
+    pub(crate) fn note_waiting<R: Wait>(&self, rt: &R, is_waiting: bool) {
+        self.state
+            .change(rt, &self.changes, |state| state.is_waiting = is_waiting);
+    }
+
+    /// Waits until the workers gave their lease back and no reply waits for the bytes of a file, for `longest` at most.
+    pub(crate) fn drain<R: Wait + Clock>(&self, rt: &R, longest: Duration) -> Draining {
+        let mut patience = Patience::start(rt, longest);
         self.state.wait_until(rt, &self.changes, |state| {
             if state.is_over() {
-                return Look::Found(None);
+                return Look::Found(Draining::Over);
             }
-            Look::of(state.desk.drained().map(Some))
+            match state.drained() {
+                Some(ready) => Look::Found(Draining::Ready(ready)),
+                None if patience.look(rt) => Look::Found(Draining::Late),
+                None => Look::Again(patience.slice()),
+            }
         })
     }
 
