@@ -37,6 +37,7 @@ def a_daemon_that_sh_kills_is_followed_by_another(room):
     """A daemon is killed by `sh`, and another one mounts: the kernel holds nothing, and goes on at the next generation."""
     broker = room.broker("seat 1", "ask lookup 1 src", "seat 2", "held", "ask getattr 1")
     first = room.mount()
+    first.printed("serving 1")
     broker.printed(2)
     same(run_to_end(["sh", "-c", f"kill -9 {first.pid}"])[0], 0)
     second = mounted_anew(room)
