@@ -3,7 +3,7 @@ use Rattle.std.specs.Prelude.{ℕ, Bool, true, false, ◌&&◌, ◌||◌, ◌==�
 use Rattle.eden_base.specs.declared.number.DaemonId.{DaemonId}
 use Rattle.broker_desk.specs.declared.peer.Peer.{Peer}
 use Rattle.broker_desk.specs.declared.peer.Peer.TheVariants.{Unattached, Daemon, Worker}
-use Rattle.std.specs.declared.net.unix.UnixStream.{UnixStream}
+use Rattle.broker_process.specs.declared.connection_handle.ConnectionHandle.{ConnectionHandle}
 use Rattle.frames.specs.Lacking.{lacking}
 use Rattle.frames.specs.declared.fault.FrameFault.{FrameFault}
 use Rattle.broker_process.specs.declared.connections.Heard.{Heard}
@@ -104,5 +104,5 @@ named number peer connection =
     if has_number number connection then record connection { peer = peer; heard = Something } else connection
 
 -- a connection that just came: it is unattached
-abbrev pub entered : ℕ → UnixStream → OpenConnection
-entered number stream = record { number = number; peer = Unattached; heard = Unknown; stream = stream }
+abbrev pub entered : ℕ → ConnectionHandle → OpenConnection
+entered number handle = record { number = number; peer = Unattached; heard = Unknown; handle = handle }

@@ -1,5 +1,6 @@
 pub mod Connections
 pub mod Device
+pub mod HeldTakes
 pub mod Mounting
 pub mod Playing
 pub mod Serving

@@ -1,5 +1,11 @@
 -- How a reply is written until the kernel takes it. (This project's own.)
-use Rattle.std.specs.Prelude.{◌≡◌, ℕ, zero, suc, ◌+◌, ◌⊎◌, nat_lt, List, Option, Some, None, if◌then◌else◌}
+use Rattle.std.specs.Prelude.{◌≡◌, ℕ, Bool, true, zero, suc, ◌+◌, ◌⊎◌, nat_lt, List, Option, Some, None, if◌then◌else◌}
+use Rattle.eden_base.specs.declared.errno.Errno.TheVariants.{EIO, ENOMEM}
+use Rattle.fuse_wire.specs.ReplyText.{is_buffer}
+use Rattle.fuse_wire.specs.declared.reply.Reply.{Reply}
+use Rattle.mount_wire.specs.Told.{error_text, told_by}
+use Rattle.mount_wire.specs.declared.kept.Kept.{Kept}
+use Rattle.mount_wire.specs.declared.told_answer.MountAttributes.{MountAttributes}
 use Rattle.broker_process.specs.Device.{Gives}
 use Rattle.broker_process.specs.declared.device.Given.{Given}
 use Rattle.broker_process.specs.declared.device.Given.TheVariants.{Taken, Withdrawn, Refused}
@@ -28,3 +34,10 @@ WritesFrom (suc left) refusals reply error result old new =
 -- the writes of a reply, six at most
 abbrev pub Writes : List ℕ → List ℕ → Written → Option (List ℕ) → Option (List ℕ) → Type 0
 Writes reply error result old new = WritesFrom 6 0 reply error result old new
+
+-- A reply is written as the kernel of this mount is told it; where memory for its buffer was refused, ENOMEM is written in its
+-- place. In place of what the device refuses, EIO is written.
+abbrev pub TellsReply : Kept → Reply → MountAttributes → Written → Option (List ℕ) → Option (List ℕ) → Type 0
+TellsReply kept reply own result old new =
+    Writes (told_by kept reply.unique reply.answer own) (error_text reply.unique EIO) result old new
+    ⊎ ((is_buffer reply.answer ≡ true) × Writes (error_text reply.unique ENOMEM) (error_text reply.unique EIO) result old new)

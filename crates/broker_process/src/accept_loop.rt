@@ -1,5 +1,6 @@
 //! The accept loop of a broker. Each connection has a thread of its own.
 use crate::broker_socket::BrokerSocket;
+use crate::connection_handle::ConnectionHandle;
 use crate::connections::Heard;
 use crate::context::BrokerContext;
 use crate::shared_desk::AcceptedConnection;
@@ -29,12 +30,27 @@ pub(crate) struct AcceptLoop<'a, R> {
 }
 
 impl<R: Threads + Wait + Clock + Sync> AcceptLoop<'_, R> {
-    /// Runs the loop in a thread of `scope`. Returns whether the thread was made.
+    /// Runs the loop in a thread of `scope`, and answers Takes that waited for long enough in another one. Returns whether both
+    /// threads were made.
     pub(crate) fn start<'s, 'e: 's>(&'e self, scope: &Scope<'s, &'e ()>) -> bool
     where
         R: 's,
     {
-        scope.spawn(move || self.run()).is_ok()
+        let are_made = scope.spawn(move || self.pass_ticks()).is_ok()
+            && scope.spawn(move || self.run()).is_ok();
+        if !are_made {
+            self.end();
+        }
+        are_made
+    }
+
+    /// Answers Takes that waited for long enough, until no connection is let in any more.
+    fn pass_ticks(&self) {
+        for _ in self.context.rt.forever() {
+            if !self.context.shared.pass_tick(self.context.rt) {
+                return;
+            }
+        }
     }
 
     /// Ends all connections, and lets none in any more.
@@ -77,20 +93,30 @@ impl<R: Threads + Wait + Clock + Sync> BrokerContext<'_, R> {
     where
         R: 's,
     {
-        let Ok(handle) = stream.try_clone() else {
+        let Some((handle, again)) = self.handles(&stream) else {
             return;
         };
         self.shared.wait_for_room(self.rt);
-        let Some(accepted) = self.shared.enter(self.rt, handle) else {
+        let Some(accepted) = self.shared.enter(self.rt, again) else {
             return;
         };
-        if scope.spawn(move || self.attend(accepted, stream)).is_err() {
+        if scope
+            .spawn(move || self.attend(accepted, &handle, stream))
+            .is_err()
+        {
             self.shared.leave(self.rt, accepted);
         }
     }
 
+    /// Returns two handles of the connection `stream`, or none where the system or memory refuses them.
+    fn handles(&self, stream: &UnixStream) -> Option<(ConnectionHandle, ConnectionHandle)> {
+        let handle = ConnectionHandle::new(self.alloc, stream.try_clone().ok()?).ok()?;
+        let again = handle.share().ok()?;
+        Some((handle, again))
+    }
+
     /// Answers the frames of a connection until it ends.
-    fn attend(&self, accepted: AcceptedConnection, stream: UnixStream) {
+    fn attend(&self, accepted: AcceptedConnection, handle: &ConnectionHandle, stream: UnixStream) {
         let (rt, alloc, shared) = (self.rt, self.alloc, self.shared);
         let patience = Duration::from_millis(PATIENCE);
         let mut accepted = accepted;
@@ -98,7 +124,7 @@ impl<R: Threads + Wait + Clock + Sync> BrokerContext<'_, R> {
             let deadline = Deadline::after(rt, patience);
             shared.note_heard(rt, &accepted, heard_by(rt, &mut connection));
             for _ in rt.forever() {
-                if !self.answer_one(&mut accepted, &mut connection, deadline) {
+                if !self.answer_one(&mut accepted, handle, &mut connection, deadline) {
                     break;
                 }
             }
@@ -106,11 +132,12 @@ impl<R: Threads + Wait + Clock + Sync> BrokerContext<'_, R> {
         shared.leave(rt, accepted);
     }
 
-    /// Answers the next frame of a connection. An unattached connection has to send it by `deadline`. Returns whether
-    /// the connection goes on.
+    /// Answers the next frame of a connection, of which `handle` is a handle. An unattached connection has to send it by
+    /// `deadline`. Returns whether the connection goes on.
     fn answer_one(
         &self,
         accepted: &mut AcceptedConnection,
+        handle: &ConnectionHandle,
         connection: &mut Connection<'_, R>,
         deadline: Deadline,
     ) -> bool {
@@ -122,12 +149,22 @@ impl<R: Threads + Wait + Clock + Sync> BrokerContext<'_, R> {
         let Ok(Some(mut frame)) = connection.read(by) else {
             return false;
         };
-        let goes_on = match self.shared.answer(self.rt, accepted, &mut frame) {
-            Response::Tells(answer) => connection.write(&answer).is_ok(),
-            Response::Closes => false,
-        };
+        let answered = self.shared.answer(self.rt, accepted, handle, &mut frame);
+        if let Some(delivery) = answered.delivery {
+            self.deliver(delivery);
+        }
+        let goes_on = write(connection, answered.earlier) && write(connection, answered.response);
         connection.give_back(frame);
         goes_on
+    }
+}
+
+/// Writes an answer by a connection, if there is one. Returns whether the connection goes on.
+fn write<R: Clock>(connection: &mut Connection<'_, R>, response: Option<Response>) -> bool {
+    match response {
+        Some(Response::Tells(answer)) => connection.write(&answer).is_ok(),
+        Some(Response::Closes) => false,
+        None => true,
     }
 }
 

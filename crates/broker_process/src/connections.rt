@@ -3,12 +3,11 @@ ghost use Rattle.std.specs.Prelude.{◌≡◌, ◌<◌, [], ◌∷◌, ◌++◌,
 ghost use Rattle.std.specs.Option.{IfSome};
 ghost use Rattle.broker_process.specs.Connections.{entered, has_number, has_room, heard_of, is_unattached, is_silent, has_begun, named, noted, place_to_give, with_room, without_at, works_for};
 
+use crate::connection_handle::ConnectionHandle;
 use broker_desk::Peer;
 use eden_base::DaemonId;
 use frames::missing;
 use std::alloc::Global;
-use std::net::Shutdown;
-use std::os::unix::net::UnixStream;
 
 /// How many unattached connections may be open.
 pub(crate) const MAX_UNATTACHED: usize = 64;
@@ -47,7 +46,7 @@ pub(crate) struct OpenConnection {
     number: u64,
     peer: Peer,
     heard: Heard,
-    stream: UnixStream,
+    handle: ConnectionHandle,
 }
 
 impl OpenConnection {
@@ -120,9 +119,9 @@ impl Connections {
 
     /// Lets a connection in by a handle of it, and returns its number. At the limit another unattached connection has to go
     /// for it, and is ended. Returns none where none may go, or memory is refused: then nothing changes.
-    pub(crate) fn enter(&mut self, stream: UnixStream) -> Option<u64>
+    pub(crate) fn enter(&mut self, handle: ConnectionHandle) -> Option<u64>
         ensures entered { IfSome result (λ number. (number ≡ self.old.next) × (has_room self.old.list.items ≡ true)
-            × (self.new.list.items ≡ with_room self.old.list.items ++ entered self.old.next stream ∷ [])) }
+            × (self.new.list.items ≡ with_room self.old.list.items ++ entered self.old.next handle ∷ [])) }
         ensures unchanged { result ≡ None → self.new.list.items ≡ self.old.list.items }
     {
         if !self.has_room() {
@@ -135,7 +134,7 @@ impl Connections {
             number,
             peer: Peer::Unattached,
             heard: Heard::Unknown,
-            stream,
+            handle,
         });
         self.next = number.wrapping_add(1);
         Some(number)
@@ -160,7 +159,7 @@ impl Connections {
         }
         if let Some(place) = self.place_to_give() {
             let connection = self.list.remove(place);
-            let _ended = connection.stream.shutdown(Shutdown::Both);
+            connection.handle.end();
         }
     }
 
@@ -268,7 +267,7 @@ impl Connections {
     /// Ends all connections.
     pub(crate) fn end_all(&self) {
         for connection in self.list.iter() {
-            let _ended = connection.stream.shutdown(Shutdown::Both);
+            connection.handle.end();
         }
     }
 }

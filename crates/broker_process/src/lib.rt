@@ -4,11 +4,14 @@
 mod accept_loop;
 mod broker;
 mod broker_socket;
+mod connection_handle;
 mod connections;
 mod context;
 mod control;
+mod delivery;
 mod device;
 mod fault;
+mod held_takes;
 mod mount;
 mod reply_write;
 mod script;

@@ -5,20 +5,18 @@ ghost use Rattle.broker_process.specs.Serving.{Handles, IsHeardToTheEnd, ServesM
 
 use crate::context::BrokerContext;
 use crate::control::Control;
+use crate::delivery::ReplyWriter;
 use crate::device::{BUFFER_LEN, DeviceRead, read_device};
 use crate::fault::MountRunFault;
 use crate::reply_write::{Texts, Written, write_reply};
 use crate::shared_desk::NextWrite;
-use broker_core::IssueFault;
 use broker_desk::Progress;
-use eden_base::{Errno, NoMemory, Number};
-use fuse_wire::Reply;
-use mount_wire::{Kept, KernelMessage, MountAttributes, read_message, tell_answer, tell_error};
+use mount_wire::{KernelMessage, MountAttributes, read_message};
 use std::fs::File;
 use std::io::{self, Read, Write};
 use std::process::Processes;
 use std::rt::Clock;
-use std::sync::Wait;
+use std::sync::{Arc, Wait};
 use std::thread::{self, Scope, Threads};
 use std::time::Duration;
 
@@ -77,7 +75,8 @@ enum Handled {
 }
 
 impl<R: Threads + Wait + Clock + Processes + Sync> MountService<'_, R> {
-    /// Serves a mount: reads in a thread what the kernel asks by the device, and writes replies in this one.
+    /// Serves a mount: reads in a thread what the kernel asks by the device, and waits in this one for the end. Replies are
+    /// written by the threads of the connections by which they come.
     pub(crate) fn serve(&self, mounted: Mounted) -> Result<MountEnd, MountRunFault> {
         thread::scope(thread::scope_env(), self.context.rt, move |scope| {
             self.serve_within(scope, mounted)
@@ -98,12 +97,15 @@ impl<R: Threads + Wait + Clock + Processes + Sync> MountService<'_, R> {
             device,
             mut control,
         } = mounted;
-        let writer = device.try_clone().map_err(MountRunFault::Broken)?;
         let answers = device.try_clone().map_err(MountRunFault::Broken)?;
+        let writer = self.writer(&device)?;
+        self.context.shared.begin_service(rt, writer);
         let Ok(reading) = scope.spawn(move || self.read_to_the_end(device, answers)) else {
+            self.context.shared.end_service(rt);
             return Err(MountRunFault::NoThread);
         };
-        let delivery = self.deliver_all(writer);
+        let delivery = self.wait_for_end();
+        self.context.shared.end_service(rt);
         if delivery != Delivery::Over {
             control.end(rt, alloc, self.mountpoint);
         }
@@ -116,6 +118,18 @@ impl<R: Threads + Wait + Clock + Processes + Sync> MountService<'_, R> {
 }
 
 impl<R: Wait + Clock> MountService<'_, R> {
+    /// Returns where the replies of the mount over `device` are written.
+    fn writer(&self, device: &File) -> Result<ReplyWriter, MountRunFault> {
+        let handle = device.try_clone().map_err(MountRunFault::Broken)?;
+        match Arc::new(self.context.alloc, handle) {
+            Ok(device) => Ok(ReplyWriter {
+                device,
+                own: self.own,
+            }),
+            Err(_refused) => Err(MountRunFault::NoMemory),
+        }
+    }
+
     /// Reads what the kernel asks by `device` until the mount ends, and writes this program's own answers by `answers`.
     /// Where no daemon died, the daemons hear that the mount is over, so that who writes replies sees the end too. A
     /// device also says that the mount is gone where a daemon died, since the connection is ended then.
@@ -135,63 +149,16 @@ impl<R: Wait + Clock> MountService<'_, R> {
         }
     }
 
-    /// Writes each posted reply to the kernel until no daemon has the seat.
-    fn deliver_all(&self, device: File) -> Delivery {
+    /// Waits until the mount ends, and returns how. Delivers until then the replies that their connections' threads had to leave.
+    fn wait_for_end(&self) -> Delivery {
         let (rt, shared) = (self.context.rt, self.context.shared);
-        let mut device = device;
         for _ in rt.forever() {
             match shared.next(rt) {
-                NextWrite::Nothing | NextWrite::NoMemory => {}
+                NextWrite::Nothing | NextWrite::Later => {}
                 NextWrite::Over => return Delivery::Over,
                 NextWrite::Gone => return Delivery::Gone,
-                NextWrite::Unasked(answer) => self.take_back(answer.given_out()),
-                NextWrite::Reply(reply, kept) => {
-                    if !self.deliver(&mut device, reply, kept) {
-                        return Delivery::Refused;
-                    }
-                }
-            }
-        }
-        unreachable!()
-    }
-
-    /// Writes one reply to the kernel, of which that may keep what `kept` says, and forgets its number where the kernel did
-    /// not take it. Returns whether the device takes replies. Where memory for a buffer is refused, the program gets ENOMEM.
-    fn deliver(&self, device: &mut File, reply: Reply, kept: Kept) -> bool {
-        let (rt, alloc) = (self.context.rt, self.context.alloc);
-        let Reply { unique, answer } = reply;
-        let given = answer.given_out();
-        let error = tell_error(unique, Errno::EIO);
-        let written = match tell_answer(alloc, unique, answer, kept, &self.own) {
-            Ok(text) => {
-                let texts = Texts {
-                    reply: text.as_slice(),
-                    error: error.as_slice(),
-                };
-                write_reply(rt, device, &texts)
-            }
-            Err(NoMemory) => {
-                let text = tell_error(unique, Errno::ENOMEM);
-                let texts = Texts {
-                    reply: text.as_slice(),
-                    error: error.as_slice(),
-                };
-                write_reply(rt, device, &texts)
-            }
-        };
-        if written != Written::Reply {
-            self.take_back(given);
-        }
-        written != Written::Refused
-    }
-
-    /// Forgets at once the number that an answer gave out, if it gave one, since the kernel did not take it.
-    fn take_back(&self, given: Option<Number>) {
-        let (rt, shared) = (self.context.rt, self.context.shared);
-        for _ in rt.forever() {
-            match shared.take_back(rt, given) {
-                Err(IssueFault::Full | IssueFault::NoMemory) => pause(rt),
-                Ok(()) | Err(_) => return,
+                NextWrite::Refused => return Delivery::Refused,
+                NextWrite::Deliver(delivery) => self.context.deliver(delivery),
             }
         }
         unreachable!()

@@ -12,30 +12,32 @@ ghost use Rattle.broker_script.specs.declared.awaited.Came.TheVariants.{Lacks};
 ghost use Rattle.script_lines.specs.BrokerLine.{IsSendableLine};
 
 mod mounted;
+mod takes;
 
+use crate::connection_handle::ConnectionHandle;
 use crate::connections::{Connections, Heard};
-use broker_desk::{Desk, Kernel, Peer, Response};
+use crate::delivery::ReplyWriter;
+use crate::held_takes::HeldTakes;
+use broker_desk::{Desk, Kernel, MAX_ASKS, Peer, Response};
 use broker_script::{Awaited, BegunLine, BrokerLine, Came, begin, look, print_begun, print_held};
-use eden_base::NoMemory;
+use eden_base::{NoMemory, Number};
 use links::Frame;
 use monitor::{Condition, Look, Monitor};
 pub(crate) use mounted::NextWrite;
 use script_lines::print_numbered;
-use sockets::{Deadline, Left};
 use std::alloc::Global;
 use std::fs::File;
 use std::io::{self, BufWriter, Write};
-use std::os::unix::net::UnixStream;
 use std::rt::Clock;
 use std::sync::Wait;
 use std::thread;
 use std::time::{Duration, Instant};
 
-/// For how many milliseconds a Take without an ask is held while the kernel is busy.
-const BUSY_HOLD: u64 = 1;
+/// How many milliseconds a tick lasts while the kernel is busy. A Take without an ask waits until a tick ends.
+const BUSY_TICK: u64 = 1;
 
-/// For how many milliseconds a Take without an ask is held while the kernel is idle.
-const IDLE_HOLD: u64 = 20;
+/// How many milliseconds a tick lasts while the kernel is idle.
+const IDLE_TICK: u64 = 20;
 
 /// How long the kernel counts as busy after an ask, in milliseconds.
 const MOMENT: u64 = 1000;
@@ -70,6 +72,13 @@ struct SharedDeskState {
     agreed: Agreed,
     /// Where it is noted at each takeover what the kernel holds, if it is.
     log: Option<BufWriter<File>>,
+    takes: HeldTakes,
+    /// Where replies are written while a kernel's mount is served.
+    writer: Option<ReplyWriter>,
+    /// The numbers that replies gave out which the kernel did not take, and which are not forgotten yet.
+    given_back: Vec<Number>,
+    /// Whether the device refused everything.
+    is_refused: bool,
     is_over: bool,
 }
 
@@ -109,12 +118,12 @@ impl AcceptedConnection {
     }
 }
 
-/// The desk and the connections, under a lock. `asks` wakes a held Take and a held Mount, and `events` wakes the script, or
-/// the thread that writes replies to the kernel.
+/// The desk and the connections, under a lock. `grants` wakes a Mount that waits, and `events` wakes the script, or the
+/// thread that ends a mount.
 #[derive(Drop)]
 pub(crate) struct SharedDesk {
     state: Monitor<SharedDeskState>,
-    asks: Condition,
+    grants: Condition,
     events: Condition,
 }
 
@@ -286,6 +295,7 @@ impl SharedDesk {
         log: Option<BufWriter<File>>,
     ) -> Result<SharedDesk, NoMemory> {
         let kernel = Kernel::new(alloc)?;
+        let given_back = Vec::with_capacity(alloc, MAX_ASKS)?;
         Ok(SharedDesk {
             state: Monitor::new(SharedDeskState {
                 desk: broker,
@@ -296,20 +306,28 @@ impl SharedDesk {
                 is_mounted: false,
                 agreed,
                 log,
+                takes: HeldTakes::new(alloc),
+                writer: None,
+                given_back,
+                is_refused: false,
                 is_over: false,
             }),
-            asks: Condition::new(),
+            grants: Condition::new(),
             events: Condition::new(),
         })
     }
 
     /// Lets a connection in, by a handle of it. Returns none if no more connections may come.
-    pub(crate) fn enter<R: Wait>(&self, rt: &R, stream: UnixStream) -> Option<AcceptedConnection> {
+    pub(crate) fn enter<R: Wait>(
+        &self,
+        rt: &R,
+        handle: ConnectionHandle,
+    ) -> Option<AcceptedConnection> {
         let mut state = self.state.lock(rt);
         if state.is_over {
             return None;
         }
-        let number = state.connections.enter(stream)?;
+        let number = state.connections.enter(handle)?;
         Some(AcceptedConnection {
             number,
             peer: Peer::Unattached,
@@ -333,90 +351,21 @@ impl SharedDesk {
         self.state.lock(rt).connections.note(accepted.number, heard);
     }
 
-    /// Notes that a connection ended.
+    /// Notes that a connection ended. A Take of it waits no more.
     pub(crate) fn leave<R: Wait>(&self, rt: &R, accepted: AcceptedConnection) {
         let mut state = self.state.lock(rt);
         state.connections.leave(accepted.number);
+        drop(state.takes.remove(accepted.number));
         state.desk.leave(accepted.peer);
         drop(state);
-        self.asks.notify_all();
+        self.note_changed(rt);
+    }
+
+    /// Tells all who wait that the seat may have changed hands, or that the mount may be over.
+    fn note_changed<R: Wait>(&self, rt: &R) {
+        self.grants.notify_all();
         self.events.notify_all();
-    }
-
-    /// Answers a frame of a connection. A Take that finds the queue empty is held for a while, and a Mount is
-    /// answered once the kernel agreed.
-    pub(crate) fn answer<R: Wait + Clock>(
-        &self,
-        rt: &R,
-        accepted: &mut AcceptedConnection,
-        frame: &mut Frame,
-    ) -> Response {
-        let response = self.hear(rt, accepted, frame);
-        if let Response::Tells(Frame::Mounted { generation }) = response {
-            return self.answer_mount(rt, generation);
-        }
-        if !finds_nothing(&response) {
-            return response;
-        }
-        let hold = self.hold(rt);
-        self.answer_by(rt, accepted, frame, hold)
-    }
-
-    /// Answers a Take that found nothing as soon as it finds something, or at a deadline.
-    fn answer_by<R: Wait + Clock>(
-        &self,
-        rt: &R,
-        accepted: &mut AcceptedConnection,
-        frame: &mut Frame,
-        hold: Deadline,
-    ) -> Response {
-        let mut hold = hold;
-        let (response, wakes) = self.state.wait_until(rt, &self.asks, |state| {
-            let (response, wakes) = state.answer(accepted, frame);
-            if !finds_nothing(&response) {
-                return Look::Found((response, wakes));
-            }
-            match hold.left(rt) {
-                Left::For(left) => Look::Again(left),
-                Left::Forever | Left::Nothing => Look::Found((response, wakes)),
-            }
-        });
-        self.wake_script(wakes);
-        response
-    }
-
-    /// Answers a frame at once, and wakes the script that waits for it.
-    fn hear<R: Wait>(
-        &self,
-        rt: &R,
-        accepted: &mut AcceptedConnection,
-        frame: &mut Frame,
-    ) -> Response {
-        let (response, wakes) = self.state.lock(rt).answer(accepted, frame);
-        self.wake_script(wakes);
-        response
-    }
-
-    /// Wakes the script, if the last answer `wakes` it.
-    fn wake_script(&self, wakes: bool) {
-        if wakes {
-            self.events.notify_one();
-        }
-    }
-
-    /// Returns the deadline up to which a Take waits while nothing can be taken.
-    fn hold<R: Wait + Clock>(&self, rt: &R) -> Deadline {
-        let asked = self.state.lock(rt).asked;
-        let Some(asked) = asked else {
-            return Deadline::after(rt, Duration::from_millis(IDLE_HOLD));
-        };
-        match asked.elapsed(rt) {
-            Ok(ago) if ago < Duration::from_millis(MOMENT) => Deadline::after(
-                rt,
-                Duration::from_millis(BUSY_HOLD),
-            ),
-            _ => Deadline::after(rt, Duration::from_millis(IDLE_HOLD)),
-        }
+        self.answer_held(rt);
     }
 
     /// Begins what a line of the script says.
@@ -426,7 +375,7 @@ impl SharedDesk {
     {
         let now = Instant::now(rt).ok();
         let begun = self.state.lock(rt).begin(line, now);
-        self.asks.notify_one();
+        self.answer_held(rt);
         begun
     }
 
@@ -464,8 +413,7 @@ impl SharedDesk {
         state.desk.close();
         state.is_mounted = false;
         drop(state);
-        self.asks.notify_all();
-        self.events.notify_all();
+        self.note_changed(rt);
     }
 
     /// Waits until every daemon closed its first connection.
@@ -477,7 +425,7 @@ impl SharedDesk {
 
     /// Ends all connections, and lets none in any more.
     pub(crate) fn end<R: Wait>(&self, rt: &R) {
-        self.state.change(rt, &self.asks, |state| {
+        self.state.change(rt, &self.grants, |state| {
             state.is_over = true;
             state.connections.end_all();
         });

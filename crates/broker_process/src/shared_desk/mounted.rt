@@ -2,59 +2,64 @@
 ghost use Rattle.std.specs.Prelude.{◌≡◌, ◌&&◌, is_none, if◌then◌else◌};
 ghost use Rattle.broker_desk.specs.Progress.{LeavesForDaemons};
 ghost use Rattle.mount_wire.specs.Message.{IsForDaemons};
+ghost use Rattle.broker_process.specs.HeldTakes.{GivesBack};
 ghost use Rattle.broker_process.specs.Serving.{IsHeard};
-ghost use Rattle.broker_process.specs.declared.shared_desk.mounted.NextWrite.TheVariants.{Gone, Nothing, Over};
+ghost use Rattle.broker_process.specs.declared.shared_desk.mounted.NextWrite.TheVariants.{Gone, Later, Nothing, Over};
 ghost use Rattle.broker_process.specs.declared.service.MountEnd.TheVariants.{Dead, Unmounted};
 
 use super::{Agreed, Granted, PAUSE, SharedDesk, SharedDeskState, Waiting};
+use crate::delivery::{Delivery, ReplyWriter};
 use crate::service::MountEnd;
 use broker_core::{DeliverFault, IssueFault};
-use broker_desk::{Delivered, Progress, Response};
+use broker_desk::{Progress, Response};
 use eden_base::Number;
-use fuse_wire::{Answer, Reply};
 use links::Frame;
 use monitor::Look;
-use mount_wire::{Kept, KernelMessage};
+use mount_wire::KernelMessage;
 use std::rt::Clock;
 use std::sync::Wait;
+use std::thread;
 use std::time::{Duration, Instant};
 
-/// The next write to the kernel: a reply, or why there is none.
+/// What the thread does next that ends a mount.
 #[derive(Drop)]
 pub(crate) enum NextWrite {
-    /// A reply, with the unique of the kernel's ask, and what the kernel may keep of it.
-    Reply(Reply, Kept),
-    /// Nothing, but the answer to an ask that the kernel didn't make has to be taken back.
-    Unasked(Answer),
+    /// It delivers a reply that its connection's thread had to leave.
+    Deliver(Delivery),
     /// Nothing yet.
     Nothing,
-    /// Nothing yet, since memory was refused.
-    NoMemory,
+    /// Nothing yet, since memory was refused, or as much waits as may.
+    Later,
     /// Nothing any more: the mount is over.
     Over,
     /// Nothing any more: the daemon of the seat is gone, and its mount with it.
     Gone,
+    /// Nothing any more: the device refuses everything.
+    Refused,
 }
 
 impl NextWrite {
-    /// Returns what the writing thread found at a look: a reply, an answer to take back, or an end of the mount. Else it looks
-    /// again after the next notification; for `NoMemory` also after a pause.
+    /// Returns what the thread found at a look: a reply to deliver, or an end of the mount. Else it looks again after the next
+    /// notification; for `Later` also after a pause.
     fn look(self) -> Look<NextWrite> {
         match self {
             NextWrite::Nothing => Look::of(None),
-            NextWrite::NoMemory => Look::Again(Duration::from_millis(PAUSE)),
-            NextWrite::Reply(..) | NextWrite::Unasked(_) | NextWrite::Over | NextWrite::Gone =>
+            NextWrite::Later => Look::Again(Duration::from_millis(PAUSE)),
+            NextWrite::Deliver(_) | NextWrite::Over | NextWrite::Gone | NextWrite::Refused =>
                 Look::Found(self),
         }
     }
 }
 
-/// Returns what comes next where something was delivered: a reply to write, or an answer to take back.
-fn next_of(delivered: Delivered) -> NextWrite {
-    match delivered {
-        Delivered::Reply(reply, kept) => NextWrite::Reply(reply, kept),
-        Delivered::Unasked(answer) => NextWrite::Unasked(answer),
-    }
+/// What becomes of the replies that are posted.
+#[derive(Drop)]
+pub(crate) enum Posting {
+    /// None waits, or none is to be written.
+    Nothing,
+    /// The first of them is to be written to the kernel.
+    Delivers(Delivery),
+    /// They wait on, since memory was refused.
+    Waits,
 }
 
 impl SharedDeskState {
@@ -64,30 +69,75 @@ impl SharedDeskState {
         let seat = self.desk.broker().seat()?;
         self.kernel.clear();
         self.is_mounted = true;
-        self.waiting = Waiting::Reply;
+        self.waiting = Waiting::Nothing;
         Some(seat.generation)
     }
 
-    /// Returns what is written to the kernel next.
-    fn next(&mut self) -> NextWrite {
+    /// Takes the first posted reply for the kernel, where a mount is served.
+    pub(super) fn posting(&mut self) -> Posting {
+        let Some(writer) = &self.writer else {
+            return Posting::Nothing;
+        };
+        let Ok(writer) = writer.share() else {
+            return Posting::Waits;
+        };
         match self.kernel.deliver(&mut self.desk) {
-            Ok(delivered) => next_of(delivered),
-            Err(DeliverFault::Empty) => self.next_of_none(),
-            Err(DeliverFault::NoMemory) => NextWrite::NoMemory,
+            Ok(delivered) => Posting::Delivers(Delivery { writer, delivered }),
+            Err(DeliverFault::Empty) => Posting::Nothing,
+            Err(DeliverFault::NoMemory) => Posting::Waits,
         }
     }
 
-    /// Returns what is written to the kernel next where no reply was posted.
-    fn next_of_none(&self) -> NextWrite
+    /// Returns what the thread does next that ends the mount.
+    fn next(&mut self) -> NextWrite {
+        if self.is_refused {
+            return NextWrite::Refused;
+        }
+        let is_forgotten = self.forget_given_back();
+        match self.posting() {
+            Posting::Delivers(delivery) => NextWrite::Deliver(delivery),
+            Posting::Waits => NextWrite::Later,
+            Posting::Nothing => self.next_of_none(is_forgotten),
+        }
+    }
+
+    /// Has the number `given` be forgotten, or notes that it is to be. Returns whether one of both is so: memory for the note may
+    /// be refused.
+    fn give_back(&mut self, given: Number) -> bool
+        ensures gives_back { GivesBack given result self.old.desk self.new.desk self.old.given_back.items
+            self.new.given_back.items }
+        ensures takes { self.new.takes ≡ self.old.takes }
+    {
+        match self.desk.take_back(Some(given)) {
+            Err(IssueFault::Full | IssueFault::NoMemory) => self.given_back.push(given).is_ok(),
+            Ok(()) | Err(_) => true,
+        }
+    }
+
+    /// Has the numbers be forgotten that are noted, as far as that can be done now. Returns whether none is left.
+    fn forget_given_back(&mut self) -> bool {
+        while let Some(given) = self.given_back.pop() {
+            if let Err(IssueFault::Full | IssueFault::NoMemory) = self.desk.take_back(Some(given)) {
+                self.given_back.push_reserved(given);
+                return false;
+            }
+        }
+        true
+    }
+
+    /// Returns what the thread does next where no reply was posted, and `is_forgotten` says whether no number is to be forgotten.
+    fn next_of_none(&self, is_forgotten: bool) -> NextWrite
         ensures next { result ≡ (if is_none self.now.desk.broker.seat
-            then (if self.now.is_mounted then Gone else Over) else Nothing) }
+            then (if self.now.is_mounted then Gone else Over) else if is_forgotten then Nothing else Later) }
     {
         if self.has_dead_mount() {
             NextWrite::Gone
         } else if self.desk.broker().seat().is_none() {
             NextWrite::Over
-        } else {
+        } else if is_forgotten {
             NextWrite::Nothing
+        } else {
+            NextWrite::Later
         }
     }
 
@@ -116,7 +166,7 @@ impl SharedDesk {
 
     /// Notes that the kernel agreed to the mount for the seat at `generation`, so that its daemon hears of it.
     pub(crate) fn note_agreed<R: Wait>(&self, rt: &R, generation: u64) {
-        self.state.change(rt, &self.asks, |state| {
+        self.state.change(rt, &self.grants, |state| {
             state.agreed = Agreed::To(generation);
         });
     }
@@ -124,7 +174,7 @@ impl SharedDesk {
     /// Answers the Mount of a daemon that has the seat at `generation` once the kernel agreed. Where no mount is made, the
     /// connection is closed.
     pub(super) fn answer_mount<R: Wait>(&self, rt: &R, generation: u64) -> Response {
-        self.state.wait_until(rt, &self.asks, |state| {
+        self.state.wait_until(rt, &self.grants, |state| {
             Look::of(match state.granted(generation) {
                 Granted::Now => Some(Response::Tells(Frame::Mounted { generation })),
                 Granted::Never => Some(Response::Closes),
@@ -138,14 +188,14 @@ impl SharedDesk {
         let mut state = self.state.lock(rt);
         state.is_mounted = false;
         state.kernel.clear();
+        state.given_back.clear();
     }
 
     /// Returns how a mount ended that the kernel let go of. Where somebody unmounted, daemons hear from now on that the
     /// mount is over.
     pub(crate) fn end_of_mount<R: Wait>(&self, rt: &R) -> MountEnd {
         let end = self.state.lock(rt).end_of_mount();
-        self.asks.notify_all();
-        self.events.notify_all();
+        self.note_changed(rt);
         end
     }
 
@@ -168,20 +218,46 @@ impl SharedDesk {
         if is_ask {
             state.asked = now;
         }
+        let answer = state.answer_held();
         drop(state);
-        self.asks.notify_one();
+        self.send_held(rt, answer);
         progress
     }
 
-    /// Forgets at once the number that a reply has `given` out, if it gave one, since the kernel did not take the reply.
-    pub(crate) fn take_back<R: Wait>(
-        &self,
-        rt: &R,
-        given: Option<Number>,
-    ) -> Result<(), IssueFault> {
-        let forgotten = self.state.lock(rt).desk.take_back(given);
-        self.asks.notify_one();
-        forgotten
+    /// Has the number be forgotten at once that a reply has `given` out, since the kernel did not take the reply. Where that is
+    /// refused for now, the thread that ends the mount does it as soon as it can be done.
+    pub(crate) fn give_back<R: Wait + Clock>(&self, rt: &R, given: Number) {
+        for _ in rt.forever() {
+            let is_noted = self
+                .state
+                .change(rt, &self.events, |state| state.give_back(given));
+            if is_noted {
+                return self.answer_held(rt);
+            }
+            thread::sleep(rt, Duration::from_millis(PAUSE));
+        }
+        unreachable!()
+    }
+
+    /// Notes that the device refused everything, so that the mount ends.
+    pub(crate) fn note_refused<R: Wait>(&self, rt: &R) {
+        self.state
+            .change(rt, &self.events, |state| state.is_refused = true);
+    }
+
+    /// Notes where replies are written from now on: a kernel's mount is served.
+    pub(crate) fn begin_service<R: Wait>(&self, rt: &R, writer: ReplyWriter) {
+        let mut state = self.state.lock(rt);
+        state.writer = Some(writer);
+        state.is_refused = false;
+    }
+
+    /// Notes that no reply is written any more.
+    pub(crate) fn end_service<R: Wait>(&self, rt: &R) {
+        let mut state = self.state.lock(rt);
+        let writer = state.writer.take();
+        drop(state);
+        drop(writer);
     }
 
     /// Waits until something is to be written to the kernel, and returns it.

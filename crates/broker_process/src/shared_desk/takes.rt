@@ -1,0 +1,262 @@
+//! What the connections ask of the shared desk, and the Takes that wait.
+ghost use Rattle.std.specs.Prelude.{◌≡◌, false, None, position};
+ghost use Rattle.std.specs.Option.{IfSome, option_map_or};
+ghost use Rattle.broker_desk.specs.Desk.{Answers, told_by};
+ghost use Rattle.frames.specs.declared.frame.Frame.TheVariants.{Take as ATake};
+ghost use Rattle.broker_process.specs.HeldTakes.{has_answer, AnswersExpired, AnswersHeld, Holds, WaitsOn};
+ghost use Rattle.broker_process.specs.SharedDesk.{wakes};
+
+use super::mounted::Posting;
+use super::{
+    AcceptedConnection, BUSY_TICK, IDLE_TICK, MOMENT, SharedDesk, SharedDeskState, finds_nothing,
+    is_waited_for,
+};
+use crate::connection_handle::ConnectionHandle;
+use crate::delivery::Delivery;
+use crate::held_takes::HeldTake;
+use broker_desk::Response;
+use links::Frame;
+use std::rt::Clock;
+use std::sync::Wait;
+use std::thread;
+use std::time::{Duration, Instant};
+
+/// What becomes of a frame of a connection.
+#[derive(Drop)]
+pub(crate) struct Answered {
+    /// The answer to a Take that waited when the frame came.
+    pub earlier: Option<Response>,
+    /// The answer to the frame. There is none yet where it is a Take that waits.
+    pub response: Option<Response>,
+    /// What this thread has to deliver to the kernel.
+    pub delivery: Option<Delivery>,
+    /// Whether the script is woken, or the thread that ends a mount.
+    wakes: bool,
+}
+
+/// The answer to a Take that waited, and where it goes.
+#[derive(Drop)]
+pub(crate) struct HeldAnswer {
+    handle: ConnectionHandle,
+    response: Response,
+    wakes: bool,
+}
+
+impl SharedDeskState {
+    /// Answers a frame of a connection, of which `handle` is a handle. A Take that finds nothing waits.
+    fn answer_frame(
+        &mut self,
+        accepted: &mut AcceptedConnection,
+        handle: &ConnectionHandle,
+        frame: &mut Frame,
+    ) -> Answered {
+        let earlier = match self.takes.remove(accepted.number) {
+            Some(take) => Some(self.answer_take(&take)),
+            None => None,
+        };
+        let (response, wakes) = self.answer(accepted, frame);
+        if finds_nothing(&response) && self.hold(accepted, handle, frame) {
+            return Answered {
+                earlier,
+                response: None,
+                delivery: None,
+                wakes,
+            };
+        }
+        let (delivery, leaves) = self.deliver_behind(&response);
+        Answered {
+            earlier,
+            response: Some(response),
+            delivery,
+            wakes: wakes || leaves,
+        }
+    }
+
+    /// Takes the reply for the kernel that was posted where `response` says so. Returns also whether it has to wait.
+    fn deliver_behind(&mut self, response: &Response) -> (Option<Delivery>, bool) {
+        if !matches!(response, Response::Tells(Frame::Posted)) {
+            return (None, false);
+        }
+        match self.posting() {
+            Posting::Delivers(delivery) => (Some(delivery), false),
+            Posting::Nothing => (None, false),
+            Posting::Waits => (None, true),
+        }
+    }
+
+    /// Lets `frame` wait, if it is a Take, where its answer goes to `handle`. Returns whether it waits: memory may be refused.
+    fn hold(
+        &mut self,
+        accepted: &AcceptedConnection,
+        handle: &ConnectionHandle,
+        frame: &Frame,
+    ) -> bool
+        ensures holds { Holds accepted.now.number accepted.now.peer frame.now result self.old.takes.takes.items
+            self.new.takes.takes.items }
+        ensures desk { self.new.desk ≡ self.old.desk }
+    {
+        let Frame::Take { generation } = frame else {
+            return false;
+        };
+        let Ok(handle) = handle.share() else {
+            return false;
+        };
+        self.takes.hold(HeldTake {
+            number: accepted.number,
+            peer: accepted.peer,
+            generation: *generation,
+            tick: self.takes.tick,
+            handle,
+        })
+    }
+
+    /// Answers a Take that waited, as one that comes at this moment.
+    fn answer_take(&mut self, take: &HeldTake) -> Response
+        ensures answers { Answers self.old.desk take.now.peer (ATake take.now.generation) result self.new.desk }
+        ensures takes { self.new.takes ≡ self.old.takes }
+        ensures waiting { self.new.waiting ≡ self.old.waiting }
+    {
+        let mut peer = take.peer;
+        let mut frame = Frame::Take {
+            generation: take.generation,
+        };
+        self.desk.answer(&mut peer, &mut frame)
+    }
+
+    /// Answers the first Take that waits for which there is an answer, if there is one. Where memory for the answer is
+    /// refused, the Take waits on, behind the others.
+    pub(super) fn answer_held(&mut self) -> Option<HeldAnswer>
+        ensures answers { IfSome result (λ held. AnswersHeld self.old.desk self.old.takes.takes.items held.response
+            self.new.desk self.new.takes.takes.items) }
+        ensures waits_on { result ≡ None → WaitsOn (position (has_answer self.old.desk.broker) self.old.takes.takes.items)
+            self.old.takes.takes.items self.new.takes.takes.items }
+    {
+        let take = self.takes.next(self.desk.broker())?;
+        let response = self.answer_take(&take);
+        if finds_nothing(&response) {
+            self.takes.give_back(take);
+            return None;
+        }
+        Some(self.held_answer(take, response))
+    }
+
+    /// Answers the first Take that came before this tick, if there is one.
+    fn answer_expired(&mut self) -> Option<HeldAnswer>
+        ensures answers { IfSome result (λ held. AnswersExpired self.old.takes.tick self.old.desk self.old.takes.takes.items
+            held.response self.new.desk self.new.takes.takes.items) }
+    {
+        let take = self.takes.expire()?;
+        let response = self.answer_take(&take);
+        Some(self.held_answer(take, response))
+    }
+
+    /// Returns the answer to a Take that waited, with where it goes.
+    fn held_answer(&self, take: HeldTake, response: Response) -> HeldAnswer
+        ensures response { result.response ≡ response }
+        ensures handle { result.handle ≡ take.handle }
+        ensures wakes { result.wakes ≡ option_map_or (wakes self.now.waiting) (told_by response) false }
+    {
+        let wakes = is_waited_for(self.waiting, &response);
+        HeldAnswer {
+            handle: take.handle,
+            response,
+            wakes,
+        }
+    }
+}
+
+impl SharedDesk {
+    /// Answers a frame of a connection, of which `handle` is a handle. A Take that finds nothing waits, and is answered by
+    /// another thread. A Mount is answered once the kernel agreed.
+    pub(crate) fn answer<R: Wait>(
+        &self,
+        rt: &R,
+        accepted: &mut AcceptedConnection,
+        handle: &ConnectionHandle,
+        frame: &mut Frame,
+    ) -> Answered {
+        let mut answered = self.state.lock(rt).answer_frame(accepted, handle, frame);
+        match answered.response {
+            Some(Response::Tells(Frame::Mounted { generation })) => {
+                self.wake_script(answered.wakes);
+                answered.response = Some(self.answer_mount(rt, generation));
+                return answered;
+            }
+            Some(Response::Tells(Frame::Claimed { .. })) => self.answer_held(rt),
+            _ => {}
+        }
+        self.wake_script(answered.wakes);
+        answered
+    }
+
+    /// Answers each Take that waits for which there is an answer.
+    pub(super) fn answer_held<R: Wait>(&self, rt: &R) {
+        let answer = self.state.lock(rt).answer_held();
+        self.send_held(rt, answer);
+    }
+
+    /// Sends the answer to a Take that waited, and answers the others for which there is an answer by then.
+    pub(super) fn send_held<R: Wait>(&self, rt: &R, answer: Option<HeldAnswer>) {
+        let mut answer = answer;
+        for _ in rt.forever() {
+            let Some(held) = answer else {
+                return;
+            };
+            self.send(rt, held);
+            answer = self.state.lock(rt).answer_held();
+        }
+        unreachable!()
+    }
+
+    /// Sends the answer to a Take that waited.
+    fn send<R: Wait>(&self, rt: &R, held: HeldAnswer) {
+        held.handle.answer(rt, &held.response);
+        self.wake_script(held.wakes);
+    }
+
+    /// Wakes the script, or the thread that ends a mount, if it `wakes`.
+    fn wake_script(&self, wakes: bool) {
+        if wakes {
+            self.events.notify_one();
+        }
+    }
+
+    /// Waits until a tick ends, and then answers each Take that waits. Returns whether Takes may still come.
+    pub(crate) fn pass_tick<R: Wait + Clock>(&self, rt: &R) -> bool {
+        thread::sleep(rt, self.tick(rt));
+        let mut state = self.state.lock(rt);
+        if state.is_over {
+            return false;
+        }
+        state.takes.pass_tick();
+        drop(state);
+        self.send_expired(rt);
+        true
+    }
+
+    /// Answers each Take that came before this tick.
+    fn send_expired<R: Wait>(&self, rt: &R) {
+        for _ in rt.forever() {
+            let Some(held) = self.state.lock(rt).answer_expired() else {
+                return;
+            };
+            self.send(rt, held);
+        }
+        unreachable!()
+    }
+
+    /// Returns how long the next tick lasts.
+    fn tick<R: Wait + Clock>(&self, rt: &R) -> Duration {
+        let asked = self.state.lock(rt).asked;
+        let milliseconds = match ago(rt, asked) {
+            Some(ago) if ago < Duration::from_millis(MOMENT) => BUSY_TICK,
+            _ => IDLE_TICK,
+        };
+        Duration::from_millis(milliseconds)
+    }
+}
+
+/// Returns how long ago the kernel asked last, if it did and the clock tells.
+fn ago<R: Clock>(rt: &R, asked: Option<Instant>) -> Option<Duration> {
+    asked?.elapsed(rt).ok()
+}
