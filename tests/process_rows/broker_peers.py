@@ -98,6 +98,8 @@ def a_take_that_finds_nothing_is_held(room):
     worker.attach(first.attach())
     same(first.ask("Mount"), ("Mounted", u64(1)))
     broker.printed("seat 1")
+    # A Take waits until a tick ends. The first one may come near that end, and the next one begins with a tick.
+    same(worker.ask("Take", u64(1)), ("Empty", b""))
     began = time.monotonic()
     same(worker.ask("Take", u64(1)), ("Empty", b""))
     took_between(0.015, time.monotonic() - began, 1, "an idle Take was answered")
@@ -122,6 +124,35 @@ def a_take_that_finds_nothing_is_held(room):
     broker.printed("ended")
     other.close()
     broker.ends(["seat 1", "seat 2", "answer 1 error EIO", "seat 3", "ended"])
+
+
+@row
+def frames_that_come_together_are_answered_in_their_order(room):
+    """A Post and a Take that come together are answered in this order, be it by the next request or by none. So are two Takes, two Posts, and a Post before bytes that are no frame."""
+    broker = room.broker("seat 1", *["ask getattr 1"] * 3)
+    first, worker = room.peer(), room.peer()
+    worker.attach(first.attach())
+    same(first.ask("Mount"), ("Mounted", u64(1)))
+    error = lambda unique: u64(1) + struct.pack("<IiQ", 16, -5, unique)
+    worker.take_ask(1)
+    worker.end.sendall(frame("Post", error(1)) + frame("Take", u64(1)))
+    same(worker.read(), ("Posted", b""))
+    if worker.read()[0] == "Empty":
+        worker.take_ask(1)
+    worker.end.sendall(frame("Take", u64(1)) + frame("Take", u64(1)))
+    same([worker.read(), worker.read()], [("Empty", b"")] * 2)
+    worker.end.sendall(frame("Post", error(2)) + frame("Post", error(2)) + frame("Take", u64(1)))
+    same([name for name, _ in (worker.read(), worker.read())], ["Posted", "NotAsked"])
+    # The script asks once it has printed, which may be behind the Take's tick.
+    if worker.read()[0] == "Empty":
+        worker.take_ask(1)
+    worker.end.sendall(frame("Post", error(3)) + frame("Take", u64(1)))
+    same([worker.read(), worker.read()], [("Posted", b""), ("Empty", b"")])
+    worker.end.sendall(frame("Post", error(3)) + frame("Post", error(3)) + frame("Mounted", u64(1)))
+    same([worker.read(), worker.read()], [("NotAsked", b"")] * 2)
+    same(worker.read(), None)
+    first.close()
+    broker.ends(["seat 1", *["answer %d error EIO" % (number + 1) for number in range(3)], "ended"])
 
 
 @row

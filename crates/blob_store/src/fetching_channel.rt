@@ -89,7 +89,7 @@ impl<C: Channel, S: BlobStore> FetchingChannel<C, S> {
         let waited = self.waiting.at(0);
         let given = self.store.end_read(self.alloc, &waited.read, longest);
         self.waiting.remove(0);
-        self.tell(waited.unique, answer_of(given))
+        self.tell(waited.unique, answer_of(given), false)
     }
 
     /// Posts the replies whose bytes have come. Each read is waited for, for `longest` at most.
@@ -118,19 +118,19 @@ impl<C: Channel, S: BlobStore> FetchingChannel<C, S> {
         let waited = self.waiting.at(place);
         let given = self.store.poll_read(self.alloc, &waited.read, longest)?;
         self.waiting.remove(place);
-        Some(self.tell(waited.unique, answer_of(given)))
+        Some(self.tell(waited.unique, answer_of(given), false))
     }
 
     /// Posts the bytes of an extent as the reply to the ask with this `unique`, or lets the reply wait for them.
-    fn post_extent(&mut self, unique: u64, extent: &Extent) -> Posted
+    fn post_extent(&mut self, unique: u64, extent: &Extent, takes_next: bool) -> Posted
         ensures posts { Posts C.posts S.reads self.old
             (record { unique = unique; answer = AnExtent extent.now }) result self.new }
     {
         if extent.len == 0 {
-            return self.tell(unique, nothing(self.alloc));
+            return self.tell(unique, nothing(self.alloc), takes_next);
         }
         match self.read(extent) {
-            StartedRead::Done(given) => self.tell(unique, answer_of(given)),
+            StartedRead::Done(given) => self.tell(unique, answer_of(given), takes_next),
             StartedRead::Pending(read) => self.keep(unique, read),
         }
     }
@@ -168,19 +168,19 @@ impl<C: Channel, S: BlobStore> FetchingChannel<C, S> {
             let given = self
                 .store
                 .end_read(self.alloc, &read, Duration::from_millis(0));
-            return self.tell(unique, answer_of(given));
+            return self.tell(unique, answer_of(given), false);
         }
         self.waiting.push(WaitingReply { unique, read });
         Posted::Done
     }
 
-    /// Posts an answer to the ask with this `unique`.
-    fn tell(&mut self, unique: u64, answer: Answer) -> Posted
+    /// Posts an answer to the ask with this `unique`. `takes_next` says whether an ask is taken next.
+    fn tell(&mut self, unique: u64, answer: Answer, takes_next: bool) -> Posted
         ensures posts { C.posts (inner_of self.old) (record { unique = unique; answer = answer }) result (inner_of self.new) }
         ensures store { store_of self.new ≡ store_of self.old }
         ensures waiting { waiting_of self.new ≡ waiting_of self.old }
     {
-        self.channel.post(&Reply { unique, answer })
+        self.channel.post(&Reply { unique, answer }, takes_next)
     }
 }
 
@@ -200,11 +200,11 @@ impl<C: Channel, S: BlobStore> Channel for FetchingChannel<C, S> {
         }
     }
 
-    fn post(&mut self, reply: &Reply) -> Posted {
+    fn post(&mut self, reply: &Reply, takes_next: bool) -> Posted {
         if let Answer::Extent(extent) = &reply.answer {
-            return self.post_extent(reply.unique, extent);
+            return self.post_extent(reply.unique, extent, takes_next);
         }
-        self.channel.post(reply)
+        self.channel.post(reply, takes_next)
     }
 }
 

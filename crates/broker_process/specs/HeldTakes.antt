@@ -48,12 +48,13 @@ Removes (Some place) old None new = ⊥
 Removes None old (Some take) new = ⊥
 Removes None old None new = new ≡ old
 
--- A frame of this peer by the connection of this number waits: it is a Take, which stands behind all that wait. Or it doesn't,
--- and nothing changes.
-abbrev pub Holds : ℕ → Peer → Frame → Bool → List HeldTake → List HeldTake → Type 0
-Holds number peer frame true old new =
-    (take : HeldTake) × (frame ≡ ATake take.generation) × (take.number ≡ number) × (take.peer ≡ peer) × (new ≡ old ++ take ∷ [])
-Holds number peer frame false old new = new ≡ old
+-- A frame of this peer by the connection of this number waits: it is a Take, which stands behind all that wait, with what the
+-- connection owes. Or it doesn't, and nothing changes.
+abbrev pub Holds : ℕ → Peer → Bool → Frame → Bool → List HeldTake → List HeldTake → Type 0
+Holds number peer owes frame true old new =
+    (take : HeldTake) × (frame ≡ ATake take.generation) × (take.number ≡ number) × (take.peer ≡ peer) × (take.owes_posted ≡ owes)
+    × (new ≡ old ++ take ∷ [])
+Holds number peer owes frame false old new = new ≡ old
 
 -- the Take at this place was answered by the desk at this moment, and waits no more
 abbrev pub AnswersAt : Option ℕ → DeskState → List HeldTake → Response → DeskState → List HeldTake → Type 0

@@ -3,8 +3,9 @@ use crate::broker_socket::BrokerSocket;
 use crate::connection_handle::ConnectionHandle;
 use crate::connections::Heard;
 use crate::context::BrokerContext;
-use crate::shared_desk::AcceptedConnection;
+use crate::shared_desk::{AcceptedConnection, Answered};
 use broker_desk::Response;
+use links::Frame;
 use sockets::{Connection, Deadline};
 use std::os::unix::net::UnixStream;
 use std::rt::Clock;
@@ -147,24 +148,63 @@ impl<R: Threads + Wait + Clock + Sync> BrokerContext<'_, R> {
             Deadline::Never
         };
         let Ok(Some(mut frame)) = connection.read(by) else {
+            let _told = tell_posted(accepted, connection);
             return false;
         };
-        let answered = self.shared.answer(self.rt, accepted, handle, &mut frame);
-        if let Some(delivery) = answered.delivery {
+        let mut answered = self.shared.answer(self.rt, accepted, handle, &mut frame);
+        if let Some(delivery) = answered.delivery.take() {
             self.deliver(delivery);
         }
-        let goes_on = write(connection, answered.earlier) && write(connection, answered.response);
         connection.give_back(frame);
-        goes_on
+        tell(accepted, connection, answered)
     }
 }
 
-/// Writes an answer by a connection, if there is one. Returns whether the connection goes on.
-fn write<R: Clock>(connection: &mut Connection<'_, R>, response: Option<Response>) -> bool {
+/// Writes by a connection what became of a frame. That a reply is posted waits for the answer to the next frame, if that has come
+/// too: so a peer that sends both at once reads both answers at once. Returns whether the connection goes on.
+fn tell<R: Clock>(
+    accepted: &mut AcceptedConnection,
+    connection: &mut Connection<'_, R>,
+    answered: Answered,
+) -> bool {
+    if let Some(earlier) = answered.earlier {
+        let is_owed = earlier.owes_posted;
+        if is_owed && connection.write(&Frame::Posted).is_err()
+            || !write(connection, earlier.response)
+        {
+            return false;
+        }
+    }
+    let Some(response) = answered.response else {
+        return true;
+    };
+    if !tell_posted(accepted, connection) {
+        return false;
+    }
+    if matches!(response, Response::Tells(Frame::Posted)) && connection.has_next() {
+        accepted.owes_posted = true;
+        return true;
+    }
+    write(connection, response)
+}
+
+/// Tells by a connection that its last reply is posted, if that is to be told yet. Returns whether the connection goes on.
+fn tell_posted<R: Clock>(
+    accepted: &mut AcceptedConnection,
+    connection: &mut Connection<'_, R>,
+) -> bool {
+    if !accepted.owes_posted {
+        return true;
+    }
+    accepted.owes_posted = false;
+    connection.write(&Frame::Posted).is_ok()
+}
+
+/// Writes an answer by a connection. Returns whether the connection goes on.
+fn write<R: Clock>(connection: &mut Connection<'_, R>, response: Response) -> bool {
     match response {
-        Some(Response::Tells(answer)) => connection.write(&answer).is_ok(),
-        Some(Response::Closes) => false,
-        None => true,
+        Response::Tells(answer) => connection.write(&answer).is_ok(),
+        Response::Closes => false,
     }
 }
 

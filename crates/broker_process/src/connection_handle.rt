@@ -1,7 +1,8 @@
 //! What other threads have of a connection.
+use crate::shared_desk::TakeAnswer;
 use broker_desk::Response;
 use eden_base::NoMemory;
-use links::{MAX_SEAT_TEXT, write_frame_to};
+use links::{Frame, MAX_SEAT_TEXT, write_frame_to};
 use std::alloc::Global;
 use std::net::Shutdown;
 use std::os::unix::net::UnixStream;
@@ -36,19 +37,23 @@ impl ConnectionHandle {
         })
     }
 
-    /// Writes the answer to a Take that waited. Who sent it has read all other answers by then, so the socket has room for it.
-    /// Where it can't be written after all, the connection ends.
-    pub(crate) fn answer<R: Wait>(&self, rt: &R, response: &Response) {
-        let is_written = match response {
-            Response::Tells(frame) => {
-                let mut text = self.end.text.lock(rt);
-                write_frame_to(&mut &self.end.stream, &mut *text, frame).is_ok()
-            }
-            Response::Closes => false,
-        };
+    /// Writes the answer to a Take that waited, behind what is owed before it. Who sent it has read all other answers by then, so
+    /// the socket has room for it. Where it can't be written after all, the connection ends.
+    pub(crate) fn answer<R: Wait>(&self, rt: &R, answer: &TakeAnswer) {
+        let is_written = (!answer.owes_posted || self.write(rt, &Frame::Posted))
+            && match &answer.response {
+                Response::Tells(frame) => self.write(rt, frame),
+                Response::Closes => false,
+            };
         if !is_written {
             self.end();
         }
+    }
+
+    /// Writes a frame. Returns whether it is written.
+    fn write<R: Wait>(&self, rt: &R, frame: &Frame) -> bool {
+        let mut text = self.end.text.lock(rt);
+        write_frame_to(&mut &self.end.stream, &mut *text, frame).is_ok()
     }
 
     /// Ends the connection for both ends.

@@ -9,7 +9,8 @@ use broker_desk::Peer;
 use eden_base::DaemonId;
 use std::alloc::Global;
 
-/// A Take that waits for an ask: by which connection it came, who sent it at which generation, and where its answer goes.
+/// A Take that waits for an ask: by which connection it came, who sent it at which generation, where its answer goes, and what
+/// is to be told before it.
 #[derive(Drop)]
 pub(crate) struct HeldTake {
     /// The number of the connection.
@@ -19,6 +20,8 @@ pub(crate) struct HeldTake {
     /// In which tick it came.
     pub tick: u64,
     pub handle: ConnectionHandle,
+    /// Whether its sender has yet to be told that the reply before it is posted.
+    pub owes_posted: bool,
 }
 
 impl HeldTake {

@@ -32,6 +32,7 @@ use std::rt::Clock;
 use std::sync::Wait;
 use std::thread;
 use std::time::{Duration, Instant};
+pub(crate) use takes::{Answered, TakeAnswer};
 
 /// How many milliseconds a tick lasts while the kernel is busy. A Take without an ask waits until a tick ends.
 const BUSY_TICK: u64 = 1;
@@ -109,6 +110,8 @@ pub(crate) enum Granted {
 pub(crate) struct AcceptedConnection {
     number: u64,
     peer: Peer,
+    /// Whether the peer has yet to be told that its last reply is posted: that goes out with the next answer.
+    pub owes_posted: bool,
 }
 
 impl AcceptedConnection {
@@ -331,6 +334,7 @@ impl SharedDesk {
         Some(AcceptedConnection {
             number,
             peer: Peer::Unattached,
+            owes_posted: false,
         })
     }
 

@@ -12,7 +12,7 @@ use links::{Frame, SocketChannel};
 use sockets::{Connection, Deadline, Timed, TimeoutWriter, connect};
 use std::alloc::Global;
 use std::fs::File;
-use std::io::{self, BufReader, ErrorKind};
+use std::io::{self, BufReader, BufWriter, ErrorKind};
 use std::net::Net;
 use std::os::unix::net::UnixStream;
 use std::rt::{Clock, Files};
@@ -38,6 +38,9 @@ pub(crate) fn answer_by<R: Clock>(clock: &R) -> Deadline {
 /// How many bytes a worker reads ahead.
 const AHEAD: usize = 65_536;
 
+/// How many bytes are written at once: a reply with the request for the next ask behind it. A longer reply goes by itself.
+const BEHIND: usize = 16_384;
+
 /// The channel of a worker.
 pub(crate) type Worker<'a, R> = Patient<FetchingChannel<Asking<'a, R>, &'a Contents<'a, R>>>;
 
@@ -56,7 +59,7 @@ const DESCRIPTORS_OF_A_WORKER: usize = 5;
 const DESCRIPTORS_OF_TAKEOVERS: usize = 8;
 
 /// A worker's channel, which asks the broker once for each take.
-type Asking<'a, R> = SocketChannel<BufReader<Watched<'a, R>>, TimeoutWriter<'a, R>>;
+type Asking<'a, R> = SocketChannel<BufReader<Watched<'a, R>>, BufWriter<TimeoutWriter<'a, R>>>;
 
 impl<'a, R: Net + Clock + Wait> DaemonContext<'a, R> {
     /// Connects to the broker as a new daemon, and for each of its workers. As many descriptors are left
@@ -156,6 +159,7 @@ impl<'a, R: Files<File = File> + Clock + Wait> DaemonContext<'a, R> {
     /// stands.
     fn channel(&self, worker: &UnixStream, generation: u64) -> io::Result<Asking<'a, R>> {
         let writer = TimeoutWriter::over(self.rt, worker.try_clone()?, None)?;
+        let writer = BufWriter::with_capacity(self.alloc, BEHIND, writer)?;
         let timed = Timed::over(self.rt, worker.try_clone()?);
         let watched = Watched::over(self.rt, timed, self.shared.silences());
         let reader = BufReader::with_capacity(self.alloc, AHEAD, watched)?;

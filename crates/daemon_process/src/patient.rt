@@ -75,8 +75,8 @@ impl<C: Channel> Channel for Patient<C> {
         self.look()
     }
 
-    fn post(&mut self, reply: &Reply) -> Posted {
-        self.channel.post(reply)
+    fn post(&mut self, reply: &Reply, takes_next: bool) -> Posted {
+        self.channel.post(reply, takes_next)
     }
 }
 

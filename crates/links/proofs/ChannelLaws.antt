@@ -2,12 +2,11 @@
 use Rattle.std.proofs.Common.{◌≡◌, ℕ, Bool, true, false, cond, ltb, List, length, Option, Some, None, Ok, Err, sym, subst, ◌∙◌, append-nil}
 use Rattle.std.specs.Io.KnownBytes.{Appends, Consumes}
 use Rattle.frames.specs.declared.answer.BrokerAnswer.{BrokerAnswer}
-use Rattle.frames.specs.declared.fault.FrameFault.{FrameFault}
 use Rattle.frames.specs.declared.frame.Frame.{Frame}
 use Rattle.frames.specs.Answer.{IsAnswer, answer_of}
-use Rattle.frames.specs.FrameText.{IsNotMemory, body_of, frame_text, longest_body}
-use Rattle.links.specs.Channel.{Answers, ConnectionState, Hears, IsAnswered, NotHeard, Takes, Heard, NoRoom, Unanswered, Unheard, take_of, text_of}
-use Rattle.links.specs.Reading.{GivesAnswer, IsFault, Took}
+use Rattle.frames.specs.FrameText.{body_of, frame_text, longest_body}
+use Rattle.links.specs.Channel.{Asks, ConnectionState, Hears, IsAnswered, Heard, NoRoom, Unanswered, Unheard, take_of, text_of}
+use Rattle.links.specs.Reading.{Took}
 use Rattle.links.specs.Writing.{Sends}
 use Rattle.workers.specs.declared.channel.NextAsk.{NextAsk}
 use Rattle.workers.specs.declared.channel.NextAsk.TheVariants as took
@@ -29,12 +28,13 @@ heard old new bytes body answer taken is =
     subst (Consumes old new) (first.in_front ∙ append-nil first.text ∙ its_text is.frame first.text first.is_text) taken
 
 -- what was written and then read is an exchange
-pub answered : (old new : ConnectionState) (said : Frame) (answer : BrokerAnswer) (body : List ℕ) → new.generation ≡ old.generation → new.ended ≡ old.ended → Sends old.outgoing new.outgoing said → Took old.incoming new.incoming (λ bytes. IsAnswer bytes body answer) → IsAnswered old new said answer body
-answered old new said answer body generation ended sends took = record {
+pub answered : (old new : ConnectionState) (said : Frame) (answer : BrokerAnswer) (body : List ℕ) → new.generation ≡ old.generation → new.ended ≡ old.ended → new.ahead ≡ old.ahead → Sends old.outgoing new.outgoing said → Took old.incoming new.incoming (λ bytes. IsAnswer bytes body answer) → IsAnswered old new said answer body
+answered old new said answer body generation ended ahead sends took = record {
   heard = took.holds.frame;
   exchanged = record {
     generation = generation;
     ended = ended;
+    ahead = ahead;
     wrote = sent old.outgoing new.outgoing said sends;
     read = heard old.incoming new.incoming took.bytes body answer took.taken took.holds;
   };
@@ -42,28 +42,20 @@ answered old new said answer body generation ended sends took = record {
   is_told = took.holds.is_told;
 }
 
--- what reading gives behind what was written
-pub answered_by : (old new : ConnectionState) (said : Frame) (answer : Option BrokerAnswer) (body : List ℕ) → new.generation ≡ old.generation → new.ended ≡ old.ended → Sends old.outgoing new.outgoing said → Took old.incoming new.incoming (λ bytes. GivesAnswer bytes new.incoming body (Ok answer)) → Answers old said answer body new
-answered_by old new said (Some answer) body generation ended sends took = answered old new said answer body generation ended sends took
-answered_by old new said None body generation ended sends took = NotHeard (Ok None) sends tt took
-
-pub unheard : (old new : ConnectionState) (said : Frame) (fault : FrameFault) → IsNotMemory fault → Sends old.outgoing new.outgoing said → Took old.incoming new.incoming (λ bytes. IsFault bytes new.incoming fault) → Unanswered old said new
-unheard old new said fault memory sends took = NotHeard (Err fault) sends memory took
-
 -- ---- a look for an ask, from a state that making room left as it was
 
-hears_frame : (mid new : ConnectionState) (answer : BrokerAnswer) (body : List ℕ) (heard : Frame) (taken : NextAsk) → answer ≡ answer_of heard → body_of heard ≡ body → Hears mid answer body taken new → Hears mid (answer_of heard) (body_of heard) taken new
+pub hears_frame : (mid new : ConnectionState) (answer : BrokerAnswer) (body : List ℕ) (heard : Frame) (taken : NextAsk) → answer ≡ answer_of heard → body_of heard ≡ body → Hears mid answer body taken new → Hears mid (answer_of heard) (body_of heard) taken new
 hears_frame mid new answer body heard taken told its hears =
     let by_answer = subst (λ (a : BrokerAnswer). Hears mid a body taken new) told hears in
     subst (λ (t : List ℕ). Hears mid (answer_of heard) t taken new) (sym its) by_answer
 
-pub takes_heard : (old start mid new : ConnectionState) (answer : BrokerAnswer) (body : List ℕ) (taken : NextAsk) → start ≡ old → IsAnswered start mid (take_of start) answer body → Hears mid answer body taken new → Takes old taken new
-takes_heard old start mid new answer body taken same is hears =
-    let P : ConnectionState → Type 0 = λ state. Takes state taken new in
+pub asks_heard : (old start mid new : ConnectionState) (answer : BrokerAnswer) (body : List ℕ) (taken : NextAsk) → start ≡ old → IsAnswered start mid (take_of start) answer body → Hears mid answer body taken new → Asks old taken new
+asks_heard old start mid new answer body taken same is hears =
+    let P : ConnectionState → Type 0 = λ state. Asks state taken new in
     subst P same (Heard mid is.heard is.exchanged (hears_frame mid new answer body is.heard taken is.is_told is.has_body hears))
 
-pub takes_unheard : (old start new : ConnectionState) → start ≡ old → Unanswered start (take_of start) new → Takes old took.Broken new
-takes_unheard old start new same unanswered = let P : ConnectionState → Type 0 = λ state. Takes state took.Broken new in subst P same (Unheard unanswered)
+pub asks_unheard : (old start new : ConnectionState) → start ≡ old → Unanswered start (take_of start) new → Asks old took.Broken new
+asks_unheard old start new same unanswered = let P : ConnectionState → Type 0 = λ state. Asks state took.Broken new in subst P same (Unheard unanswered)
 
-pub takes_nothing : (old new : ConnectionState) → new ≡ old → Takes old took.Empty new
-takes_nothing old new same = subst (Takes old took.Empty) (sym same) NoRoom
+pub asks_nothing : (old new : ConnectionState) → new ≡ old → Asks old took.Empty new
+asks_nothing old new same = subst (Asks old took.Empty) (sym same) NoRoom

@@ -1,3 +1,4 @@
+pub mod AheadLaws
 pub mod ChannelLaws
 pub mod ReadingLaws
 pub mod WritingLaws

@@ -1,7 +1,7 @@
 //! A worker's channel over a connection to the broker.
 ghost use Rattle.std.specs.Prelude.{◌≡◌, [], None, false, IfOk, IsSome, IsTrue};
 ghost use Rattle.fuse_wire.specs.RequestReading.{request_of};
-ghost use Rattle.links.specs.Channel.{Answers, Hears, Posts, Refuses, Serves, Stops, Takes, ended_by, post_of, posted_of, state_of, take_of};
+ghost use Rattle.links.specs.Channel.{Answers, Hears, HearsFrame, HearsNext, Posts, PostsAlone, PostsAndTakes, Refuses, Serves, Stops, Takes, WritesBoth, ended_by, post_of, posted_of, state_of, take_of};
 
 use crate::frame_room::FrameRoom;
 use broker_core::TakeFault;
@@ -50,6 +50,8 @@ pub struct SocketChannel<R, W> {
     writer: W,
     generation: u64,
     ended: Option<TakeFault>,
+    /// The result of a Take that was asked for behind the last reply.
+    ahead: Option<NextAsk>,
     rooms: Option<ChannelBuffers>,
     frame_room: FrameRoom,
 }
@@ -70,6 +72,7 @@ impl<R: Read, W: Write> SocketChannel<R, W> {
             ≡ record {
               generation = generation;
               ended = None;
+              ahead = None;
               incoming = R.remaining reader;
               outgoing = W.contents writer;
             }) }
@@ -82,6 +85,7 @@ impl<R: Read, W: Write> SocketChannel<R, W> {
             writer,
             generation,
             ended: None,
+            ahead: None,
             rooms: Some(rooms),
             frame_room,
         })
@@ -92,6 +96,21 @@ impl<R: Read, W: Write> SocketChannel<R, W> {
         ensures ended { result ≡ (state_of R.remaining W.contents self.now).ended }
     {
         self.ended
+    }
+
+    /// Sends what was written, and reads the next answer. Returns none if either fails.
+    fn read_answer(&mut self) -> Option<BrokerAnswer>
+        ensures hears { HearsFrame (state_of R.remaining W.contents self.old) result self.new.frame_room
+            (state_of R.remaining W.contents self.new) }
+        ensures rooms { self.new.rooms ≡ self.old.rooms }
+    {
+        if self.writer.flush().is_err() {
+            return None;
+        }
+        match self.frame_room.read(&mut self.reader) {
+            Ok(answer) => answer,
+            Err(_fault) => None,
+        }
     }
 
     /// Writes a Take and reads the answer. Returns none if either fails.
@@ -105,10 +124,7 @@ impl<R: Read, W: Write> SocketChannel<R, W> {
             .frame_room
             .write_take(&mut self.writer, self.generation)
         {
-            Ok(()) => match self.frame_room.read(&mut self.reader) {
-                Ok(answer) => answer,
-                Err(_fault) => None,
-            },
+            Ok(()) => self.read_answer(),
             Err(_fault) => None,
         }
     }
@@ -123,10 +139,7 @@ impl<R: Read, W: Write> SocketChannel<R, W> {
             .frame_room
             .write_post(&mut self.writer, self.generation, reply)
         {
-            Ok(()) => match self.frame_room.read(&mut self.reader) {
-                Ok(answer) => answer,
-                Err(_fault) => None,
-            },
+            Ok(()) => self.read_answer(),
             Err(_fault) => None,
         }
     }
@@ -176,7 +189,7 @@ impl<R: Read, W: Write> SocketChannel<R, W> {
         let Some(reply) = fault_reply(self.frame_room.body(), &fault) else {
             return NextAsk::Broken;
         };
-        match self.post(&reply) {
+        match self.post_alone(&reply) {
             Posted::Done => NextAsk::Empty,
             Posted::Broken => NextAsk::Broken,
         }
@@ -218,13 +231,17 @@ impl<R: Read, W: Write> SocketChannel<R, W> {
         }
     }
 
-    /// Takes the next ask from the broker. First makes room for any request. If that is refused, asks nothing and
-    /// returns Empty, so that no request is lost for lack of memory. A request that can't be read is answered by its
-    /// error, and Empty is returned. If the result is Broken, close the connection.
+    /// Takes the next ask from the broker. One that was asked for behind the last reply is at hand. Else makes room for any
+    /// request first. If that is refused, asks nothing and returns Empty, so that no request is lost for lack of memory. A
+    /// request that can't be read is answered by its error, and Empty is returned. If the result is Broken, close the
+    /// connection.
     pub fn take(&mut self) -> NextAsk
         ensures takes { Takes (state_of R.remaining W.contents self.old) result
             (state_of R.remaining W.contents self.new) }
     {
+        if let Some(next) = self.ahead.take() {
+            return next;
+        }
         if !self.has_rooms() {
             return NextAsk::Empty;
         }
@@ -234,10 +251,24 @@ impl<R: Read, W: Write> SocketChannel<R, W> {
         }
     }
 
-    /// Posts the reply to an ask that was taken. Takes no memory. If the result is Broken, close the connection; `ended`
-    /// tells whether the broker said why.
-    pub fn post(&mut self, reply: &Reply) -> Posted
+    /// Posts the reply to an ask that was taken. If `takes_next`, it asks for the next ask by the same write, and waits for both
+    /// answers, so that one wake of each process does: the next `take` returns that ask. Takes no memory. If the result is
+    /// Broken, close the connection; `ended` tells whether the broker said why.
+    pub fn post(&mut self, reply: &Reply, takes_next: bool) -> Posted
         ensures posts { Posts (state_of R.remaining W.contents self.old) reply.now result
+            (state_of R.remaining W.contents self.new) }
+        ensures alone { takes_next ≡ false → (state_of R.remaining W.contents self.new).ahead
+            ≡ (state_of R.remaining W.contents self.old).ahead }
+    {
+        if takes_next && self.ahead.is_none() && self.has_rooms() {
+            return self.post_and_take(reply);
+        }
+        self.post_alone(reply)
+    }
+
+    /// Posts a reply, and asks for nothing.
+    fn post_alone(&mut self, reply: &Reply) -> Posted
+        ensures posts { PostsAlone (state_of R.remaining W.contents self.old) reply.now result
             (state_of R.remaining W.contents self.new) }
     {
         match self.ask_posted(reply) {
@@ -246,6 +277,57 @@ impl<R: Read, W: Write> SocketChannel<R, W> {
                 posted_of(answer)
             }
             None => Posted::Broken,
+        }
+    }
+
+    /// Posts a reply and takes the next ask, whose result it keeps for the next `take`.
+    fn post_and_take(&mut self, reply: &Reply) -> Posted
+        requires none { self.old.ahead ≡ None }
+        requires rooms { IsSome self.old.rooms }
+        ensures posts { PostsAndTakes (state_of R.remaining W.contents self.old) reply.now result
+            (state_of R.remaining W.contents self.new) }
+    {
+        if !self.write_both(reply) {
+            return Posted::Broken;
+        }
+        let Some(answer) = self.read_answer() else {
+            return Posted::Broken;
+        };
+        self.ended = ended_by(answer, self.ended);
+        let posted = posted_of(answer);
+        if let Posted::Done = posted {
+            let next = self.hear_next();
+            self.ahead = Some(next);
+        }
+        posted
+    }
+
+    /// Writes the Post of a reply, and a Take behind it. Returns whether both are written.
+    fn write_both(&mut self, reply: &Reply) -> bool
+        ensures writes { WritesBoth (state_of R.remaining W.contents self.old) reply.now result
+            (state_of R.remaining W.contents self.new) }
+        ensures rooms { self.new.rooms ≡ self.old.rooms }
+    {
+        let posts = self
+            .frame_room
+            .write_post(&mut self.writer, self.generation, reply);
+        if posts.is_err() {
+            return false;
+        }
+        self.frame_room
+            .write_take(&mut self.writer, self.generation)
+            .is_ok()
+    }
+
+    /// Reads the answer to a Take that was written, and returns the result of the `take`.
+    fn hear_next(&mut self) -> NextAsk
+        requires rooms { IsSome self.old.rooms }
+        ensures hears { HearsNext (state_of R.remaining W.contents self.old) result
+            (state_of R.remaining W.contents self.new) }
+    {
+        match self.read_answer() {
+            Some(answer) => self.hear(answer),
+            None => NextAsk::Broken,
         }
     }
 }
@@ -286,7 +368,7 @@ impl<R: Read, W: Write> Channel for SocketChannel<R, W> {
         SocketChannel::take(self)
     }
 
-    fn post(&mut self, reply: &Reply) -> Posted {
-        SocketChannel::post(self, reply)
+    fn post(&mut self, reply: &Reply, takes_next: bool) -> Posted {
+        SocketChannel::post(self, reply, takes_next)
     }
 }

@@ -54,7 +54,7 @@ impl Channel for Rooted {
         })
     }
 
-    fn post(&mut self, _reply: &Reply) -> Posted {
+    fn post(&mut self, _reply: &Reply, _takes_next: bool) -> Posted {
         self.posted = self.posted.wrapping_add(1);
         Posted::Done
     }

@@ -1,6 +1,7 @@
 //! A connection that carries frames.
 use crate::timed::Timed;
 use crate::{Deadline, TimeoutWriter};
+use frames::missing;
 use links::{Frame, FrameFault, MAX_SEAT_TEXT, read_frame_to, write_frame_to};
 use std::alloc::Global;
 use std::io::{self, BufRead, BufReader};
@@ -82,6 +83,11 @@ impl<'a, R: Clock> Connection<'a, R> {
     /// Returns whether the last read gave up at its deadline, be it before a frame or within one.
     pub fn is_late(&self) -> bool {
         self.reader.get_ref().is_late()
+    }
+
+    /// Returns whether the next frame has come whole, so that `read_next` returns it at once.
+    pub fn has_next(&self) -> bool {
+        matches!(missing(self.reader.buffer()), Ok(0))
     }
 
     /// Waits until something comes, or the other end closes the connection. Returns what came by `deadline`, which is nothing

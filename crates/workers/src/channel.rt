@@ -53,8 +53,9 @@ pub trait Channel {
         ensures empty { reports ≡ true → result ≡ took.Empty → reported self.new ≡ reported self.old }
         ensures stopped { reports ≡ true → result ≡ took.Stopped → reported self.new ≡ reported self.old };
 
-    /// Posts the reply to an ask that was taken.
-    fn post(&mut self, reply: &Reply) -> Posted
+    /// Posts the reply to an ask that was taken. If `takes_next`, the caller takes an ask next, whatever comes: so a channel may
+    /// ask for that together with the reply.
+    fn post(&mut self, reply: &Reply, takes_next: bool) -> Posted
         ensures posts { posts self.old reply.now result self.new }
         ensures posted { reports ≡ true → result ≡ post.Done
             → reported self.new ≡ with_replies (reported self.old) (reply.now ∷ []) };

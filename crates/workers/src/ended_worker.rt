@@ -23,7 +23,8 @@ pub struct EndedWorker<N: Opening, C: Channel + Drop> {
 }
 
 /// Takes asks from a worker's channel, at most `given.turns`, serves each under the map's lock and posts its reply.
-/// Ends if there is no ask, a stop is asked for, or the spare room of `given.receipts` is used. Each turn leaves one
+/// Ends if there is no ask, a stop is asked for, or the spare room of `given.receipts` is used. Where a channel was told that an
+/// ask is taken next, one is, also where a stop is asked for meanwhile. Each turn leaves one
 /// part of `given.share` under the lock, and never the last. The contract says nothing of the state under the lock.
 pub fn serve_channel<N: Opening, B: Backing + Drop, C: Channel + Drop, G: Hook, R: Wait>(
     rt: &R,
@@ -58,11 +59,13 @@ pub fn serve_channel<N: Opening, B: Backing + Drop, C: Channel + Drop, G: Hook, 
         receipts,
         share,
     };
-    for _turn in 0..turns {
-        if round.stop.asked() {
+    let mut takes_next = false;
+    for turn in 0..turns {
+        if !takes_next && round.stop.asked() {
             return worker.end(WorkerEnd::Done);
         }
-        match worker.turn(rt, round.shared, round.hook) {
+        takes_next = turn + 1 < turns && !round.stop.asked();
+        match worker.turn(rt, round.shared, round.hook, takes_next) {
             None => {}
             Some(ending) => return worker.end(ending),
         }

@@ -126,7 +126,7 @@ impl Channel for MemoryChannel {
         MemoryChannel::take(self)
     }
 
-    fn post(&mut self, reply: &Reply) -> Posted {
+    fn post(&mut self, reply: &Reply, _takes_next: bool) -> Posted {
         MemoryChannel::post(self, reply)
     }
 }

@@ -37,11 +37,13 @@ pub(crate) struct Worker<N: Opening, C: Channel + Drop> {
     pub share: Share<N>,
 }
 
-/// Posts the reply to an ask, if the ask has an answer, and gives the answer back.
+/// Posts the reply to an ask, if the ask has an answer, and gives the answer back. `takes_next` says whether an ask is taken
+/// from the channel next.
 fn post<C: Channel>(
     channel: &mut C,
     unique: u64,
     answer: Option<Answer>,
+    takes_next: bool,
 ) -> (Posted, Option<Answer>)
     ensures replies { Replies C.posts channel.old unique answer result.0 channel.new }
     ensures reported { C.reports ≡ true → result.0 ≡ post.Done
@@ -52,7 +54,7 @@ fn post<C: Channel>(
         return (Posted::Done, None);
     };
     let reply = Reply { unique, answer };
-    let posted = channel.post(&reply);
+    let posted = channel.post(&reply, takes_next);
     (posted, Some(reply.answer))
 }
 
@@ -71,12 +73,14 @@ fn turn_alone<N: Opening, B: Backing + Drop, R: Wait>(
 }
 
 impl<N: Opening, C: Channel + Drop> Worker<N, C> {
-    /// Takes an ask, serves it under the lock and posts its reply. Returns why the worker ends, if it does.
+    /// Takes an ask, serves it under the lock and posts its reply. If `takes_next`, another turn follows where the worker does not
+    /// end by this one. Returns why it ends, if it does.
     pub(crate) fn turn<B: Backing + Drop, G: Hook, R: Wait>(
         &mut self,
         rt: &R,
         shared: &Shared<N, B>,
         hook: &G,
+        takes_next: bool,
     ) -> Option<WorkerEnd>
         requires parts { 1 < self.old.share.parts }
         requires places { 0 < self.old.receipts.places }
@@ -98,21 +102,22 @@ impl<N: Opening, C: Channel + Drop> Worker<N, C> {
             → C.reported self.new.channel ≡ grown start self.new.receipts.list }
     {
         match self.channel.take() {
-            NextAsk::Ask(ask) => self.serve(rt, shared, hook, ask),
+            NextAsk::Ask(ask) => self.serve(rt, (shared, hook), ask, takes_next),
             NextAsk::Empty => Some(WorkerEnd::Done),
             NextAsk::Stopped => Some(WorkerEnd::Done),
             NextAsk::Broken => Some(WorkerEnd::Broken),
         }
     }
 
-    /// Serves an ask that was taken, and posts its reply. Returns why the worker ends, if it does.
+    /// Serves an ask that was taken, and posts its reply. If `takes_next`, another turn follows where the worker does not end by
+    /// this one. Returns why it ends, if it does.
     #[tactic(auto, using(crate::proofs::Growing::grown_more, crate::proofs::Turning::turned_broken))]
     fn serve<B: Backing + Drop, G: Hook, R: Wait>(
         &mut self,
         rt: &R,
-        shared: &Shared<N, B>,
-        hook: &G,
+        round: (&Shared<N, B>, &G),
         ask: Ask,
+        takes_next: bool,
     ) -> Option<WorkerEnd>
         requires parts { 1 < self.old.share.parts }
         requires places { 0 < self.old.receipts.places }
@@ -130,11 +135,13 @@ impl<N: Opening, C: Channel + Drop> Worker<N, C> {
             → C.reported self.new.channel ≡ grown start self.new.receipts.list }
     {
         let unique = ask.unique;
+        let (shared, hook) = round;
         hook.before(unique);
         let what = self.receipts.copy(&ask.what);
+        let goes_on = takes_next && self.receipts.has_spare();
         let turn = turn_alone(rt, shared, ask, &mut self.share);
         let position = turn.position;
-        let (posted, answer) = post(&mut self.channel, unique, turn.answer);
+        let (posted, answer) = post(&mut self.channel, unique, turn.answer, goes_on);
         self.receipts.push(Receipt {
             position,
             ask: Ask { unique, what },

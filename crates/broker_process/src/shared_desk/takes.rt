@@ -1,5 +1,5 @@
 //! What the connections ask of the shared desk, and the Takes that wait.
-ghost use Rattle.std.specs.Prelude.{◌≡◌, false, None, position};
+ghost use Rattle.std.specs.Prelude.{◌≡◌, false, None, position, if◌then◌else◌};
 ghost use Rattle.std.specs.Option.{IfSome, option_map_or};
 ghost use Rattle.broker_desk.specs.Desk.{Answers, told_by};
 ghost use Rattle.frames.specs.declared.frame.Frame.TheVariants.{Take as ATake};
@@ -21,11 +21,19 @@ use std::sync::Wait;
 use std::thread;
 use std::time::{Duration, Instant};
 
+/// An answer to a Take that waited.
+#[derive(Drop)]
+pub(crate) struct TakeAnswer {
+    /// Whether it is to be told before that the reply before the Take is posted.
+    pub owes_posted: bool,
+    pub response: Response,
+}
+
 /// What becomes of a frame of a connection.
 #[derive(Drop)]
 pub(crate) struct Answered {
     /// The answer to a Take that waited when the frame came.
-    pub earlier: Option<Response>,
+    pub earlier: Option<TakeAnswer>,
     /// The answer to the frame. There is none yet where it is a Take that waits.
     pub response: Option<Response>,
     /// What this thread has to deliver to the kernel.
@@ -38,7 +46,7 @@ pub(crate) struct Answered {
 #[derive(Drop)]
 pub(crate) struct HeldAnswer {
     handle: ConnectionHandle,
-    response: Response,
+    answer: TakeAnswer,
     wakes: bool,
 }
 
@@ -51,7 +59,10 @@ impl SharedDeskState {
         frame: &mut Frame,
     ) -> Answered {
         let earlier = match self.takes.remove(accepted.number) {
-            Some(take) => Some(self.answer_take(&take)),
+            Some(take) => Some(TakeAnswer {
+                owes_posted: take.owes_posted,
+                response: self.answer_take(&take),
+            }),
             None => None,
         };
         let (response, wakes) = self.answer(accepted, frame);
@@ -84,15 +95,17 @@ impl SharedDeskState {
         }
     }
 
-    /// Lets `frame` wait, if it is a Take, where its answer goes to `handle`. Returns whether it waits: memory may be refused.
+    /// Lets `frame` wait, if it is a Take, where its answer goes to `handle`, behind what the connection owes. Returns whether it
+    /// waits: memory may be refused.
     fn hold(
         &mut self,
-        accepted: &AcceptedConnection,
+        accepted: &mut AcceptedConnection,
         handle: &ConnectionHandle,
         frame: &Frame,
     ) -> bool
-        ensures holds { Holds accepted.now.number accepted.now.peer frame.now result self.old.takes.takes.items
-            self.new.takes.takes.items }
+        ensures holds { Holds accepted.old.number accepted.old.peer accepted.old.owes_posted frame.now result
+            self.old.takes.takes.items self.new.takes.takes.items }
+        ensures owes { accepted.new ≡ (if result then record accepted.old { owes_posted = false } else accepted.old) }
         ensures desk { self.new.desk ≡ self.old.desk }
     {
         let Frame::Take { generation } = frame else {
@@ -101,13 +114,18 @@ impl SharedDeskState {
         let Ok(handle) = handle.share() else {
             return false;
         };
-        self.takes.hold(HeldTake {
+        let is_held = self.takes.hold(HeldTake {
             number: accepted.number,
             peer: accepted.peer,
             generation: *generation,
             tick: self.takes.tick,
             handle,
-        })
+            owes_posted: accepted.owes_posted,
+        });
+        if is_held {
+            accepted.owes_posted = false;
+        }
+        is_held
     }
 
     /// Answers a Take that waited, as one that comes at this moment.
@@ -126,7 +144,7 @@ impl SharedDeskState {
     /// Answers the first Take that waits for which there is an answer, if there is one. Where memory for the answer is
     /// refused, the Take waits on, behind the others.
     pub(super) fn answer_held(&mut self) -> Option<HeldAnswer>
-        ensures answers { IfSome result (λ held. AnswersHeld self.old.desk self.old.takes.takes.items held.response
+        ensures answers { IfSome result (λ held. AnswersHeld self.old.desk self.old.takes.takes.items held.answer.response
             self.new.desk self.new.takes.takes.items) }
         ensures waits_on { result ≡ None → WaitsOn (position (has_answer self.old.desk.broker) self.old.takes.takes.items)
             self.old.takes.takes.items self.new.takes.takes.items }
@@ -143,7 +161,7 @@ impl SharedDeskState {
     /// Answers the first Take that came before this tick, if there is one.
     fn answer_expired(&mut self) -> Option<HeldAnswer>
         ensures answers { IfSome result (λ held. AnswersExpired self.old.takes.tick self.old.desk self.old.takes.takes.items
-            held.response self.new.desk self.new.takes.takes.items) }
+            held.answer.response self.new.desk self.new.takes.takes.items) }
     {
         let take = self.takes.expire()?;
         let response = self.answer_take(&take);
@@ -152,14 +170,18 @@ impl SharedDeskState {
 
     /// Returns the answer to a Take that waited, with where it goes.
     fn held_answer(&self, take: HeldTake, response: Response) -> HeldAnswer
-        ensures response { result.response ≡ response }
+        ensures response { result.answer.response ≡ response }
+        ensures owes { result.answer.owes_posted ≡ take.owes_posted }
         ensures handle { result.handle ≡ take.handle }
         ensures wakes { result.wakes ≡ option_map_or (wakes self.now.waiting) (told_by response) false }
     {
         let wakes = is_waited_for(self.waiting, &response);
         HeldAnswer {
             handle: take.handle,
-            response,
+            answer: TakeAnswer {
+                owes_posted: take.owes_posted,
+                response,
+            },
             wakes,
         }
     }
@@ -210,7 +232,7 @@ impl SharedDesk {
 
     /// Sends the answer to a Take that waited.
     fn send<R: Wait>(&self, rt: &R, held: HeldAnswer) {
-        held.handle.answer(rt, &held.response);
+        held.handle.answer(rt, &held.answer);
         self.wake_script(held.wakes);
     }
 

@@ -236,6 +236,15 @@ static POST: [u8; 29] = [
     0, 0, 0, 24, 4, 0, 0, 0, 0, 0, 0, 0, 1, 16, 0, 0, 0, 254, 255, 255, 255, 9, 0, 0, 0, 0, 0, 0, 0,
 ];
 
+/// The text of a Posted.
+static POSTED: [u8; 5] = [0, 0, 0, 0, 5];
+
+/// The text of that Post, and of a Take behind it.
+static POST_AND_TAKE: [u8; 42] = [
+    0, 0, 0, 24, 4, 0, 0, 0, 0, 0, 0, 0, 1, 16, 0, 0, 0, 254, 255, 255, 255, 9, 0, 0, 0, 0, 0, 0, 0,
+    0, 0, 0, 8, 1, 0, 0, 0, 0, 0, 0, 0, 1,
+];
+
 /// Posted; NotAsked; Ended; Stale, with the seat at generation 2; nothing.
 static POSTS: [Row; 5] = [
     Row {
@@ -284,46 +293,59 @@ fn taken(channel: &mut SocketChannel<&[u8], &mut Vec<u8>>) -> Comes {
     }
 }
 
-/// Posts ENOENT to unique 9, and returns what that gives.
-fn posted(channel: &mut SocketChannel<&[u8], &mut Vec<u8>>) -> Comes {
+/// Posts ENOENT to unique 9, and returns what that gives. If `takes_next`, a take is asked for with it.
+fn posted(channel: &mut SocketChannel<&[u8], &mut Vec<u8>>, takes_next: bool) -> Comes {
     let reply = Reply {
         unique: 9,
         answer: Answer::Error(Errno::ENOENT),
     };
-    match channel.post(&reply) {
+    match channel.post(&reply, takes_next) {
         Posted::Done => Comes::Posted,
         Posted::Broken => Comes::Broken,
     }
 }
 
-/// Makes a call of a channel that hears the bytes of `hears`, and says what `said` has then: a `post`, or else a `take`.
-/// Returns what it gives, and why the broker has no more. Returns none if memory was refused.
+/// What is called of a channel.
+#[derive(Clone, Copy)]
+enum Calls {
+    Take,
+    Post,
+    /// A `post` that asks for the next ask too, and the `take` behind it where the reply was posted.
+    PostAndTake,
+}
+
+/// Makes `calls` of a channel that hears the bytes of `hears`, and says what `said` has then. Returns what the last one
+/// gives, and why the broker has no more. Returns none if memory was refused.
 fn called(
     alloc: Global,
     hears: &[u8],
     said: &mut Vec<u8>,
-    is_post: bool,
+    calls: Calls,
 ) -> Option<(Comes, Option<TakeFault>)> {
     let Ok(mut channel) = SocketChannel::new(alloc, hears, said, 1) else {
         return None;
     };
-    let gives = if is_post {
-        posted(&mut channel)
-    } else {
-        taken(&mut channel)
+    let gives = match calls {
+        Calls::Take => taken(&mut channel),
+        Calls::Post => posted(&mut channel, false),
+        Calls::PostAndTake => match posted(&mut channel, true) {
+            Comes::Posted => taken(&mut channel),
+            gives => gives,
+        },
     };
     let ended = channel.ended();
     drop(channel);
     Some((gives, ended))
 }
 
-/// Returns whether a call of a channel that hears the bytes of `row` gives what `row` says. The channel has to say
-/// `text` first.
-fn gives_so(alloc: Global, row: &Row, is_post: bool, text: &[u8]) -> bool {
+/// Returns whether `calls` of a channel that hears `front` and then the bytes of `row` give what `row` says. The channel has
+/// to say `text` first.
+fn gives_so(alloc: Global, row: &Row, calls: Calls, front: &[u8], text: &[u8]) -> bool {
     let mut hears = Vec::new(alloc);
     let mut said = Vec::new(alloc);
-    let so = are_put(&mut hears, row.hears)
-        && called(alloc, hears.as_slice(), &mut said, is_post) == Some((row.gives, row.ended))
+    let so = are_put(&mut hears, &[front])
+        && are_put(&mut hears, row.hears)
+        && called(alloc, hears.as_slice(), &mut said, calls) == Some((row.gives, row.ended))
         && said.as_slice().get(..text.len()) == Some(text)
         && said.as_slice().get(text.len()..) == Some(row.says);
     drop(hears);
@@ -332,20 +354,34 @@ fn gives_so(alloc: Global, row: &Row, is_post: bool, text: &[u8]) -> bool {
 }
 
 /// Calls `gives_so` with each of `rows`, and once more if the first call returned false.
-fn all_give_so(alloc: Global, rows: &[Row], is_post: bool, text: &[u8]) -> bool {
+fn all_give_so(alloc: Global, rows: &[Row], calls: Calls, front: &[u8], text: &[u8]) -> bool {
     let mut so = true;
     for row in rows {
-        so = so && (gives_so(alloc, row, is_post, text) || gives_so(alloc, row, is_post, text));
+        so = so
+            && (gives_so(alloc, row, calls, front, text)
+                || gives_so(alloc, row, calls, front, text));
     }
     so
 }
 
 #[test]
 fn a_channel_takes_what_it_hears(rt: HostRuntime) {
-    assert!(rt; all_give_so(rt.alloc(), &TAKES, false, &TAKE));
+    assert!(rt; all_give_so(rt.alloc(), &TAKES, Calls::Take, &[], &TAKE));
 }
 
 #[test]
 fn a_reply_is_done_where_it_was_posted(rt: HostRuntime) {
-    assert!(rt; all_give_so(rt.alloc(), &POSTS, true, &POST));
+    assert!(rt; all_give_so(rt.alloc(), &POSTS, Calls::Post, &[], &POST));
+}
+
+/// The Take stands right behind the Post, before either is answered.
+#[test]
+fn a_reply_and_the_next_ask_go_in_one(rt: HostRuntime) {
+    assert!(rt; all_give_so(rt.alloc(), &TAKES, Calls::PostAndTake, &POSTED, &POST_AND_TAKE));
+}
+
+/// Nothing is taken behind a reply that was not posted.
+#[test]
+fn nothing_is_taken_behind_a_reply_that_is_refused(rt: HostRuntime) {
+    assert!(rt; all_give_so(rt.alloc(), &POSTS[1..], Calls::PostAndTake, &[], &POST_AND_TAKE));
 }

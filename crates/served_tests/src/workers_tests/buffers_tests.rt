@@ -46,7 +46,7 @@ impl Channel for Given {
         }
     }
 
-    fn post(&mut self, _reply: &Reply) -> Posted {
+    fn post(&mut self, _reply: &Reply, _takes_next: bool) -> Posted {
         self.replies = self.replies.saturating_add(1);
         Posted::Done
     }

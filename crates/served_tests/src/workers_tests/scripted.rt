@@ -75,7 +75,7 @@ impl<'a> Channel for Scripted<'a> {
         }
     }
 
-    fn post(&mut self, reply: &Reply) -> Posted {
+    fn post(&mut self, reply: &Reply, _takes_next: bool) -> Posted {
         if self.replies == 0 {
             return Posted::Broken;
         }
