@@ -1,7 +1,7 @@
 //! A worker's channel over a connection to the broker.
 ghost use Rattle.std.specs.Prelude.{◌≡◌, [], None, false, IfOk, IsSome, IsTrue};
 ghost use Rattle.fuse_wire.specs.RequestReading.{request_of};
-ghost use Rattle.links.specs.Channel.{Answers, Hears, HearsFrame, HearsNext, Posts, PostsAlone, PostsAndTakes, Refuses, Serves, Stops, Takes, WritesBoth, ended_by, post_of, posted_of, state_of, take_of};
+ghost use Rattle.links.specs.Channel.{Answers, Asks, Hears, HearsFrame, HearsNext, Posts, PostsAlone, PostsAndTakes, Refuses, Serves, Stops, Takes, WritesBoth, ended_by, post_of, posted_of, state_of, take_of};
 
 use crate::frame_room::FrameRoom;
 use broker_core::TakeFault;
@@ -134,6 +134,7 @@ impl<R: Read, W: Write> SocketChannel<R, W> {
         ensures answers { Answers (state_of R.remaining W.contents self.old)
             (post_of (state_of R.remaining W.contents self.old) reply.now) result self.new.frame_room
             (state_of R.remaining W.contents self.new) }
+        ensures ahead { self.new.ahead ≡ self.old.ahead }
     {
         match self
             .frame_room
@@ -239,9 +240,17 @@ impl<R: Read, W: Write> SocketChannel<R, W> {
         ensures takes { Takes (state_of R.remaining W.contents self.old) result
             (state_of R.remaining W.contents self.new) }
     {
-        if let Some(next) = self.ahead.take() {
-            return next;
+        match self.ahead.take() {
+            Some(next) => next,
+            None => self.ask(),
         }
+    }
+
+    /// Asks the broker for the next ask, once there is room for any request.
+    fn ask(&mut self) -> NextAsk
+        ensures asks { Asks (state_of R.remaining W.contents self.old) result
+            (state_of R.remaining W.contents self.new) }
+    {
         if !self.has_rooms() {
             return NextAsk::Empty;
         }
@@ -270,6 +279,7 @@ impl<R: Read, W: Write> SocketChannel<R, W> {
     fn post_alone(&mut self, reply: &Reply) -> Posted
         ensures posts { PostsAlone (state_of R.remaining W.contents self.old) reply.now result
             (state_of R.remaining W.contents self.new) }
+        ensures ahead { self.new.ahead ≡ self.old.ahead }
     {
         match self.ask_posted(reply) {
             Some(answer) => {

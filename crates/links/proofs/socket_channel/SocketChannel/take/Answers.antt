@@ -1,11 +1,5 @@
-use Rattle.links.proofs.ChannelLaws.{takes_heard, takes_nothing, takes_unheard}
+use Rattle.links.proofs.AheadLaws.{takes_asked}
 use Rattle.links.proofs.socket_channel.SocketChannel.take.Goals as goal
 
-pub returns-then-not-has_rooms : goal.returns-then-not-has_rooms
-returns-then-not-has_rooms g c = record { takes = takes_nothing _ _ c.if-not-has_rooms.ensures.same }
-
-pub returns-in-Some : goal.returns-in-Some
-returns-in-Some g c = record { takes = takes_heard _ _ _ _ c.in-Some.answer _ _ c.if-not-has_rooms.ensures.same c.in-Some.ensures.answers c.hear.ensures.hears }
-
 pub returns-in-None : goal.returns-in-None
-returns-in-None g c = record { takes = takes_unheard _ _ _ c.if-not-has_rooms.ensures.same c.in-None.ensures.answers }
+returns-in-None g c = record { takes = takes_asked _ _ _ c.take.result c.in-None.ensures.value c.in-None.is c.ask.ensures.asks }
