@@ -10,6 +10,7 @@ import time
 
 from process_rows.checks import WAIT, row, same, took_between
 from process_rows.contents import write_manifest
+from process_rows.frames import OFFER, u32, u64
 from process_rows.mounted_stores import LONGEST_WAIT, SILENCE, gits_of, mounted, read_once, reads, small_files, with_git_in_front
 from process_rows.mounts import Mount, drop_caches
 from process_rows.slow_files import SlowFiles
@@ -193,6 +194,32 @@ def a_takeover_is_given_up_while_a_directory_hangs(room):
         old.ends(["serving 1", "serving 1", "handed over"], error="takeover failed: reads of files took too long\n")
         drop_caches(with_pages=True)
         reads(mount, contents)
+    finally:
+        slow.end()
+    mount.unmount()
+
+
+@row
+def a_takeover_counts_no_wait_for_the_broker_as_one_for_reads(room):
+    """The broker stands still for three times the patience in which a daemon is to hand over, while a read waits for a directory. The
+    daemon waits on, and as long as its patience lasts once the broker goes on: it is ready when the read got its bytes."""
+    contents = {"f": b"some bytes\n" * 50}
+    slow, mount = slow_mount(room, contents, "--workers", "1", "--patience", "1000")
+    try:
+        slow.hold("f")
+        reading = Reads(mount, "f")
+        until_it_waits(reading)
+        os.kill(mount.broker.pid, signal.SIGSTOP)
+        new = room.peer(f"{room.path}/t0")
+        new.end.sendall(OFFER)
+        same(new.read(), ("Choice", u32(1) + b"\x00\x01"))
+        time.sleep(3)
+        os.kill(mount.broker.pid, signal.SIGCONT)
+        time.sleep(0.3)
+        slow.let_go()
+        same(new.read(), ("Ready", u32(1) + u64(1)))
+        new.close()
+        reading.ends(contents["f"])
     finally:
         slow.end()
     mount.unmount()
