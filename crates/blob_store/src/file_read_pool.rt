@@ -1,5 +1,7 @@
 //! Threads that read the files of a directory.
-ghost use Rattle.std.specs.Prelude.{◌≡◌, IfOk};
+ghost use Rattle.std.specs.Prelude.{◌≡◌, Err, IfOk};
+ghost use Rattle.std.specs.Arc.{arc_value};
+ghost use Rattle.blob_store.specs.declared.blob_store.BlobFault.TheVariants.{Failed};
 ghost use Rattle.blob_store.specs.FileBlobs.{ReadsFiles};
 ghost use Rattle.blob_store.specs.Reads.{IsGiven};
 ghost use Rattle.blob_store.specs.FileReadPool.{manifest_of};
@@ -47,6 +49,7 @@ impl<R: Files<File = File> + Clock + Wait> FileReadPool<R> {
         R: Threads + Copy + Send + Sync + 'static,
         R::Dir: Send + Sync,
     {
+        ensures manifest { IfOk result (λ pool. manifest_of (arc_value pool) ≡ files.manifest) }
         let pool = Arc::new(
             alloc,
             FileReadPool {
