@@ -51,7 +51,7 @@ impl<'a, R: Clock + Wait> GitBlobs<'a, R> {
     /// Returns the part of an object that an extent is.
     fn part_of(&self, extent: &Extent) -> Result<BlobPart, ObjectFault>
         ensures within { OnOk result (IsWithin self.now.manifest extent.now) }
-        ensures part { IfOk result (IsPartFor self.now.names extent.now) }
+        ensures part { IfOk result (IsPartFor self.now.manifest self.now.names extent.now) }
     {
         let Some(line) = line_within(&self.manifest, extent) else {
             return Err(ObjectFault::Beyond);
