@@ -1,5 +1,6 @@
 //! The contents that a daemon serves.
-ghost use Rattle.daemon_process.specs.Contents.{ReadsContents};
+ghost use Rattle.std.specs.Prelude.{IfOk};
+ghost use Rattle.daemon_process.specs.Contents.{IsOpened, ReadsContents};
 
 use crate::fault::DaemonFault;
 use crate::options::{ContentsSource, RepositorySource};
@@ -118,6 +119,7 @@ where
     R::Dir: Send + Sync,
 {
     let Ok(manifest) = manifest.share() else {
+    ensures contents { IfOk result (IsOpened source manifest.now) }
         return Err(DaemonFault::NoMemory);
     };
     match source {
