@@ -2,8 +2,8 @@
 import time
 
 from process_rows.checks import TooSlow, row, same, took_between
-from process_rows.daemons import mounted_by_hand
-from process_rows.frames import drip, frame, request, u64
+from process_rows.daemons import CLOSED, because, mounted_by_hand
+from process_rows.frames import OFFER, drip, frame, request, u32, u64
 
 
 def as_broker(room, answers, lines, status):
@@ -192,3 +192,21 @@ def a_silent_broker_is_told_of_once(room):
         worker.send("Ended")
     daemon.ends(["serving 1", "ended"])
     same(daemon.said(), "edend: the broker does not answer; waiting for it\nedend: the broker answers again\n")
+
+
+@row
+def a_drain_waits_for_a_silent_broker(room):
+    """The broker answers no Take for three times the patience, in which a daemon is to hand over. It waits on, since no reply waits for
+    the bytes of a file, and is ready once the broker answers."""
+    daemon, _first, worker = mounted_by_hand(room, "--patience", "300")
+    it = room.peer(room.takeover_at)
+    it.end.sendall(OFFER)
+    same(it.read(), ("Choice", u32(1) + b"\x00\x01"))
+    time.sleep(0.9)
+    worker.send("Empty")
+    same(it.read(), ("Ready", u32(1) + u64(1)))
+    it.close()
+    same(worker.read(), ("Take", u64(1)))
+    worker.send("Ended")
+    daemon.ends(["serving 1", "ended"], may_repeat=True)
+    same(daemon.said(), because(f"{CLOSED} Pong"))

@@ -10,6 +10,7 @@ import time
 
 from process_rows.checks import WAIT, row, same, took_between
 from process_rows.contents import write_manifest
+from process_rows.frames import OFFER, u32, u64
 from process_rows.mounted_stores import LONGEST_WAIT, SILENCE, gits_of, mounted, read_once, reads, small_files, with_git_in_front
 from process_rows.mounts import Mount, drop_caches
 from process_rows.slow_files import SlowFiles
@@ -20,6 +21,8 @@ LOOKS, LOOKING = 200, 4
 THREADS = 16
 # For how many seconds a daemon that ends waits for a store.
 LAST_WAIT = 1
+# How many replies wait for a store in the channel of one worker.
+REPLIES = 64
 
 
 class Reads(threading.Thread):
@@ -163,6 +166,29 @@ def a_directory_that_hangs_fails_a_read_after_twenty_seconds(room):
         slow.end()
 
 
+@row
+def one_read_too_many_fails_at_once(room):
+    """The directory of contents doesn't answer, and 64 reads wait for it in the channel of the daemon's one worker. One more ends at
+    once by EIO, and it is said that too many wait. The 64 get their bytes once the directory answers."""
+    contents = {f"f{at}": b"%d " % at * 700 for at in range(REPLIES + 1)}
+    slow, mount = slow_mount(room, contents, "--workers", "1")
+    names = list(contents)
+    try:
+        slow.hold(*names)
+        waiting = [Reads(mount, it) for it in names[:REPLIES]]
+        time.sleep(1)
+        Reads(mount, names[-1]).ends(errno.EIO, -1, LONGEST_WAIT / 2)
+        for it in waiting:
+            it.waits()
+        slow.let_go()
+        for it in waiting:
+            it.ends(contents[it.name])
+    finally:
+        slow.end()
+    mount.unmount()
+    same(mount.daemon.said(), f"edend: cannot read {names[-1]}: too many reads of this worker wait\n")
+
+
 def taken_over(room, mount, slow):
     """Lets a new daemon take over, and returns it."""
     before = f"t{mount.number - 1}"
@@ -199,18 +225,50 @@ def a_takeover_is_given_up_while_a_directory_hangs(room):
 
 
 @row
-def a_daemon_ends_though_a_directory_hangs(room):
-    """Standard input ends while the directory of contents doesn't answer: the read ends by EIO within a second, and the daemon has
-    said that it ends. Its process is there until the system ends the read."""
-    contents = {"f": b"some bytes\n" * 50, "g": b"others\n"}
+def a_takeover_counts_no_wait_for_the_broker_as_one_for_reads(room):
+    """The broker stands still for three times the patience in which a daemon is to hand over, while a read waits for a directory. The
+    daemon waits on, and as long as its patience lasts once the broker goes on: it is ready when the read got its bytes."""
+    contents = {"f": b"some bytes\n" * 50}
+    slow, mount = slow_mount(room, contents, "--workers", "1", "--patience", "1000")
+    try:
+        slow.hold("f")
+        reading = Reads(mount, "f")
+        until_it_waits(reading)
+        os.kill(mount.broker.pid, signal.SIGSTOP)
+        new = room.peer(f"{room.path}/t0")
+        new.end.sendall(OFFER)
+        same(new.read(), ("Choice", u32(1) + b"\x00\x01"))
+        time.sleep(3)
+        os.kill(mount.broker.pid, signal.SIGCONT)
+        time.sleep(0.3)
+        slow.let_go()
+        same(new.read(), ("Ready", u32(1) + u64(1)))
+        new.close()
+        reading.ends(contents["f"])
+    finally:
+        slow.end()
+    mount.unmount()
+
+
+def with_open_input(room, makes):
+    """Calls `makes`, and returns what that returns. The standard input of daemons that it starts is a pipe."""
     plain = room.run
 
     def run(word, *words, **streams):
         return plain(word, *words, **streams, **({"stdin": subprocess.PIPE} if word == "daemon" else {}))
 
     room.run = run
-    slow, mount = slow_mount(room, contents, "--workers", "1", "--until-closed")
+    made = makes()
     room.run = plain
+    return made
+
+
+@row
+def a_daemon_ends_though_a_directory_hangs(room):
+    """Standard input ends while the directory of contents doesn't answer: the read ends by EIO within a second, since the daemon ends,
+    which is said. Its process is there until the system ends the read."""
+    contents = {"f": b"some bytes\n" * 50, "g": b"others\n"}
+    slow, mount = with_open_input(room, lambda: slow_mount(room, contents, "--workers", "1", "--until-closed"))
     try:
         slow.hold("f")
         reading = Reads(mount, "f")
@@ -221,7 +279,21 @@ def a_daemon_ends_though_a_directory_hangs(room):
         same(mount.daemon.lines, ["serving 1", "closed"])
     finally:
         slow.end()
-    mount.daemon.ends(["serving 1", "closed"])
+    mount.daemon.ends(["serving 1", "closed"], error="edend: cannot read f: the daemon ends\n")
+
+
+@row
+def a_daemon_ends_though_git_is_slow(room):
+    """Standard input ends while git takes three seconds for a file: the read ends by EIO within a second, since the daemon ends, which
+    is said."""
+    contents = {"slow": b"some bytes\n" * 50}
+    env, _ = with_git_in_front(room, slowly=b"")
+    mount, _ = with_open_input(room, lambda: mounted(room, contents, "--workers", "1", "--until-closed", env=env))
+    reading = Reads(mount, "slow")
+    until_it_waits(reading)
+    mount.daemon.child.stdin.close()
+    reading.ends(errno.EIO, -1, LAST_WAIT + 2)
+    mount.daemon.ends(["serving 1", "closed"], error="edend: cannot read slow: the daemon ends\n")
 
 
 @row

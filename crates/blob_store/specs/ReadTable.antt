@@ -7,9 +7,10 @@ use Rattle.monitor.specs.Patience.{left_after}
 use Rattle.monitor.specs.declared.patience.Patience.{Patience}
 use Rattle.blob_store.specs.declared.blob_store.BlobFault.{BlobFault}
 use Rattle.blob_store.specs.declared.blob_store.PendingRead.{PendingRead}
+use Rattle.blob_store.specs.declared.blob_store.ReadEnding.{ReadEnding}
 use Rattle.blob_store.specs.declared.read_table.PoolRead.{PoolRead}
 use Rattle.blob_store.specs.declared.read_table.ReadEnd.{ReadEnd}
-use Rattle.blob_store.specs.declared.read_table.ReadEnd.TheVariants.{Gave, Late}
+use Rattle.blob_store.specs.declared.read_table.ReadEnd.TheVariants.{Cut, Gave, Late}
 use Rattle.blob_store.specs.declared.read_table.ReadStage.{ReadStage}
 use Rattle.blob_store.specs.declared.read_table.ReadStage.TheVariants.{Waits, Runs, Ended}
 
@@ -61,6 +62,11 @@ ForgetsAt (Some place) old new = new ≡ remove old place
 abbrev pub end_of : ReadStage → ReadEnd
 end_of (Ended given) = Gave given
 end_of stage = Late
+
+-- how a read ends that is waited for no more: as it ended by itself, or else for this cause
+abbrev pub ended_by : Option ReadEnd → ReadEnding → ReadEnd
+ended_by (Some end) ending = end
+ended_by None ending = Cut ending
 
 -- how much longer a read may take, after a look at this moment
 abbrev pub left_of : PoolRead → Option Instant → ℕ

@@ -7,6 +7,7 @@ ghost use Rattle.blob_store.specs.declared.blob_store.BlobFault.{BlobFault as Fa
 
 use fuse_wire::{Buffer, Extent};
 use std::alloc::Global;
+use std::fmt::{self, Display, Formatter};
 use std::time::Duration;
 
 /// Why a store gave no bytes.
@@ -16,6 +17,24 @@ pub enum BlobFault {
     NoMemory,
     /// The store has no such bytes, can't reach them, or took too long.
     Failed,
+}
+
+/// Why a read is ended that is not over.
+#[derive(Clone, Copy)]
+pub enum ReadEnding {
+    /// As many replies wait in the channel of its worker as may.
+    TooMany,
+    /// The daemon ends.
+    DaemonEnds,
+}
+
+impl Display for ReadEnding {
+    fn fmt<W: fmt::Write>(&self, f: &mut Formatter<W>) -> fmt::Result {
+        f.write_str(match self {
+            ReadEnding::TooMany => "too many reads of this worker wait",
+            ReadEnding::DaemonEnds => "the daemon ends",
+        })
+    }
 }
 
 /// A read that goes on: the part of a file that is read, and the number by which its store knows the read.
@@ -56,12 +75,14 @@ pub trait BlobStore {
     ) -> Option<Result<Buffer, BlobFault>>
         ensures polled { IfSome result (IsGiven (reads self.now) read.now.extent) };
 
-    /// Waits for a read for `longest` at most, and returns what it gave. One that is not over then fails.
+    /// Waits for a read for `longest` at most, and returns what it gave. One that is not over then fails, for the cause
+    /// `ending`.
     fn end_read(
         &self,
         alloc: Global,
         read: &PendingRead,
         longest: Duration,
+        ending: ReadEnding,
     ) -> Result<Buffer, BlobFault>
         ensures ended { IsGiven (reads self.now) read.now.extent result };
 }
@@ -87,7 +108,8 @@ impl<S: BlobStore> BlobStore for &S {
         alloc: Global,
         read: &PendingRead,
         longest: Duration,
+        ending: ReadEnding,
     ) -> Result<Buffer, BlobFault> {
-        (**self).end_read(alloc, read, longest)
+        (**self).end_read(alloc, read, longest, ending)
     }
 }

@@ -1,5 +1,5 @@
 //! The line of a manifest that has the bytes of an extent.
-ghost use Rattle.std.specs.Prelude.{◌≡◌, ◌+◌, ◌<◌, ◌^◌, true, false, is_some, IfSome};
+ghost use Rattle.std.specs.Prelude.{◌≡◌, ◌+◌, ◌<◌, ◌^◌, ◌↔◌, true, false, is_some, IfSome, IsTrue, None, Some};
 ghost use Rattle.std.specs.Option.{option_copied};
 ghost use Rattle.manifest.specs.Manifest.{line_of};
 ghost use Rattle.blob_store.specs.FileBlobs.{HasPart, IsWithin, has_content};
@@ -20,7 +20,7 @@ fn has_content(kind: Kind) -> bool
 
 /// Returns whether a line is that of a regular file or a link which has all bytes of `extent`.
 fn has_part(line: &Line, extent: &Extent) -> bool
-    ensures part { result ≡ true → HasPart line.now extent.now }
+    ensures part { IsTrue result ↔ HasPart line.now extent.now }
     ensures fits { result ≡ true → extent.now.offset + extent.now.len < 2 ^ 64 }
 {
     has_content(line.kind)
@@ -28,10 +28,12 @@ fn has_part(line: &Line, extent: &Extent) -> bool
         && u64::from(extent.len) <= line.size - extent.offset
 }
 
-/// Returns the line of the extent's file, if that has all bytes of the extent.
+/// Returns the line of the extent's file, if it has all bytes of the extent.
 pub fn line_within<'a>(manifest: &'a Manifest, extent: &Extent) -> Option<&'a Line>
-    ensures within { IfSome result (λ line. IsWithin manifest.now extent.now) }
+    ensures line { IfSome result (λ line. line_of manifest.now.lines extent.now.file ≡ Some line.now) }
     ensures part { IfSome result (λ line. HasPart line.now extent.now) }
+    ensures within { IfSome result (λ line. IsWithin manifest.now extent.now) }
+    ensures none { result ≡ None → IsWithin manifest.now extent.now → ⊥ }
     ensures fits { IfSome result (λ line. extent.now.offset + extent.now.len < 2 ^ 64) }
 {
     let line = line_of(manifest.lines(), extent.file)?;

@@ -6,7 +6,7 @@ ghost use Rattle.workers.specs.declared.channel.Posted.TheVariants as post;
 ghost use Rattle.blob_store.specs.Fetching.{LeavesNone, LooksAtReply, Posts, PostsOne, PostsReadyOf, Takes, answer_of, inner_of, store_of, waiting_of};
 ghost use Rattle.blob_store.specs.Reads.{IsStarted};
 
-use crate::blob_store::{BlobFault, BlobStore, PendingRead, StartedRead};
+use crate::blob_store::{BlobFault, BlobStore, PendingRead, ReadEnding, StartedRead};
 use crate::waiting_replies::{WaitingReplies, WaitingReply};
 use byte_codec::Bytes;
 use eden_base::{Errno, NoMemory};
@@ -65,7 +65,7 @@ impl<C: Channel, S: BlobStore> FetchingChannel<C, S> {
         self.waiting.len()
     }
 
-    /// Posts all replies that wait. Each read gets `longest` for that; one that is not over then fails.
+    /// Posts all replies that wait, since the daemon ends. Each read gets `longest` for that; one that is not over then fails.
     #[tactic(auto, using(crate::proofs::Waiting::one_more, crate::proofs::Waiting::one_length))]
     pub fn finish(&mut self, longest: Duration) -> Posted
         ensures posts { PostsReadyOf C.posts S.reads self.old result self.new }
@@ -87,7 +87,9 @@ impl<C: Channel, S: BlobStore> FetchingChannel<C, S> {
         ensures store { store_of self.new ≡ store_of self.old }
     {
         let waited = self.waiting.at(0);
-        let given = self.store.end_read(self.alloc, &waited.read, longest);
+        let given = self
+            .store
+            .end_read(self.alloc, &waited.read, longest, ReadEnding::DaemonEnds);
         self.waiting.remove(0);
         self.tell(waited.unique, answer_of(given), false)
     }
@@ -165,9 +167,10 @@ impl<C: Channel, S: BlobStore> FetchingChannel<C, S> {
             (record { unique = unique; answer = AnExtent read.extent }) result self.new }
     {
         if self.waiting.is_full() {
+            let now = Duration::from_millis(0);
             let given = self
                 .store
-                .end_read(self.alloc, &read, Duration::from_millis(0));
+                .end_read(self.alloc, &read, now, ReadEnding::TooMany);
             return self.tell(unique, answer_of(given), false);
         }
         self.waiting.push(WaitingReply { unique, read });

@@ -1,8 +1,7 @@
 //! The files of a directory as blobs.
-ghost use Rattle.std.specs.Prelude.{◌≡◌, ◌+◌, ◌<◌, ◌^◌, ◌⊎◌, length, Err, IfOk, OnOk};
-ghost use Rattle.blob_store.specs.declared.blob_store.BlobFault.TheVariants.{Failed};
+ghost use Rattle.std.specs.Prelude.{◌≡◌, ◌+◌, ◌<◌, ◌^◌, length, IfOk, OnOk};
 ghost use Rattle.blob_store.specs.FileBlobs.{IsWithin, ReadsFiles};
-ghost use Rattle.blob_store.specs.Reads.{IsGiven};
+ghost use Rattle.blob_store.specs.Reads.{IsChecked, IsGiven};
 
 use crate::blob_store::BlobFault;
 use crate::byte_file::read_part;
@@ -126,14 +125,14 @@ impl<R: Files<File = File> + Clock + Wait> FileBlobs<R> {
             .say(&self.rt, &self.manifest, extent.file, cause);
     }
 
-    /// Returns what a thread that read a part of a file gave, if a read may give that, and else fails.
+    /// Returns what a thread that read a part of a file gave, if a read of it may give that, and else fails.
     pub(crate) fn checked(
         &self,
         extent: &Extent,
         given: Result<Buffer, BlobFault>,
     ) -> Result<Buffer, BlobFault>
         ensures given { IsGiven (ReadsFiles self.now.manifest) extent.now result }
-        ensures same { (result ≡ given) ⊎ (result ≡ Err Failed) }
+        ensures checked { IsChecked (ReadsFiles self.now.manifest) extent.now given result }
     {
         let bytes = given?;
         if bytes.as_slice().len() != extent.len as usize {

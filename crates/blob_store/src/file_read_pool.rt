@@ -1,16 +1,19 @@
 //! Threads that read the files of a directory.
-ghost use Rattle.std.specs.Prelude.{◌≡◌, IfOk};
+ghost use Rattle.std.specs.Prelude.{◌≡◌, Err, IfOk};
+ghost use Rattle.std.specs.Arc.{arc_value};
+ghost use Rattle.blob_store.specs.declared.blob_store.BlobFault.TheVariants.{Failed};
 ghost use Rattle.blob_store.specs.FileBlobs.{ReadsFiles};
 ghost use Rattle.blob_store.specs.Reads.{IsGiven};
 ghost use Rattle.blob_store.specs.FileReadPool.{manifest_of};
 
-use crate::blob_store::{BlobFault, BlobStore, PendingRead, StartedRead};
+use crate::blob_store::{BlobFault, BlobStore, PendingRead, ReadEnding, StartedRead};
 use crate::file_blobs::FileBlobs;
-use crate::read_table::{ReadEnd, ReadTable};
+use crate::read_table::{ReadEnd, ReadTable, ended_by};
 use eden_base::NoMemory;
 use fuse_wire::{Buffer, Extent};
 use monitor::{Condition, Look, Monitor, Patience};
 use std::alloc::Global;
+use std::fmt::Display;
 use std::fs::File;
 use std::rt::{Clock, Files};
 use std::sync::{Arc, Wait};
@@ -46,6 +49,7 @@ impl<R: Files<File = File> + Clock + Wait> FileReadPool<R> {
     where
         R: Threads + Copy + Send + Sync + 'static,
         R::Dir: Send + Sync,
+        ensures manifest { IfOk result (λ pool. manifest_of (arc_value pool) ≡ files.manifest) }
     {
         let pool = Arc::new(
             alloc,
@@ -91,17 +95,23 @@ impl<R: Files<File = File> + Clock + Wait> FileReadPool<R> {
         })
     }
 
-    /// Returns what a read of a part of a file gave that ended so. A late one fails, and its file is said.
+    /// Returns what a read of a part of a file gave that ended so. One that gave nothing fails for its cause.
     fn given_by(&self, extent: &Extent, end: ReadEnd) -> Result<Buffer, BlobFault>
         ensures given { IsGiven (ReadsFiles (manifest_of self.now)) extent.now result }
     {
         match end {
             ReadEnd::Gave(given) => self.files.checked(extent, given),
-            ReadEnd::Late => {
-                self.files.say(extent, "it was not read in time");
-                Err(BlobFault::Failed)
-            }
+            ReadEnd::Late => self.failed(extent, "it was not read in time"),
+            ReadEnd::Cut(ending) => self.failed(extent, ending),
         }
+    }
+
+    /// Says that a file can't be read for `cause`, and returns that its read failed.
+    fn failed<D: Display + Drop>(&self, extent: &Extent, cause: D) -> Result<Buffer, BlobFault>
+        ensures failed { result ≡ Err Failed }
+    {
+        self.files.say(extent, cause);
+        Err(BlobFault::Failed)
     }
 }
 
@@ -135,11 +145,9 @@ impl<R: Files<File = File> + Clock + Wait> BlobStore for FileReadPool<R> {
         _alloc: Global,
         read: &PendingRead,
         longest: Duration,
+        ending: ReadEnding,
     ) -> Result<Buffer, BlobFault> {
-        let end = match self.wait(read.ticket, longest) {
-            Some(end) => end,
-            None => ReadEnd::Late,
-        };
+        let end = ended_by(self.wait(read.ticket, longest), ending);
         self.table.lock(&self.rt).forget(read.ticket);
         self.given_by(&read.extent, end)
     }

@@ -15,7 +15,7 @@ mod read_table;
 mod said_files;
 mod waiting_replies;
 
-pub use blob_store::{BlobFault, BlobStore, PendingRead, StartedRead};
+pub use blob_store::{BlobFault, BlobStore, PendingRead, ReadEnding, StartedRead};
 pub use byte_file::{ByteFile, read_part};
 pub use extent_line::line_within;
 pub use failure_notes::FailureNotes;

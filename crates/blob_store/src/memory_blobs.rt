@@ -3,7 +3,7 @@ ghost use Rattle.std.specs.Prelude.{◌≡◌, length, Some, IfOk};
 ghost use Rattle.std.specs.Option.{option_copied};
 ghost use Rattle.blob_store.specs.MemoryBlobs.{ReadsBlob, blob_of};
 
-use crate::blob_store::{BlobFault, BlobStore, PendingRead, StartedRead};
+use crate::blob_store::{BlobFault, BlobStore, PendingRead, ReadEnding, StartedRead};
 use crate::filling::filled_part;
 use byte_codec::Bytes;
 use eden_base::{FileId, NoMemory};
@@ -88,6 +88,7 @@ impl BlobStore for MemoryBlobs {
         alloc: Global,
         read: &PendingRead,
         _longest: Duration,
+        _ending: ReadEnding,
     ) -> Result<Buffer, BlobFault> {
         self.read(alloc, &read.extent)
     }

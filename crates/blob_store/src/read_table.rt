@@ -1,10 +1,10 @@
 //! The reads of a pool of threads, from their start to their end.
 ghost use Rattle.std.specs.Prelude.{◌≡◌, ◌<◌, ◌++◌, ◌∷◌, [], length, position, Some, IfOk, OnErr};
 ghost use Rattle.std.specs.Option.{IfSome};
-ghost use Rattle.blob_store.specs.ReadTable.{BeginsAt, EndsAt, ForgetsAt, LooksAt, end_of, has_ended, has_ticket, is_waiting};
+ghost use Rattle.blob_store.specs.ReadTable.{BeginsAt, EndsAt, ForgetsAt, LooksAt, end_of, ended_by, has_ended, has_ticket, is_waiting};
 ghost use Rattle.blob_store.specs.declared.read_table.ReadStage.TheVariants.{Waits};
 
-use crate::blob_store::{BlobFault, PendingRead};
+use crate::blob_store::{BlobFault, PendingRead, ReadEnding};
 use eden_base::NoMemory;
 use fuse_wire::{Buffer, Extent};
 use monitor::Patience;
@@ -29,6 +29,8 @@ pub(crate) enum ReadEnd {
     Gave(Result<Buffer, BlobFault>),
     /// It took too long.
     Late,
+    /// It was ended before, for this cause.
+    Cut(ReadEnding),
 }
 
 /// A read of a pool, and how much longer it may take.
@@ -170,5 +172,15 @@ fn end_of(stage: ReadStage) -> ReadEnd
     match stage {
         ReadStage::Ended(given) => ReadEnd::Gave(given),
         _ => ReadEnd::Late,
+    }
+}
+
+/// Returns how a read ends that is waited for no more: as it ended by itself, or else for the cause `ending`.
+pub(crate) fn ended_by(end: Option<ReadEnd>, ending: ReadEnding) -> ReadEnd
+    ensures end { result ≡ ended_by end ending }
+{
+    match end {
+        Some(end) => end,
+        None => ReadEnd::Cut(ending),
     }
 }

@@ -10,6 +10,8 @@ use Rattle.frames.specs.declared.frame.Frame.{Frame}
 use Rattle.takeover_core.specs.declared.phase.Phase.{Phase}
 use Rattle.takeover_core.specs.declared.phase.Phase.TheVariants as phases
 use Rattle.daemon_process.specs.declared.exit.Exit.{Exit}
+use Rattle.daemon_process.specs.declared.shared.Draining.{Draining}
+use Rattle.daemon_process.specs.declared.shared.Draining.TheVariants as draining
 use Rattle.daemon_process.specs.declared.shared.NextStep.{NextStep}
 use Rattle.daemon_process.specs.declared.shared.NextStep.TheVariants as next
 
@@ -75,6 +77,19 @@ ComesNext None is_closed is_waiting state what = ComesOn (ends_in is_closed stat
 abbrev pub DrainsWith : Bool → DeskState → Option Frame → DeskState → Type 0
 DrainsWith true old said new = (said ≡ None) × (new ≡ old)
 DrainsWith false old said new = Drains old said new
+
+-- what ends a drain, by the frame that the daemon says where it has drained: that frame, or that reads took too long where replies
+-- wait and the patience is over; else the drain goes on
+abbrev pub drain_end : (is_waiting is_spent : Bool) → Option Frame → Option Draining
+drain_end is_waiting is_spent (Some ready) = Some (draining.Ready ready)
+drain_end true true None = Some draining.Late
+drain_end is_waiting is_spent None = None
+
+-- what ends a drain, if something does: the daemon is over, or what `drain_end` says
+abbrev pub EndsDrain : (is_over is_waiting is_spent : Bool) → DeskState → Option Draining → DeskState → Type 0
+EndsDrain true is_waiting is_spent old ends new = (ends ≡ Some draining.Over) × (new ≡ old)
+EndsDrain false is_waiting is_spent old ends new =
+    (said : Option Frame) × DrainsWith is_waiting old said new × (ends ≡ drain_end is_waiting is_spent said)
 
 -- ---- what is printed
 

@@ -1,11 +1,13 @@
 //! The contents that a daemon serves.
-ghost use Rattle.daemon_process.specs.Contents.{ReadsContents};
+ghost use Rattle.std.specs.Prelude.{IfOk};
+ghost use Rattle.daemon_process.specs.Contents.{IsOpened, ReadsContents};
 
 use crate::fault::DaemonFault;
 use crate::options::{ContentsSource, RepositorySource};
 use crate::own_mounts::{is_below_own, is_of_own};
 use blob_store::{
-    BlobFault, BlobStore, FailureNotes, FileBlobs, FileReadPool, PendingRead, StartedRead,
+    BlobFault, BlobStore, FailureNotes, FileBlobs, FileReadPool, PendingRead, ReadEnding,
+    StartedRead,
 };
 use fuse_wire::{Buffer, Extent};
 use git_blobs::GitBlobs;
@@ -85,11 +87,12 @@ impl<R: Files<File = File> + Clock + Wait> BlobStore for Contents<'_, R> {
         alloc: Global,
         read: &PendingRead,
         longest: Duration,
+        ending: ReadEnding,
     ) -> Result<Buffer, BlobFault> {
         match self {
             Contents::None => Err(BlobFault::Failed),
-            Contents::Directory(files) => files.end_read(alloc, read, longest),
-            Contents::Repository(blobs) => blobs.end_read(alloc, read, longest),
+            Contents::Directory(files) => files.end_read(alloc, read, longest, ending),
+            Contents::Repository(blobs) => blobs.end_read(alloc, read, longest, ending),
         }
     }
 }
@@ -116,6 +119,7 @@ pub(crate) fn open_contents<
 ) -> Result<Contents<'a, R>, DaemonFault>
 where
     R::Dir: Send + Sync,
+    ensures contents { IfOk result (IsOpened source manifest.now) }
 {
     let Ok(manifest) = manifest.share() else {
         return Err(DaemonFault::NoMemory);

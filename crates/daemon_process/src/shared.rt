@@ -1,11 +1,11 @@
 //! What the threads of a daemon share.
-ghost use Rattle.std.specs.Prelude.{◌≡◌, ◌⊎◌, ◌&&◌, None, Some, is_some, true};
+ghost use Rattle.std.specs.Prelude.{◌≡◌, ◌⊎◌, ◌&&◌, ◌||◌, None, Some, false, is_some, true};
 ghost use Rattle.std.specs.Option.{IfSome};
 ghost use Rattle.takeover_core.specs.declared.phase.Phase.TheVariants.{Serving};
 ghost use Rattle.daemon.specs.Daemon.{lent_server};
 ghost use Rattle.daemon_desk.specs.Desk.{Hears, returned};
 ghost use Rattle.daemon_process.specs.Ending.{ending_before};
-ghost use Rattle.daemon_process.specs.Serving.{ComesNext, DrainsWith, IsServing, ends_in, last_step, served_next, stops_behind, stops_next};
+ghost use Rattle.daemon_process.specs.Serving.{ComesNext, DrainsWith, EndsDrain, IsServing, ends_in, last_step, served_next, stops_behind, stops_next};
 ghost use Rattle.daemon_process.specs.declared.exit.DaemonEnd.TheVariants.{Closed};
 ghost use Rattle.daemon_process.specs.declared.shared.NextStep.TheVariants.{Close};
 
@@ -41,7 +41,8 @@ struct SharedState {
     is_finished: bool,
     /// Whether standard input ended, so that the daemon is to end.
     is_closed: bool,
-    /// Whether replies wait in the workers' channels for the bytes of files.
+    /// Whether replies wait in the workers' channels for the bytes of files. While a round runs it posts them, and this is
+    /// false.
     is_waiting: bool,
     /// A handle of the connection at which the daemon waits before it serves, if it waits.
     waits_at: Option<UnixStream>,
@@ -76,7 +77,7 @@ pub(crate) enum NextStep {
 pub(crate) enum Draining {
     /// It has drained, and says this to the other daemon.
     Ready(Frame),
-    /// It took too long: replies wait for the bytes of files.
+    /// Replies waited too long for the bytes of files.
     Late,
     /// The daemon is over.
     Over,
@@ -102,6 +103,7 @@ impl SharedState {
             self.old.desk.daemon.node.phase ≡ Serving lease.generation) }
         ensures stops { IfSome (stops_next result) (λ stops. stops ≡ self.old.stops) }
         ensures kept { self.new.stops ≡ self.old.stops }
+        ensures posts { IfSome (served_next result) (λ lease. self.new.is_waiting ≡ false) }
     {
         if let Some(exit) = self.exit {
             return Some(NextStep::Exit(exit));
@@ -116,6 +118,7 @@ impl SharedState {
             return Some(NextStep::Pause);
         };
         let lease = self.desk.lend()?;
+        self.is_waiting = false;
         let stops = self.stops;
         Some(NextStep::Serve(lease, RoundStop { stop, stops }))
     }
@@ -157,6 +160,7 @@ impl SharedState {
     fn drained(&mut self) -> Option<Frame>
         ensures drains { DrainsWith self.old.is_waiting self.old.desk result self.new.desk }
         ensures exit { self.new.exit ≡ self.old.exit }
+        ensures waiting { self.new.is_waiting ≡ self.old.is_waiting }
     {
         if self.is_waiting {
             return None;
@@ -164,8 +168,26 @@ impl SharedState {
         self.desk.drained()
     }
 
+    /// Returns what ends a drain whose patience is over if `is_spent`; none if the drain goes on. It is late only for replies
+    /// that wait: a round that doesn't end is waited for.
+    fn drain(&mut self, is_spent: bool) -> Option<Draining>
+        ensures ends { EndsDrain (is_some self.old.exit || self.old.is_finished) self.old.is_waiting is_spent self.old.desk
+            result self.new.desk }
+        ensures exit { self.new.exit ≡ self.old.exit }
+    {
+        if self.is_over() {
+            return Some(Draining::Over);
+        }
+        match self.drained() {
+            Some(ready) => Some(Draining::Ready(ready)),
+            None => (self.is_waiting && is_spent).then_some(Draining::Late),
+        }
+    }
+
     /// Returns whether the daemon's exit is noted, or its main thread has ended.
-    fn is_over(&self) -> bool {
+    fn is_over(&self) -> bool
+        ensures over { result ≡ (is_some self.now.exit || self.now.is_finished) }
+    {
         self.exit.is_some() || self.is_finished
     }
 
@@ -326,16 +348,16 @@ impl Shared {
             .change(rt, &self.changes, |state| state.is_waiting = is_waiting);
     }
 
-    /// Waits until the workers gave their lease back and no reply waits for the bytes of a file, for `longest` at most.
+    /// Waits until the workers gave their lease back, and then for `longest` at most until no reply waits for the bytes of a
+    /// file.
     pub(crate) fn drain<R: Wait + Clock>(&self, rt: &R, longest: Duration) -> Draining {
         let mut patience = Patience::start(rt, longest);
         self.state.wait_until(rt, &self.changes, |state| {
-            if state.is_over() {
-                return Look::Found(Draining::Over);
+            if !state.is_waiting {
+                patience = Patience::start(rt, longest);
             }
-            match state.drained() {
-                Some(ready) => Look::Found(Draining::Ready(ready)),
-                None if patience.look(rt) => Look::Found(Draining::Late),
+            match state.drain(patience.look(rt)) {
+                Some(end) => Look::Found(end),
                 None => Look::Again(patience.slice()),
             }
         })

@@ -1,37 +1,38 @@
 -- What a read of a commit's files gives.
-use Rattle.std.specs.Prelude.{◌≡◌, ◌+◌, ◌≤◌, ℕ, List, length, Some, Result, Ok, Err, ⊤}
+use Rattle.std.specs.Prelude.{◌≡◌, ℕ, List, length, Some, Result, Ok, Err, ⊤}
 use Rattle.fuse_wire.specs.declared.reply.Extent.{Extent}
 use Rattle.git_objects.specs.Reading.{IsRead}
 use Rattle.git_objects.specs.declared.git_objects.BlobPart.{BlobPart}
 use Rattle.git_tree.specs.GitObject.{object_at}
 use Rattle.git_tree.specs.declared.object_id.ObjectId.{ObjectId}
-use Rattle.blob_store.specs.FileBlobs.{IsWithin}
+use Rattle.blob_store.specs.FileBlobs.{HasPart, IsWithin}
 use Rattle.blob_store.specs.declared.blob_store.BlobFault.{BlobFault}
-use Rattle.manifest.specs.Manifest.{Manifest}
+use Rattle.manifest.specs.Manifest.{Line, Manifest, line_of}
 
--- The bytes are that part of the object that the commit names for the file, which has some size. Blobs are kept within this
--- bound, and of one that is too large for memory the bytes are unknown.
-pub record IsOfObject (names : List ObjectId) (bound : ℕ) (extent : Extent) (bytes : List ℕ) : Type 0 where
+-- the part of an object that an extent is: of the object that the commit names for the file, at the size that the manifest says
+pub record IsPartFor (manifest : Manifest) (names : List ObjectId) (extent : Extent) (part : BlobPart) : Type 0 where
+  pub line : Line
   pub name : ObjectId
-  pub size : ℕ
+  pub is_line : line_of manifest.lines extent.file ≡ Some line
+  pub has_part : HasPart line extent
   pub is_name : object_at names extent.file ≡ Some name
-  pub is_within : extent.offset + extent.len ≤ size
-  pub is_read : IsRead bound (record { object = name.0; size = size; offset = extent.offset; len = extent.len }) bytes
+  pub is_part : part ≡ record { object = name.0; size = line.file.size; offset = extent.offset; len = extent.len }
 
--- the part of an object that an extent is: of the object that the commit names for the file
-pub record IsPartFor (names : List ObjectId) (extent : Extent) (part : BlobPart) : Type 0 where
-  pub name : ObjectId
-  pub is_name : object_at names extent.file ≡ Some name
-  pub is_part : part ≡ record { object = name.0; size = part.size; offset = extent.offset; len = extent.len }
+-- The bytes are that part of that object. Blobs are kept within this bound, and of one that is too large for memory the bytes are
+-- unknown.
+pub record IsOfObject (manifest : Manifest) (names : List ObjectId) (bound : ℕ) (extent : Extent) (bytes : List ℕ) : Type 0 where
+  pub part : BlobPart
+  pub is_part : IsPartFor manifest names extent part
+  pub is_read : IsRead bound part bytes
 
 -- these are all the bytes of an extent that the manifest has, and of the file's object
 pub record IsOfFile (manifest : Manifest) (names : List ObjectId) (bound : ℕ) (extent : Extent) (bytes : List ℕ) : Type 0 where
   pub within : IsWithin manifest extent
-  pub object : IsOfObject names bound extent bytes
+  pub object : IsOfObject manifest names bound extent bytes
   pub whole : length bytes ≡ extent.len
 
 -- What a read gives: bytes only of an extent that the manifest has, and of the file's object. Why it gives none is unknown
 -- before git is asked.
 abbrev pub ReadsCommit : Manifest → List ObjectId → ℕ → Extent → Result (List ℕ) BlobFault → Type 0
-ReadsCommit manifest names bound extent (Ok bytes) = IsWithin manifest extent × IsOfObject names bound extent bytes
+ReadsCommit manifest names bound extent (Ok bytes) = IsWithin manifest extent × IsOfObject manifest names bound extent bytes
 ReadsCommit manifest names bound extent (Err fault) = ⊤

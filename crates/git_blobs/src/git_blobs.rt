@@ -1,16 +1,20 @@
 //! The blobs of a commit's files.
-ghost use Rattle.std.specs.Prelude.{◌≡◌, IfOk, OnOk};
+ghost use Rattle.std.specs.Prelude.{◌≡◌, Err, IfOk, OnOk};
 ghost use Rattle.blob_store.specs.FileBlobs.{IsWithin};
+ghost use Rattle.blob_store.specs.declared.blob_store.BlobFault.TheVariants.{Failed};
 ghost use Rattle.blob_store.specs.Reads.{IsGiven};
 ghost use Rattle.git_blobs.specs.Serving.{IsOfFile, IsPartFor, ReadsCommit};
 
-use blob_store::{BlobFault, BlobStore, FailureNotes, PendingRead, StartedRead, line_within};
+use blob_store::{
+    BlobFault, BlobStore, FailureNotes, PendingRead, ReadEnding, StartedRead, line_within,
+};
 use byte_codec::Bytes;
 use fuse_wire::{Buffer, Extent};
 use git_objects::{BlobPart, GitObjects, ObjectFault, PendingPart, StartedPart};
 use git_tree::Objects;
 use manifest::Manifest;
 use std::alloc::Global;
+use std::fmt::Display;
 use std::rt::Clock;
 use std::sync::Wait;
 use std::time::Duration;
@@ -51,7 +55,7 @@ impl<'a, R: Clock + Wait> GitBlobs<'a, R> {
     /// Returns the part of an object that an extent is.
     fn part_of(&self, extent: &Extent) -> Result<BlobPart, ObjectFault>
         ensures within { OnOk result (IsWithin self.now.manifest extent.now) }
-        ensures part { IfOk result (IsPartFor self.now.names extent.now) }
+        ensures part { IfOk result (IsPartFor self.now.manifest self.now.names extent.now) }
     {
         let Some(line) = line_within(&self.manifest, extent) else {
             return Err(ObjectFault::Beyond);
@@ -85,8 +89,15 @@ impl<'a, R: Clock + Wait> GitBlobs<'a, R> {
             Err(ObjectFault::NoMemory) => return Err(BlobFault::NoMemory),
             Err(fault) => fault,
         };
+        self.failed(extent, fault)
+    }
+
+    /// Says that a file can't be read for `cause`, and returns that its read failed.
+    fn failed<D: Display + Drop>(&self, extent: &Extent, cause: D) -> Result<Buffer, BlobFault>
+        ensures failed { result ≡ Err Failed }
+    {
         self.failures
-            .say(self.rt, &self.manifest, extent.file, fault);
+            .say(self.rt, &self.manifest, extent.file, cause);
         Err(BlobFault::Failed)
     }
 }
@@ -134,17 +145,19 @@ impl<R: Clock + Wait> BlobStore for GitBlobs<'_, R> {
         alloc: Global,
         read: &PendingRead,
         longest: Duration,
+        ending: ReadEnding,
     ) -> Result<Buffer, BlobFault> {
-        let told = match self.part_of(&read.extent) {
-            Ok(part) => {
-                let pending = PendingPart {
-                    part,
-                    ticket: read.ticket,
-                };
-                self.objects.end_read(self.rt, alloc, pending, longest)
-            }
-            Err(fault) => Err(fault),
+        let part = match self.part_of(&read.extent) {
+            Ok(part) => part,
+            Err(fault) => return self.given_by(&read.extent, Err(fault)),
         };
-        self.given_by(&read.extent, told)
+        let pending = PendingPart {
+            part,
+            ticket: read.ticket,
+        };
+        match self.objects.end_read(self.rt, alloc, pending, longest) {
+            Some(told) => self.given_by(&read.extent, told),
+            None => self.failed(&read.extent, ending),
+        }
     }
 }

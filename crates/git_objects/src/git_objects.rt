@@ -133,24 +133,22 @@ impl GitObjects {
         }
     }
 
-    /// Waits for a part of a blob for `longest` at most, and returns its bytes, or why there are none. One that did not come by
-    /// then is late.
+    /// Waits for a part of a blob for `longest` at most, and returns its bytes, or why there are none, if that is known by then.
+    /// So or so its ticket counts for nothing after that.
     pub fn end_read<R: Wait + Clock>(
         &self,
         rt: &R,
         alloc: Global,
         pending: PendingPart,
         longest: Duration,
-    ) -> Result<Bytes, ObjectFault>
-        ensures told { IsGiven self.now pending.part result }
+    ) -> Option<Result<Bytes, ObjectFault>>
+        ensures told { IfSome result (IsGiven self.now pending.part) }
     {
-        match self.poll_read(rt, alloc, pending, longest) {
-            Some(told) => told,
-            None => {
-                self.shared.forget(rt, pending.ticket);
-                Err(ObjectFault::Late)
-            }
+        let told = self.poll_read(rt, alloc, pending, longest);
+        if told.is_none() {
+            self.shared.forget(rt, pending.ticket);
         }
+        told
     }
 
     /// Returns the bytes of a part of `blob`. No clause knows what stands behind the lock, so the blob that comes from there is

@@ -68,7 +68,6 @@ noted_still answers.Other noted is = absurd (let none : ⊥ = cc in none)
 
 module _ (old sent read : ConnectionState) (reply : Reply) (answer : BrokerAnswer) (body : List ℕ)
     (both : SendsBoth old reply sent) (heard : HearsFrame sent (Some answer) body read) (well : posted_of answer ≡ post.Done) where
-
   -- the channel as the Post alone left it
   abbrev between : ConnectionState
   between = record {
@@ -102,23 +101,23 @@ module _ (old sent read : ConnectionState) (reply : Reply) (answer : BrokerAnswe
 
   posted : PostsAlone old reply post.Done between
   posted =
-    let is = answered_post in
-    let told : answer ≡ answer_of is.heard = is.is_told in
-    let by_frame : ended_by (answer_of is.heard) old.ended ≡ old.ended =
-        ap (λ (a : BrokerAnswer). ended_by a old.ended) (sym told) ∙ noted_still answer old.ended well in
-    let P : Option TakeFault → Type 0 = λ e. between ≡ record between { ended = e } in
-    inl (between, is.heard, is.exchanged, (sym (ap posted_of (sym told) ∙ well), subst P (sym by_frame) refl))
+      let is = answered_post in
+      let told : answer ≡ answer_of is.heard = is.is_told in
+      let by_frame : ended_by (answer_of is.heard) old.ended ≡ old.ended =
+      ap (λ (a : BrokerAnswer). ended_by a old.ended) (sym told) ∙ noted_still answer old.ended well in
+      let P : Option TakeFault → Type 0 = λ e. between ≡ record between { ended = e } in
+      inl (between, is.heard, is.exchanged, (sym (ap posted_of (sym told) ∙ well), subst P (sym by_frame) refl))
 
   asked : (later : ConnectionState) (next : NextAsk) → HearsNext settled next later → Asks between next later
   asked later next (inl (mid, second, text, frame, hears)) =
-    let is = answered between mid (take_of between) second text
-        (frame.generation ∙ generation_still) (frame.ended ∙ ended_still) (frame.ahead ∙ ahead_still)
-        (sends_kept both.between settled.outgoing mid.outgoing (take_of old) take_sent frame.sent) frame.read in
-    Heard mid is.heard is.exchanged (hears_frame mid later second text is.heard next is.is_told is.has_body hears)
+      let is = answered between mid (take_of between) second text
+      (frame.generation ∙ generation_still) (frame.ended ∙ ended_still) (frame.ahead ∙ ahead_still)
+      (sends_kept both.between settled.outgoing mid.outgoing (take_of old) take_sent frame.sent) frame.read in
+      Heard mid is.heard is.exchanged (hears_frame mid later second text is.heard next is.is_told is.has_body hears)
   asked later next (inr (broken, (text, frame))) =
-    let none = frame.read in
-    subst (λ (t : NextAsk). Asks between t later) (sym broken)
-    (Unheard (NotHeard none.0 (sends_kept both.between settled.outgoing later.outgoing (take_of old) take_sent frame.sent) none.1 none.2))
+      let none = frame.read in
+      subst (λ (t : NextAsk). Asks between t later) (sym broken)
+      (Unheard (NotHeard none.0 (sends_kept both.between settled.outgoing later.outgoing (take_of old) take_sent frame.sent) none.1 none.2))
 
   -- the reply was posted, and the result of the Take behind it is kept
   pub posted_and_taken :
@@ -126,9 +125,9 @@ module _ (old sent read : ConnectionState) (reply : Reply) (answer : BrokerAnswe
       (later new : ConnectionState) (next : NextAsk) → HearsNext (record read { ended = noted }) next later →
       new ≡ record later { ahead = Some next } → PostsAndTakes old reply said new
   posted_and_taken said done noted same later new next hears is =
-    let P : Option TakeFault → Type 0 = λ e. HearsNext (record read { ended = e }) next later in
-    subst (λ (s : Posted). PostsAndTakes old reply s new) (sym done)
-    (between, later, next, posted, asked later next (subst P same hears), is)
+      let P : Option TakeFault → Type 0 = λ e. HearsNext (record read { ended = e }) next later in
+      subst (λ (s : Posted). PostsAndTakes old reply s new) (sym done)
+      (between, later, next, posted, asked later next (subst P same hears), is)
 
 -- the reply was not posted, and nothing was taken
 pub not_posted :
@@ -143,8 +142,8 @@ not_posted old sent heard new reply answer body post.Broken both frame is not no
 
 -- an ask was taken: nothing was at hand, so that the broker was asked
 pub takes_asked :
-    (old new : ConnectionState) (taken : NextAsk) (ahead : Option NextAsk) → ahead ≡ old.ahead → ahead ≡ None →
-    Asks (record old { ahead = None }) taken new → Takes old taken new
-takes_asked old new taken ahead was none asks =
+    (old new : ConnectionState) (taken : NextAsk) (left : Option NextAsk) → left ≡ None → None ≡ old.ahead →
+    Asks (record old { ahead = left }) taken new → Takes old taken new
+takes_asked old new taken left nothing none asks =
     let P : Option NextAsk → Type 0 = λ a. Asks (record old { ahead = a }) taken new in
-    inr (sym was ∙ none, subst P (sym none ∙ was) asks)
+    inr (sym none, subst P (nothing ∙ none) asks)

@@ -9,5 +9,5 @@ returns-then-has_part-clause-within c = record {
   line = c.in_ok-line.line.now;
   is_line = ap (λ (lines : List Line). line_of lines c.args.extent.now.file) (sym c.lines.ensures.lines)
       ∙ sym c.line_of.ensures ∙ ap option_copied c.in_ok-line.was;
-  has_part = c.has_part.ensures.part c.if-has_part.true;
+  has_part = c.has_part.ensures.part.0 c.if-has_part.true;
 }
