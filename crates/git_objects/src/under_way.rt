@@ -1,5 +1,5 @@
 //! Blobs that git is asked for.
-ghost use Rattle.std.specs.Prelude.{◌≡◌, ◌++◌, ◌∷◌, ◌<◌, [], length, position};
+ghost use Rattle.std.specs.Prelude.{◌≡◌, ◌++◌, ◌∷◌, ◌<◌, [], length, position, IfSome};
 ghost use Rattle.std.specs.List.{list_any};
 ghost use Rattle.git_objects.specs.UnderWay.{has_room, is_object, without};
 
@@ -52,13 +52,16 @@ impl UnderWay {
         ensures objects { self.new.objects.items ≡ without (position (is_object object.now) self.old.objects.items)
             self.old.objects.items }
     {
-        let place = self
-            .objects
-            .as_slice()
-            .iter()
-            .position(|other| same_id(other, object));
-        if let Some(place) = place {
-            let _ended = self.objects.pop_at(place);
+        if let Some(place) = place_of(self.objects.as_slice(), object) {
+            let _ended = self.objects.remove(place);
         }
     }
+}
+
+/// Returns the place of `object`, if it is one of `objects`.
+fn place_of(objects: &[[u8; 20]], object: &[u8; 20]) -> Option<usize>
+    ensures place { result ≡ position (is_object object.now) objects.now }
+    ensures within { IfSome result (λ i. i < length objects.now) }
+{
+    objects.iter().position(|other| same_id(other, object))
 }
