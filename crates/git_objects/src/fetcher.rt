@@ -74,10 +74,18 @@ impl<'a, R: Wait + Clock + Files<File = File> + Net + Processes> Fetcher<'a, R> 
     /// Fetches what is asked for by its duty, as long as this process runs.
     pub(crate) fn fetch_all(&mut self) {
         for _ in self.rt.forever() {
-            let sought = self.shared.next(self.rt, self.duty);
-            let fetched = self.fetch(sought);
-            self.shared.deliver(self.rt, self.duty, sought, fetched);
+            if self.may_fetch() {
+                let sought = self.shared.next(self.rt, self.duty);
+                let fetched = self.fetch(sought);
+                self.shared.deliver(self.rt, self.duty, sought, fetched);
+            }
         }
+    }
+
+    /// Returns whether something may be asked for: nothing may while a process that was killed has not ended, as another thread
+    /// has the same duty. Of large blobs there is no other.
+    fn may_fetch(&mut self) -> bool {
+        self.reap() || matches!(self.duty, Duty::Large)
     }
 
     /// Fetches a blob. Where the process ended amid its answer, the next one is asked too.
