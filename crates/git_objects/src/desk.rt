@@ -3,7 +3,7 @@ ghost use Rattle.std.specs.Prelude.{◌≡◌, ◌<◌, [], length, true, map, p
 ghost use Rattle.std.specs.List.{list_any};
 ghost use Rattle.std.specs.Map.{lookup};
 ghost use Rattle.git_objects.specs.BlobCache.{is_large, same_id};
-ghost use Rattle.git_objects.specs.AheadQueue.{is_of, joined, rest_of};
+ghost use Rattle.git_objects.specs.AheadQueue.{joined, rest_of};
 ghost use Rattle.git_objects.specs.Desk.{Delivers, FindsBlob, FindsIf, ForgetsAt, IsAsked, Keeps, Looks, begun, came_after, came_by, came_more, has_ticket, is_for, is_next, is_open, is_small, is_there, is_welcome, left_ahead, left_arriving, next_for, next_of, open_from, verdict, with_fault};
 ghost use Rattle.git_objects.specs.UnderWay.{is_object, without};
 
