@@ -11,7 +11,7 @@ import time
 from process_rows.checks import WAIT, row, same, took_between
 from process_rows.contents import write_manifest
 from process_rows.frames import OFFER, u32, u64
-from process_rows.mounted_stores import LONGEST_WAIT, SILENCE, gits_of, mounted, read_once, reads, small_files, with_git_in_front
+from process_rows.mounted_stores import LONGEST_WAIT, SILENCE, hangs_at, mounted, read_once, reads, small_files, with_git_in_front
 from process_rows.mounts import Mount, drop_caches
 from process_rows.slow_files import SlowFiles
 
@@ -74,25 +74,25 @@ def until_it_waits(reading):
 
 @row
 def a_git_that_stands_still_stops_nobody_else(room):
-    """The process of git is stopped, and the daemon has one worker. Who reads waits and gets EIO once git was silent for too long.
-    Until then each look of others is answered, and so are reads of what was fetched before."""
+    """As many processes of git stand still as fetch small files, and the daemon has one worker. Who reads waits and gets EIO once git
+    was silent for too long. Until then each look of others is answered, and so are reads of what was fetched before."""
     contents = small_files()
-    mount, _ = mounted(room, contents, "--workers", "1")
     names = list(contents)
+    env, at = with_git_in_front(room)
+    mount, path = mounted(room, contents, "--workers", "1", env=env)
+    hangs_at(at, path, *names[1:3])
     reads(mount, {names[0]: contents[names[0]]})
-    os.kill(gits_of(mount)[0], signal.SIGSTOP)
-    waiting = [Reads(mount, it) for it in names[1:4]]
+    waiting = [Reads(mount, it) for it in names[1:3]]
     for it in waiting:
         until_it_waits(it)
+    waiting.append(Reads(mount, names[3]))
+    until_it_waits(waiting[2])
     looks_around(mount, names)
     drop_caches(with_pages=True)
     reads(mount, {names[0]: contents[names[0]]})
-    for it in waiting:
-        it.join(WAIT)
-    (failed,) = [it for it in waiting if it.gave == errno.EIO]
-    took_between(SILENCE - 1, failed.took, LONGEST_WAIT, failed.name)
-    for it in waiting:
-        it.ends(errno.EIO if it is failed else contents[it.name])
+    for it in waiting[:2]:
+        it.ends(errno.EIO, SILENCE - 1, LONGEST_WAIT)
+    waiting[2].ends(contents[names[3]])
     mount.unmount()
 
 

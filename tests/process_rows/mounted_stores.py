@@ -13,7 +13,7 @@ import zlib
 
 from process_rows.checks import WAIT, row, row_of_proved, same, took_between
 from process_rows.mounts import Mount, drop_caches, until
-from process_rows.repositories import git
+from process_rows.repositories import git, says
 from process_rows.rooms import run_to_end
 
 # The sizes of a file that no cache of a megabyte has room for, and of one for a program without a proof.
@@ -46,6 +46,13 @@ if [ -e "$0.halves" ]; then
     sleep 2
     cat "$0.halves"
     echo
+  done
+  exit
+fi
+if [ -e "$0.hangs" ]; then
+  while read -r object; do
+    grep -q "$object" "$0.hangs" && exec sleep 1000
+    echo "$object" | "$REAL_GIT" "$@"
   done
   exit
 fi
@@ -113,6 +120,26 @@ def read_once(mount, name, offset=0):
         os.close(file)
 
 
+class SeenOnce(threading.Thread):
+    """A thread that reads a file by one request, with what that gave and how long it took."""
+
+    def __init__(self, mount, name):
+        super().__init__(daemon=True)
+        self.mount, self.name, self.gave, self.took = mount, name, None, None
+        self.start()
+
+    def run(self):
+        began = time.monotonic()
+        self.gave = read_once(self.mount, self.name)
+        self.took = time.monotonic() - began
+
+    def gives(self, wanted, least):
+        """Shows that it ends, not before so many seconds, and gives this."""
+        self.join(WAIT)
+        same((self.name, self.gave), (self.name, wanted))
+        took_between(least, self.took, LONGEST_WAIT, self.name)
+
+
 def reads(mount, contents):
     """Shows that files have these contents, or that reading them ends by these errors."""
     for name, wanted in contents.items():
@@ -142,57 +169,58 @@ def ends_with(mount, *said):
 
 @row
 def a_git_that_is_killed_is_started_again(room):
-    """The process of git is killed again and again while programs read: each file has its bytes, and nothing is said. At the
-    end of the daemon the last one ends too."""
+    """The processes of git are killed again and again while programs read: each file has its bytes, and nothing is said. At the
+    end of the daemon the last ones end too."""
     contents = small_files()
     mount, _ = mounted(room, contents)
     for name, content in contents.items():
         reads(mount, {name: content})
         for it in gits_of(mount):
             os.kill(it, signal.SIGKILL)
-    (last,) = gits_of(mount)
+    last = gits_of(mount)
     mount.unmount()
     same(mount.daemon.said(), "")
-    until(lambda: not os.path.exists(f"/proc/{last}"), "the end of git")
+    until(lambda: not any(os.path.exists(f"/proc/{it}") for it in last), "the end of git")
 
 
 @row
 def a_git_that_stands_still_fails_one_read(room):
-    """The process of git is stopped: the read that waits for it ends by EIO, and is said with the name of the file. Names and
-    what was fetched are served on, and so are other files: by another process."""
+    """A process of git stands still: the read that waits for it ends by EIO, and is said with the name of the file. What was fetched
+    is served on, and so are other files meanwhile: by another process. Behind that the same file is read."""
     contents = small_files()
-    mount, _ = mounted(room, contents, "--workers", "4")
     names = list(contents)
+    env, at = with_git_in_front(room)
+    mount, path = mounted(room, contents, "--workers", "4", env=env)
+    hangs_at(at, path, names[1])
     reads(mount, {names[0]: contents[names[0]]})
-    (first,) = gits_of(mount)
-    os.kill(first, signal.SIGSTOP)
-    began = time.monotonic()
-    same(read_once(mount, names[1]), errno.EIO)
-    took_between(SILENCE - 1, time.monotonic() - began, LONGEST_WAIT, "EIO")
+    failing = SeenOnce(mount, names[1])
+    time.sleep(0.5)
+    reads(mount, {it: contents[it] for it in names[2:6]})
     drop_caches(with_pages=True)
-    reads(mount, {names[0]: contents[names[0]], names[2]: contents[names[2]], names[1]: contents[names[1]]})
-    same(first in gits_of(mount), False)
+    reads(mount, {names[0]: contents[names[0]]})
+    same(failing.is_alive(), True)
+    failing.gives(errno.EIO, SILENCE - 1)
+    hangs_at(at, path)
+    reads(mount, {names[1]: contents[names[1]]})
     ends_with(mount, f"edend: cannot read {names[1]}: git did not answer in time\n")
 
 
 @row
-def a_read_behind_one_that_fails_goes_on(room):
-    """Two programs wait for a process of git that is stopped. The first one's read fails, and the second one's is asked of
-    another process."""
+def a_read_behind_some_that_fail_goes_on(room):
+    """Programs wait for processes of git that stand still, as many as fetch small files, and one more waits behind them. The reads
+    before it fail, and the last one's is asked of another process."""
     contents = small_files()
-    mount, _ = mounted(room, contents, "--workers", "4")
     names = list(contents)
-    reads(mount, {names[0]: contents[names[0]]})
-    os.kill(gits_of(mount)[0], signal.SIGSTOP)
-    got = {}
+    env, at = with_git_in_front(room)
+    mount, path = mounted(room, contents, "--workers", "4", env=env)
+    hangs_at(at, path, *names[1:3])
     threads = []
-    for name in names[1:3]:
-        threads.append(threading.Thread(target=lambda name=name: got.update({name: read_once(mount, name)})))
-        threads[-1].start()
+    for name in names[1:4]:
+        threads.append(SeenOnce(mount, name))
         time.sleep(0.5)
-    for it in threads:
-        it.join(WAIT)
-    same(got, {names[1]: errno.EIO, names[2]: contents[names[2]]})
+    for it in threads[:2]:
+        it.gives(errno.EIO, SILENCE - 1)
+    threads[2].gives(contents[names[3]], SILENCE - 2)
     mount.unmount()
 
 
@@ -219,9 +247,28 @@ def a_repository_that_goes_away_is_missed_by_what_was_not_read(room):
     mount.unmount()
 
 
+def id_of(path, name):
+    """Returns the id of the object that a repository has for a name."""
+    return says(path, "rev-parse", f"HEAD:{name}")
+
+
+def hangs_at(at, path, *names):
+    """Has the git in front, which stands there by this name, stand still where it is asked for one of these files."""
+    with open(f"{at}.hangs", "w") as file:
+        file.writelines(f"{id_of(path, it)}\n" for it in names)
+
+
+def asked_of(at):
+    """Returns the ids for which the git in front was asked."""
+    if not os.path.exists(f"{at}.asked"):
+        return []
+    with open(f"{at}.asked") as file:
+        return file.read().split()
+
+
 def overwrite_object(path, name, content):
     """Overwrites the file that has the object of a name in a repository."""
-    object_id = git(path, "rev-parse", f"HEAD:{name}", stdout=subprocess.PIPE).decode().strip()
+    object_id = id_of(path, name)
     at = f"{path}/.git/objects/{object_id[:2]}/{object_id[2:]}"
     os.chmod(at, 0o644)
     with open(at, "wb") as file:
@@ -255,7 +302,7 @@ def bytes_of_another_name_are_refused(room):
     reads(mount, {list(contents)[0]: contents[list(contents)[0]]})
     before = gits_of(mount)
     reads(mount, contents | {name: errno.EIO})
-    same(gits_of(mount), before)
+    same(set(before) <= set(gits_of(mount)), True)
     ends_with(mount, f"edend: cannot read {name}: the object is damaged: its bytes have another name\n")
 
 
@@ -299,8 +346,7 @@ def a_file_that_many_read_is_asked_for_once(room):
     all_read(mount, contents, READERS)
     drop_caches(with_pages=True)
     reads(mount, contents)
-    with open(f"{at}.asked") as file:
-        asked = file.read().split()
+    asked = asked_of(at)
     same((len(asked), len(set(asked))), (len(contents), len(contents)))
     mount.unmount()
 

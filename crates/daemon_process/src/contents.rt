@@ -43,9 +43,9 @@ pub(crate) enum Contents<'a, R> {
 /// How many threads read files of a directory.
 const READERS: usize = 16;
 
-/// How many descriptors a repository takes: for two processes of git with their questions and answers, and for the files of
-/// large blobs.
-const DESCRIPTORS_OF_A_REPOSITORY: usize = 16;
+/// How many descriptors a repository takes: for five processes of git with their questions and answers, each of which takes
+/// seven while it is started, and for the files of large blobs.
+const DESCRIPTORS_OF_A_REPOSITORY: usize = 44;
 
 impl<R> Contents<'_, R> {
     /// Returns how many descriptors they take at most, beside those that workers open.

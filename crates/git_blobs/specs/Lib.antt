@@ -1,2 +1,3 @@
+pub mod ReadOrder
 pub mod Reading
 pub mod Serving

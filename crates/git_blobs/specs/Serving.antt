@@ -1,11 +1,14 @@
 -- What a read of a commit's files gives.
-use Rattle.std.specs.Prelude.{◌≡◌, ℕ, List, length, Some, Result, Ok, Err, ⊤}
+use Rattle.std.specs.Prelude.{◌≡◌, ℕ, List, length, Option, Some, None, Result, Ok, Err, ⊤, if◌then◌else◌}
+use Rattle.std.specs.Option.{option_map}
+use Rattle.eden_base.specs.declared.number.FileId.{FileId}
 use Rattle.fuse_wire.specs.declared.reply.Extent.{Extent}
 use Rattle.git_objects.specs.Reading.{IsRead}
 use Rattle.git_objects.specs.declared.git_objects.BlobPart.{BlobPart}
+use Rattle.git_objects.specs.declared.sought.Sought.{Sought}
 use Rattle.git_tree.specs.GitObject.{object_at}
 use Rattle.git_tree.specs.declared.object_id.ObjectId.{ObjectId}
-use Rattle.blob_store.specs.FileBlobs.{HasPart, IsWithin}
+use Rattle.blob_store.specs.FileBlobs.{HasPart, IsWithin, has_content}
 use Rattle.blob_store.specs.declared.blob_store.BlobFault.{BlobFault}
 use Rattle.manifest.specs.Manifest.{Line, Manifest, line_of}
 
@@ -30,6 +33,16 @@ pub record IsOfFile (manifest : Manifest) (names : List ObjectId) (bound : ℕ) 
   pub within : IsWithin manifest extent
   pub object : IsOfObject manifest names bound extent bytes
   pub whole : length bytes ≡ extent.len
+
+-- the blob with the bytes of a file, by its line and its object
+abbrev pub blob_by : Option Line → Option ObjectId → Option Sought
+blob_by None name = None
+blob_by (Some line) name =
+    if has_content line.file.kind then option_map (λ id. record { object = id.0; size = line.file.size }) name else None
+
+-- the blob with the bytes of a file, if that is a regular file or a link
+abbrev pub blob_of : Manifest → List ObjectId → FileId → Option Sought
+blob_of manifest names file = blob_by (line_of manifest.lines file) (object_at names file)
 
 -- What a read gives: bytes only of an extent that the manifest has, and of the file's object. Why it gives none is unknown
 -- before git is asked.

@@ -3,16 +3,19 @@ ghost use Rattle.std.specs.Prelude.{◌≡◌, Err, IfOk, OnOk};
 ghost use Rattle.blob_store.specs.FileBlobs.{IsWithin};
 ghost use Rattle.blob_store.specs.declared.blob_store.BlobFault.TheVariants.{Failed};
 ghost use Rattle.blob_store.specs.Reads.{IsGiven};
-ghost use Rattle.git_blobs.specs.Serving.{IsOfFile, IsPartFor, ReadsCommit};
+ghost use Rattle.git_blobs.specs.Serving.{IsOfFile, IsPartFor, ReadsCommit, blob_of};
 
+use crate::read_order::ReadOrder;
 use blob_store::{
     BlobFault, BlobStore, FailureNotes, PendingRead, ReadEnding, StartedRead, line_within,
 };
 use byte_codec::Bytes;
+use eden_base::{FileId, Kind};
 use fuse_wire::{Buffer, Extent};
-use git_objects::{BlobPart, GitObjects, ObjectFault, PendingPart, StartedPart};
+use git_objects::{BlobPart, GitObjects, ObjectFault, PendingPart, Sought, StartedPart};
 use git_tree::Objects;
-use manifest::Manifest;
+use manifest::{Manifest, line_of};
+use monitor::Monitor;
 use std::alloc::Global;
 use std::fmt::Display;
 use std::rt::Clock;
@@ -26,6 +29,7 @@ pub struct GitBlobs<'a, R> {
     manifest: Manifest,
     names: Objects,
     objects: GitObjects,
+    order: Monitor<ReadOrder>,
     failures: FailureNotes,
 }
 
@@ -48,6 +52,7 @@ impl<'a, R: Clock + Wait> GitBlobs<'a, R> {
             manifest,
             names,
             objects,
+            order: Monitor::new(ReadOrder::new()),
             failures,
         }
     }
@@ -69,6 +74,32 @@ impl<'a, R: Clock + Wait> GitBlobs<'a, R> {
             size: line.size,
             offset: extent.offset,
             len: extent.len as usize,
+        })
+    }
+
+    /// Asks for the blobs that are read next, where files are read one after another: somebody reads `file`.
+    fn read_ahead(&self, file: FileId) {
+        let ahead = self.order.lock(self.rt).read(file);
+        for place in ahead.from..ahead.to {
+            let next = FileId(file.0.saturating_add(place).saturating_add(1));
+            if let Some(blob) = self.blob_of(next) {
+                self.objects.ask_ahead(self.rt, blob);
+            }
+        }
+    }
+
+    /// Returns the blob with the bytes of `file`, if that is a regular file or a link.
+    fn blob_of(&self, file: FileId) -> Option<Sought>
+        ensures blob { result ≡ blob_of self.now.manifest self.now.names file }
+    {
+        let line = line_of(self.manifest.lines(), file)?;
+        if matches!(line.kind, Kind::Dir) {
+            return None;
+        }
+        let object = self.names.of(file)?.0;
+        Some(Sought {
+            object,
+            size: line.size,
         })
     }
 
@@ -111,7 +142,9 @@ impl<R: Clock + Wait> BlobStore for GitBlobs<'_, R> {
             Ok(part) => part,
             Err(fault) => return StartedRead::Done(self.given_by(extent, Err(fault))),
         };
-        match self.objects.start_read(self.rt, alloc, part) {
+        let started = self.objects.start_read(self.rt, alloc, part);
+        self.read_ahead(extent.file);
+        match started {
             StartedPart::Done(told) => StartedRead::Done(self.given_by(extent, told)),
             StartedPart::Pending(pending) => StartedRead::Pending(PendingRead {
                 extent: *extent,

@@ -4,6 +4,7 @@
 mod commit_tree;
 mod git;
 mod git_blobs;
+mod read_order;
 mod tree_fault;
 mod tree_reader;
 

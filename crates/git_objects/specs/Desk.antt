@@ -1,9 +1,10 @@
 -- Who waits for which blob, what a look gives, and what is asked next. Each that waits has a ticket.
-use Rattle.std.specs.Prelude.{◌≡◌, ◌==◌, ◌&&◌, ◌+◌, ◌%◌, ◌^◌, ◌++◌, ◌∷◌, ℕ, Bool, true, false, not, nat_le, List, [], map, position, slice_get, slice_set, Option, Some, None, is_some, is_none, Result, Ok, Err, ⊤, if◌then◌else◌}
-use Rattle.std.specs.List.{remove}
+use Rattle.std.specs.Prelude.{◌≡◌, ◌==◌, ◌&&◌, ◌+◌, ◌/◌, ◌%◌, ◌^◌, ◌++◌, ◌∷◌, ℕ, Bool, true, false, not, nat_le, nat_lt, List, [], length, map, position, slice_get, slice_set, Option, Some, None, is_some, is_none, Result, Ok, Err, ⊤, if◌then◌else◌}
+use Rattle.std.specs.List.{list_any, remove}
 use Rattle.std.specs.Map.{lookup}
 use mathlib.Core.Bool.{beq}
 use Rattle.eden_base.specs.declared.memory.NoMemory.{NoMemory as WantOfMemory}
+use Rattle.git_objects.specs.AheadQueue.{is_of, rest_of}
 use Rattle.git_objects.specs.Blob.{IsSameBlob}
 use Rattle.git_objects.specs.BlobCache.{Entry, Finds, is_large, kept_by, same_id}
 use Rattle.git_objects.specs.declared.blob.Blob.{Blob}
@@ -13,11 +14,14 @@ use Rattle.git_objects.specs.declared.desk.Asked.{Asked}
 use Rattle.git_objects.specs.declared.desk.Asked.TheVariants.{Here, Waits}
 use Rattle.git_objects.specs.declared.desk.Came.{Came}
 use Rattle.git_objects.specs.declared.desk.Want.{Want}
+use Rattle.git_objects.specs.declared.duty.Duty.{Duty}
+use Rattle.git_objects.specs.declared.duty.Duty.TheVariants.{Ahead, Large, Small}
 use Rattle.git_objects.specs.declared.fault.ObjectFault.{ObjectFault}
 use Rattle.git_objects.specs.declared.fault.ObjectFault.TheVariants.{Late, NoMemory}
 use Rattle.git_objects.specs.ObjectWait.{IsAfter, IsBegun}
 use Rattle.git_objects.specs.declared.object_wait.ObjectWait.{ObjectWait}
 use Rattle.git_objects.specs.declared.sought.Sought.{Sought}
+use Rattle.git_objects.specs.UnderWay.{has_room, is_ahead, is_object}
 use Rattle.std.specs.Duration.{as_nanos}
 use Rattle.std.specs.declared.time.Instant.{Instant}
 
@@ -102,21 +106,68 @@ ForgetsAt (Some place) old new = new ≡ remove old place
 
 -- ---- what is asked next
 
--- whether this may be asked next by the process for large blobs, or by the other one: no fault is known, and it is not kept
-abbrev pub is_next : ℕ → List Entry → Bool → Want → Bool
-is_next bound entries large want =
-    is_none want.fault && beq (is_large want.sought.size bound) large
-    && not (is_some (lookup (same_id want.sought.object) entries))
+-- whether git may be asked for this object: it is not kept, and git is not asked for it
+abbrev pub is_open : List Entry → List (List ℕ) → List ℕ → Bool
+is_open entries under_way object =
+    not (is_some (lookup (same_id object) entries)) && not (list_any (is_object object) under_way)
 
--- what is asked next: the first that may be
-abbrev pub next_of : ℕ → List Entry → Bool → List Want → Option Sought
-next_of bound entries large [] = None
-next_of bound entries large (want ∷ wants) =
-    if is_next bound entries large want then Some want.sought else next_of bound entries large wants
+-- whether this may be asked next by the process for large blobs, or by another one: no fault is known, and git may be asked
+abbrev pub is_next : ℕ → List Entry → List (List ℕ) → Bool → Want → Bool
+is_next bound entries under_way large want =
+    is_none want.fault && beq (is_large want.sought.size bound) large && is_open entries under_way want.sought.object
+
+-- what is asked next of what is wanted: the first that may be
+abbrev pub next_of : ℕ → List Entry → List (List ℕ) → Bool → List Want → Option Sought
+next_of bound entries under_way large [] = None
+next_of bound entries under_way large (want ∷ wants) =
+    if is_next bound entries under_way large want then Some want.sought else next_of bound entries under_way large wants
+
+-- those asked ahead from the first on that git may be asked for
+abbrev pub open_from : List Entry → List (List ℕ) → List Sought → List Sought
+open_from entries under_way [] = []
+open_from entries under_way (sought ∷ ahead) =
+    if is_open entries under_way sought.object then sought ∷ ahead else open_from entries under_way ahead
+
+-- what a thread asks for next by its duty. What is wanted never depends on what is asked ahead.
+abbrev pub next_by : ℕ → List Entry → List (List ℕ) → Duty → List Want → List Sought → Option Sought
+next_by bound entries under_way Large wants ahead = next_of bound entries under_way true wants
+next_by bound entries under_way Small wants ahead = next_of bound entries under_way false wants
+next_by bound entries under_way Ahead wants ahead = slice_get (open_from entries under_way ahead) 0
+
+-- the same where one more can be noted
+abbrev pub next_for : ℕ → List Entry → List (List ℕ) → Duty → List Want → List Sought → Option Sought
+next_for bound entries under_way duty wants ahead =
+    if has_room under_way then next_by bound entries under_way duty wants ahead else None
+
+-- those asked ahead that are left behind that
+abbrev pub left_ahead : List Entry → List (List ℕ) → Duty → List Sought → List Sought
+left_ahead entries under_way duty ahead =
+    if has_room under_way && is_ahead duty then rest_of (open_from entries under_way ahead) else ahead
+
+-- what git is asked for behind that
+abbrev pub begun : List (List ℕ) → Option Sought → List (List ℕ)
+begun under_way None = under_way
+begun under_way (Some sought) = under_way ++ sought.object ∷ []
+
+-- ---- what is asked ahead
+
+-- whether a blob of this size may be asked for ahead: 64 KiB at most, and 32 of them count for an eighth of the bound at most
+abbrev pub is_small : ℕ → ℕ → Bool
+is_small size bound = nat_le size 65536 && nat_le (size + 256) (bound / 256)
+
+-- whether somebody waits for this object
+abbrev pub is_for : List ℕ → Want → Bool
+is_for object want = same_id want.sought.object object
+
+-- whether a blob is asked for ahead: it is small, not kept and not asked for, and fewer than 64 are
+abbrev pub is_welcome : ℕ → List Entry → List (List ℕ) → List Want → List Sought → Sought → Bool
+is_welcome bound entries under_way wants ahead sought =
+    is_small sought.size bound && is_open entries under_way sought.object && not (list_any (is_for sought.object) wants)
+    && not (list_any (is_of sought.object) ahead) && nat_lt (length ahead) 64
 
 -- ---- what git gave
 
--- how often something came from the process for large blobs, or from the other one
+-- how often something that was wanted came from the process for large blobs, or from the others
 abbrev pub came_by : Came → Bool → ℕ
 came_by came true = came.large
 came_by came false = came.small
@@ -125,6 +176,10 @@ came_by came false = came.small
 abbrev pub came_more : Came → Bool → Came
 came_more came true = record { large = (came.large + 1) % 2 ^ 64; small = came.small }
 came_more came false = record { large = came.large; small = (came.small + 1) % 2 ^ 64 }
+
+-- the count behind what a thread delivers: what was asked ahead counts for nobody
+abbrev pub came_after : Came → Duty → Bool → Came
+came_after came duty large = if is_ahead duty then came else came_more came large
 
 -- the one who waits, with the fault if it is for this object
 abbrev pub with_fault : List ℕ → ObjectFault → Want → Want
@@ -148,9 +203,22 @@ abbrev pub entries_by : ℕ → List Entry → Result Blob ObjectFault → Bool 
 entries_by bound entries (Ok blob) is_kept = kept_by bound entries is_kept blob
 entries_by bound entries (Err fault) is_kept = entries
 
+-- a blob that git gave is kept, or there is this fault
+pub record Keeps (fetched : Result Blob ObjectFault) (bound : ℕ) (entries entries' : List Entry) (fault : Option ObjectFault) :
+    Type 0 where
+  pub is_kept : Bool
+  pub keeps : entries' ≡ entries_by bound entries fetched is_kept
+  pub faults : fault ≡ fault_by fetched is_kept
+
+-- the fault that is told: none of what was asked ahead
+abbrev pub told_by : Duty → Option ObjectFault → Option ObjectFault
+told_by Ahead fault = None
+told_by Large fault = fault
+told_by Small fault = fault
+
 -- a blob that git gave is kept, and a fault is told to all who wait for it
-pub record Delivers (sought : Sought) (fetched : Result Blob ObjectFault) (bound : ℕ) (entries entries' : List Entry)
+pub record Delivers (duty : Duty) (sought : Sought) (fetched : Result Blob ObjectFault) (bound : ℕ) (entries entries' : List Entry)
     (wants wants' : List Want) : Type 0 where
   pub is_kept : Bool
   pub keeps : entries' ≡ entries_by bound entries fetched is_kept
-  pub tells : wants' ≡ faulted (fault_by fetched is_kept) sought.object wants
+  pub tells : wants' ≡ faulted (told_by duty (fault_by fetched is_kept)) sought.object wants

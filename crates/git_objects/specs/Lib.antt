@@ -2,6 +2,8 @@ pub mod CatFile
 pub mod Content
 pub mod Blob
 pub mod BlobCache
+pub mod AheadQueue
+pub mod UnderWay
 pub mod Desk
 pub mod Fetching
 pub mod ObjectWait

@@ -3,6 +3,7 @@ ghost use Rattle.std.specs.Prelude.{◌≡◌, IfOk};
 
 use crate::answer::{copy_blob, read_blob};
 use crate::blob::Blob;
+use crate::duty::Duty;
 use crate::fault::ObjectFault;
 use crate::git_command::GitCommand;
 use crate::question::question_of;
@@ -37,11 +38,12 @@ impl<P: OpenProcess + Drop> Batch<P> {
         rt: &R,
         alloc: Global,
         git: &GitCommand<'_>,
+        duty: Duty,
     ) -> io::Result<Batch<P>> {
         let (ours, theirs) = UnixStream::pair(rt)?;
         ours.set_read_timeout(Some(Duration::from_secs(SILENCE)))?;
         let answers = BufReader::with_capacity(alloc, AHEAD, ours)?;
-        let mut command = git.batch(alloc)?;
+        let mut command = git.batch(alloc, duty.is_ahead())?;
         command.stdin(Stdio::piped());
         command.stdout(OwnedFd::from(theirs));
         command.stderr(Stdio::null());

@@ -10,7 +10,7 @@ use lru::LruCache;
 use std::alloc::Global;
 
 /// How many bytes a kept blob counts for, beside its own.
-const OVERHEAD: u64 = 256;
+pub(crate) const OVERHEAD: u64 = 256;
 
 /// How many files there are at most for blobs that the memory is too small for.
 const FILES: u64 = 4;

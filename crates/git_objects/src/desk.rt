@@ -1,17 +1,30 @@
 //! Who waits for which blob, and what is asked next.
-ghost use Rattle.std.specs.Prelude.{◌≡◌, ◌<◌, [], length, true, map, position, Some, IfOk, IfSome, OnErr};
+ghost use Rattle.std.specs.Prelude.{◌≡◌, ◌<◌, [], length, true, map, position, slice_get, Some, IfOk, IfSome, OnErr};
+ghost use Rattle.std.specs.List.{list_any};
 ghost use Rattle.std.specs.Map.{lookup};
 ghost use Rattle.git_objects.specs.BlobCache.{is_large, same_id};
-ghost use Rattle.git_objects.specs.Desk.{Delivers, FindsBlob, FindsIf, ForgetsAt, IsAsked, Looks, came_by, came_more, has_ticket, is_next, is_there, left_arriving, next_of, verdict, with_fault};
+ghost use Rattle.git_objects.specs.AheadQueue.{joined, rest_of};
+ghost use Rattle.git_objects.specs.Desk.{Delivers, FindsBlob, FindsIf, ForgetsAt, IsAsked, Keeps, Looks, begun, came_after, came_by, came_more, has_ticket, is_for, is_next, is_open, is_small, is_there, is_welcome, left_ahead, left_arriving, next_for, next_of, open_from, verdict, with_fault};
+ghost use Rattle.git_objects.specs.UnderWay.{is_object, without};
 
+use crate::ahead_queue::AheadQueue;
 use crate::blob::Blob;
-use crate::blob_cache::{BlobCache, is_large};
+use crate::blob_cache::{BlobCache, OVERHEAD, is_large};
+use crate::duty::Duty;
 use crate::fault::ObjectFault;
 use crate::object_wait::ObjectWait;
 use crate::sought::Sought;
+use crate::under_way::UnderWay;
 use eden_base::NoMemory;
 use std::alloc::Global;
 use std::time::Instant;
+
+/// How many bytes a blob has at most that is asked for before somebody reads it.
+const MOST_AHEAD: u64 = 65_536;
+
+/// Which part of the bound such a blob counts for at most: 32 of them, which are as many as a reader is ahead of, take an
+/// eighth of it.
+const PART_AHEAD: u64 = 256;
 
 /// A worker that waits for a blob, by its ticket.
 #[derive(Clone, Copy)]
@@ -66,13 +79,16 @@ pub(crate) enum Asked {
 pub(crate) struct Desk {
     pub cache: BlobCache,
     pub wants: Vec<Want>,
+    /// What is asked for though nobody waits for it.
+    pub ahead: AheadQueue,
+    pub under_way: UnderWay,
     pub arriving: Option<Arriving>,
     pub tickets: u64,
-    /// How often something came from the process for large blobs, and from the other one.
+    /// How often something that was wanted came from the process for large blobs, and from the others.
     pub came: Came,
 }
 
-/// How often something came from each of the two processes.
+/// How often something that was wanted came from the process for large blobs, and from the others.
 #[derive(Clone, Copy)]
 pub(crate) struct Came {
     pub large: u64,
@@ -80,7 +96,7 @@ pub(crate) struct Came {
 }
 
 impl Came {
-    /// Returns how often something came from the process for large blobs, or from the other one.
+    /// Returns how often something came from the process for large blobs, or from the others.
     pub(crate) fn by(self, is_large: bool) -> u64
         ensures { result ≡ came_by self is_large }
     {
@@ -102,10 +118,27 @@ impl Came {
             small: self.small.wrapping_add(1),
         }
     }
+
+    /// Counts what a thread with this duty delivers. What was asked for ahead counts for nobody's wait.
+    fn after(self, duty: Duty, is_large: bool) -> Came
+        ensures { result ≡ came_after self duty is_large }
+    {
+        if duty.is_ahead() {
+            return self;
+        }
+        self.more(is_large)
+    }
+}
+
+/// Returns whether a blob of `size` bytes is small enough to be asked for ahead, where blobs are kept within `bound`.
+fn is_small(size: u64, bound: u64) -> bool
+    ensures { result ≡ is_small size bound }
+{
+    size <= MOST_AHEAD && size + OVERHEAD <= bound / PART_AHEAD
 }
 
 /// Returns whether the two ids are the same.
-fn same_id(one: &[u8; 20], other: &[u8; 20]) -> bool
+pub(crate) fn same_id(one: &[u8; 20], other: &[u8; 20]) -> bool
     ensures { result ≡ same_id one.now other.now }
 {
     one.as_slice() == other.as_slice()
@@ -148,6 +181,8 @@ impl Desk {
         Ok(Desk {
             cache: BlobCache::new(alloc, bound)?,
             wants: Vec::new(alloc),
+            ahead: AheadQueue::new(),
+            under_way: UnderWay::new(),
             arriving: None,
             tickets: 0,
             came: Came { large: 0, small: 0 },
@@ -240,10 +275,74 @@ impl Desk {
         }
     }
 
-    /// Returns the blob that is asked next by the process for large blobs, or by the one for the others: the first that
-    /// somebody waits for without a fault, and that is not kept.
-    pub(crate) fn next(&self, is_large: bool) -> Option<Sought>
-        ensures next { result ≡ next_of self.now.cache.bound self.now.cache.kept.entries is_large self.now.wants.items }
+    /// Asks for a blob that nobody waits for. Returns whether it will be fetched: it is dropped where it is kept, asked for
+    /// already, or too large, and where too many are asked for.
+    pub(crate) fn ask_ahead(&mut self, sought: Sought) -> bool
+        ensures asked { result ≡ is_welcome self.old.cache.bound self.old.cache.kept.entries self.old.under_way.objects.items
+            self.old.wants.items self.old.ahead.asks.items sought }
+        ensures ahead { self.new.ahead.asks.items ≡ joined result self.old.ahead.asks.items sought }
+        ensures wants { self.new.wants ≡ self.old.wants }
+        ensures cache { self.new.cache ≡ self.old.cache }
+        ensures under_way { self.new.under_way ≡ self.old.under_way }
+        ensures arriving { self.new.arriving ≡ self.old.arriving }
+        ensures came { self.new.came ≡ self.old.came }
+    {
+        if !is_small(sought.size, self.cache.bound)
+            || !self.is_open(&sought.object)
+            || self.is_wanted(&sought.object)
+            || self.ahead.has(&sought.object)
+        {
+            return false;
+        }
+        self.ahead.push(sought)
+    }
+
+    /// Returns whether somebody waits for `object`.
+    fn is_wanted(&self, object: &[u8; 20]) -> bool
+        ensures { result ≡ list_any (is_for object.now) self.now.wants.items }
+    {
+        self.wants
+            .as_slice()
+            .iter()
+            .any(|want| same_id(&want.sought.object, object))
+    }
+
+    /// Returns whether git may be asked for `object`, which is not kept, and which it is not asked for.
+    fn is_open(&self, object: &[u8; 20]) -> bool
+        ensures { result ≡ is_open self.now.cache.kept.entries self.now.under_way.objects.items object.now }
+    {
+        !self.cache.has(object) && !self.under_way.has(object)
+    }
+
+    /// Takes what a thread with this duty asks git for next, and notes that git is asked for it.
+    pub(crate) fn next(&mut self, duty: Duty) -> Option<Sought>
+        ensures next { result ≡ next_for self.old.cache.bound self.old.cache.kept.entries self.old.under_way.objects.items duty
+            self.old.wants.items self.old.ahead.asks.items }
+        ensures under_way { self.new.under_way.objects.items ≡ begun self.old.under_way.objects.items result }
+        ensures ahead { self.new.ahead.asks.items ≡ left_ahead self.old.cache.kept.entries self.old.under_way.objects.items duty
+            self.old.ahead.asks.items }
+        ensures wants { self.new.wants ≡ self.old.wants }
+        ensures cache { self.new.cache ≡ self.old.cache }
+        ensures arriving { self.new.arriving ≡ self.old.arriving }
+        ensures came { self.new.came ≡ self.old.came }
+    {
+        if !self.under_way.has_room() {
+            return None;
+        }
+        let sought = match duty {
+            Duty::Large => self.next_want(true)?,
+            Duty::Small => self.next_want(false)?,
+            Duty::Ahead => self.next_ahead()?,
+        };
+        self.under_way.begin(sought.object);
+        Some(sought)
+    }
+
+    /// Returns the first large blob, or the first of the others, that somebody waits for without a fault, and that git may be
+    /// asked for.
+    pub(crate) fn next_want(&self, is_large: bool) -> Option<Sought>
+        ensures next { result ≡ next_of self.now.cache.bound self.now.cache.kept.entries self.now.under_way.objects.items is_large
+            self.now.wants.items }
     {
         for want in &self.wants {
             if self.is_next(want, is_large) {
@@ -253,13 +352,34 @@ impl Desk {
         None
     }
 
-    /// Returns whether `want` may be asked next by the process for large blobs, or by the other one.
+    /// Returns whether `want` may be asked next by the process for large blobs, or by another one.
     fn is_next(&self, want: &Want, large: bool) -> bool
-        ensures { result ≡ is_next self.now.cache.bound self.now.cache.kept.entries large want.now }
+        ensures { result ≡ is_next self.now.cache.bound self.now.cache.kept.entries self.now.under_way.objects.items large want.now }
     {
         want.fault.is_none()
             && is_large(want.sought.size, self.cache.bound) == large
-            && !self.cache.has(&want.sought.object)
+            && self.is_open(&want.sought.object)
+    }
+
+    /// Takes the first blob out that was asked for ahead, and that git may be asked for still. Those before it are dropped.
+    fn next_ahead(&mut self) -> Option<Sought>
+        ensures next { result ≡ slice_get (open_from self.old.cache.kept.entries self.old.under_way.objects.items
+            self.old.ahead.asks.items) 0 }
+        ensures ahead { self.new.ahead.asks.items ≡ rest_of (open_from self.old.cache.kept.entries
+            self.old.under_way.objects.items self.old.ahead.asks.items) }
+        ensures wants { self.new.wants ≡ self.old.wants }
+        ensures cache { self.new.cache ≡ self.old.cache }
+        ensures under_way { self.new.under_way ≡ self.old.under_way }
+        ensures arriving { self.new.arriving ≡ self.old.arriving }
+        ensures came { self.new.came ≡ self.old.came }
+    {
+        for _ask in 0..self.ahead.asks.len() {
+            let sought = self.ahead.pop()?;
+            if self.is_open(&sought.object) {
+                return Some(sought);
+            }
+        }
+        None
     }
 
     /// Notes that the first `count` bytes of a large blob have arrived.
@@ -273,16 +393,43 @@ impl Desk {
         self.arriving = Some(Arriving { blob, count });
     }
 
-    /// Notes what git gave for `sought`: a blob, which is kept then, or why it gave none, which is told to all who wait for
-    /// it.
-    pub(crate) fn deliver(&mut self, sought: Sought, fetched: Result<Blob, ObjectFault>)
-        ensures delivers { Delivers sought fetched self.old.cache.bound self.old.cache.kept.entries self.new.cache.kept.entries
-            self.old.wants.items self.new.wants.items }
+    /// Keeps a blob that git gave, or returns why it gave none or why it can't be kept.
+    fn keep(&mut self, fetched: Result<Blob, ObjectFault>) -> Option<ObjectFault>
+        ensures keeps { Keeps fetched self.old.cache.bound self.old.cache.kept.entries self.new.cache.kept.entries result }
+        ensures bound { self.new.cache.bound ≡ self.old.cache.bound }
+        ensures wants { self.new.wants ≡ self.old.wants }
+        ensures ahead { self.new.ahead ≡ self.old.ahead }
+        ensures under_way { self.new.under_way ≡ self.old.under_way }
+        ensures arriving { self.new.arriving ≡ self.old.arriving }
+        ensures came { self.new.came ≡ self.old.came }
+    {
+        match fetched {
+            Ok(blob) => {
+                if self.cache.keep(blob) {
+                    return None;
+                }
+                Some(ObjectFault::NoMemory)
+            }
+            Err(fault) => Some(fault),
+        }
+    }
+
+    /// Notes what git gave to a thread with this duty for `sought`: a blob, which is kept then, or why it gave none. That is
+    /// told to all who wait for it, but where the blob was asked for ahead: then it is asked for once more, if somebody waits.
+    pub(crate) fn deliver(&mut self, duty: Duty, sought: Sought, fetched: Result<Blob, ObjectFault>)
+        ensures delivers { Delivers duty sought fetched self.old.cache.bound self.old.cache.kept.entries
+            self.new.cache.kept.entries self.old.wants.items self.new.wants.items }
+        ensures under_way { self.new.under_way.objects.items ≡ without
+            (position (is_object sought.object) self.old.under_way.objects.items) self.old.under_way.objects.items }
+        ensures ahead { self.new.ahead ≡ self.old.ahead }
         ensures arriving { self.new.arriving ≡ left_arriving self.old.arriving sought.object }
         ensures bound { self.new.cache.bound ≡ self.old.cache.bound }
-        ensures came { self.new.came ≡ came_more self.old.came (is_large sought.size self.old.cache.bound) }
+        ensures came { self.new.came ≡ came_after self.old.came duty (is_large sought.size self.old.cache.bound) }
     {
-        self.came = self.came.more(is_large(sought.size, self.cache.bound));
+        self.came = self
+            .came
+            .after(duty, is_large(sought.size, self.cache.bound));
+        self.under_way.end(&sought.object);
         if self
             .arriving
             .as_ref()
@@ -290,13 +437,11 @@ impl Desk {
         {
             self.arriving = None;
         }
-        match fetched {
-            Ok(blob) => {
-                if !self.cache.keep(blob) {
-                    set_faults(&mut self.wants, &sought.object, ObjectFault::NoMemory);
-                }
+        match self.keep(fetched) {
+            Some(fault) if !duty.is_ahead() => {
+                set_faults(&mut self.wants, &sought.object, fault);
             }
-            Err(fault) => set_faults(&mut self.wants, &sought.object, fault),
+            _ => {}
         }
     }
 }

@@ -1,9 +1,10 @@
-//! A thread that owns a process of git, and fetches by it what workers ask for.
+//! A thread that owns a process of git, and fetches by it what is asked for.
 ghost use Rattle.std.specs.Prelude.{◌≡◌, IfOk};
 ghost use Rattle.git_objects.specs.Fetching.{asks_again, is_in_step};
 
 use crate::batch::Batch;
 use crate::blob::Blob;
+use crate::duty::Duty;
 use crate::fault::ObjectFault;
 use crate::git_command::GitCommand;
 use crate::shared::Shared;
@@ -52,36 +53,39 @@ pub(crate) struct Fetcher<'a, R: Processes> {
     rt: &'a R,
     alloc: Global,
     shared: &'a Shared,
-    is_large: bool,
+    duty: Duty,
     batch: Option<Batch<R::Started>>,
     killed: Option<Child<R::Started>>,
 }
 
 impl<'a, R: Wait + Clock + Files<File = File> + Net + Processes> Fetcher<'a, R> {
-    /// Makes the fetcher of large blobs or of the others. Its process is started once a blob is asked for.
-    pub(crate) fn new(
-        rt: &'a R,
-        alloc: Global,
-        shared: &'a Shared,
-        is_large: bool,
-    ) -> Fetcher<'a, R> {
+    /// Makes the fetcher that has this duty. Its process is started once a blob is asked for.
+    pub(crate) fn new(rt: &'a R, alloc: Global, shared: &'a Shared, duty: Duty) -> Fetcher<'a, R> {
         Fetcher {
             rt,
             alloc,
             shared,
-            is_large,
+            duty,
             batch: None,
             killed: None,
         }
     }
 
-    /// Fetches what workers ask for, as long as this process runs.
+    /// Fetches what is asked for by its duty, as long as this process runs.
     pub(crate) fn fetch_all(&mut self) {
         for _ in self.rt.forever() {
-            let sought = self.shared.next(self.rt, self.is_large);
-            let fetched = self.fetch(sought);
-            self.shared.deliver(self.rt, sought, fetched);
+            if self.may_fetch() {
+                let sought = self.shared.next(self.rt, self.duty);
+                let fetched = self.fetch(sought);
+                self.shared.deliver(self.rt, self.duty, sought, fetched);
+            }
         }
+    }
+
+    /// Returns whether something may be asked for: nothing may while a process that was killed has not ended, as another thread
+    /// has the same duty. Of large blobs there is no other.
+    fn may_fetch(&mut self) -> bool {
+        self.reap() || matches!(self.duty, Duty::Large)
     }
 
     /// Fetches a blob. Where the process ended amid its answer, the next one is asked too.
@@ -120,10 +124,10 @@ impl<'a, R: Wait + Clock + Files<File = File> + Net + Processes> Fetcher<'a, R> 
         ensures object { IfOk result (λ blob. blob.object ≡ sought.object) }
         ensures size { IfOk result (λ blob. blob.size ≡ sought.size) }
     {
-        if self.is_large {
-            return self.copy_by(batch, sought);
+        match self.duty {
+            Duty::Large => self.copy_by(batch, sought),
+            Duty::Small | Duty::Ahead => batch.fetch(self.alloc, sought),
         }
-        batch.fetch(self.alloc, sought)
     }
 
     /// Asks `batch` for a blob, and has it written to a file, whose bytes may be read as they come.
@@ -156,7 +160,7 @@ impl<'a, R: Wait + Clock + Files<File = File> + Net + Processes> Fetcher<'a, R> 
         let git = GitCommand {
             repository: self.shared.repository.as_str(),
         };
-        Batch::start(self.rt, self.alloc, &git).map_err(ObjectFault::NoGit)
+        Batch::start(self.rt, self.alloc, &git, self.duty).map_err(ObjectFault::NoGit)
     }
 
     /// Waits until the process has ended that was killed, a second at most, and returns whether it has. So processes that

@@ -42,8 +42,8 @@ impl GitCommand<'_> {
     }
 
     /// Returns the command of a process that answers questions for objects, for as long as it is asked. It has no streams
-    /// yet.
-    pub(crate) fn batch(&self, alloc: Global) -> Result<Command, AllocError>
+    /// yet. One `of_local` objects fetches none over a network that a partial clone lacks (git(1), `GIT_NO_LAZY_FETCH`).
+    pub(crate) fn batch(&self, alloc: Global, of_local: bool) -> Result<Command, AllocError>
         ensures program { IfOk result (λ command. command_program command ≡ codes "git") }
         ensures words { IfOk result (λ command. command_args command ≡ codes "-C" ∷ self.now.repository.now
             ∷ codes "--no-replace-objects" ∷ codes "cat-file" ∷ codes "--batch" ∷ []) }
@@ -52,6 +52,9 @@ impl GitCommand<'_> {
         command.arg("cat-file")?;
         command.arg("--batch")?;
         set_environment(&mut command)?;
+        if of_local {
+            command.env("GIT_NO_LAZY_FETCH", "1")?;
+        }
         Ok(command)
     }
 

@@ -6,6 +6,7 @@ ghost use Rattle.git_objects.specs.Reading.{IsGiven, IsStarted, is_sought};
 use crate::blob::Blob;
 use crate::blob_cache::is_large;
 use crate::desk::Asked;
+use crate::duty::Duty;
 use crate::fault::ObjectFault;
 use crate::fetcher::Fetcher;
 use crate::shared::Shared;
@@ -23,6 +24,15 @@ use std::sync::{Arc, Wait};
 use std::thread;
 use std::thread::Threads;
 use std::time::Duration;
+
+/// The duties of the threads that fetch, each by a process of git of its own.
+const DUTIES: [Duty; 5] = [
+    Duty::Large,
+    Duty::Small,
+    Duty::Small,
+    Duty::Ahead,
+    Duty::Ahead,
+];
 
 /// A part of a blob: the id of the object, the size that its tree says, and the bytes that are wanted.
 #[derive(Clone, Copy)]
@@ -49,8 +59,8 @@ pub enum StartedPart {
     Pending(PendingPart),
 }
 
-/// The blobs of a repository. Two threads fetch them, each by a process of git of its own: one those that are kept in
-/// memory, and one those that are too large for that.
+/// The blobs of a repository. Threads fetch them, each by a process of git of its own: one those that are too large to be kept in
+/// memory, two the others, and two those that nobody waits for yet.
 #[derive(Drop)]
 pub struct GitObjects {
     shared: Arc<Shared>,
@@ -95,8 +105,9 @@ impl GitObjects {
             Ok(shared) => Arc::new(alloc, shared)?,
             Err(NoMemory) => return Err(Error::from(ErrorKind::OutOfMemory)),
         };
-        start_fetcher(rt, alloc, &shared, false)?;
-        start_fetcher(rt, alloc, &shared, true)?;
+        for duty in DUTIES {
+            start_fetcher(rt, alloc, &shared, duty)?;
+        }
         Ok(GitObjects { shared })
     }
 
@@ -112,6 +123,11 @@ impl GitObjects {
             Ok(Asked::Waits(ticket)) => StartedPart::Pending(PendingPart { part, ticket }),
             Err(NoMemory) => StartedPart::Done(Err(ObjectFault::NoMemory)),
         }
+    }
+
+    /// Asks for a blob before somebody reads it, if it is small. It is kept once it came; that it doesn't come is told to nobody.
+    pub fn ask_ahead<R: Wait>(&self, rt: &R, sought: Sought) {
+        self.shared.ask_ahead(rt, sought);
     }
 
     /// Waits for a part of a blob for `longest` at most, and returns its bytes, or why there are none, once that is known. Its
@@ -189,7 +205,7 @@ fn end_of(part: BlobPart) -> u64 {
     part.offset.saturating_add(part.len as u64)
 }
 
-/// Makes a thread that fetches large blobs or the others, as long as this process runs.
+/// Makes a thread that fetches by a duty, as long as this process runs.
 fn start_fetcher<
     R: Threads
         + Wait
@@ -200,21 +216,21 @@ fn start_fetcher<
         + Copy
         + Send
         + 'static,
->(rt: &R, alloc: Global, shared: &Arc<Shared>, is_large: bool) -> io::Result<()>
+>(rt: &R, alloc: Global, shared: &Arc<Shared>, duty: Duty) -> io::Result<()>
 where
     R::Dir: Send,
 {
     let (host, theirs) = (*rt, Arc::try_clone(shared)?);
-    thread::spawn(rt, move || fetch_all(&host, alloc, &theirs, is_large))?;
+    thread::spawn(rt, move || fetch_all(&host, alloc, &theirs, duty))?;
     Ok(())
 }
 
-/// Fetches large blobs or the others, as long as this process runs.
+/// Fetches by a duty, as long as this process runs.
 fn fetch_all<R: Wait + Clock + Files<File = File> + Net + Processes>(
     rt: &R,
     alloc: Global,
     shared: &Shared,
-    is_large: bool,
+    duty: Duty,
 ) {
-    Fetcher::new(rt, alloc, shared, is_large).fetch_all();
+    Fetcher::new(rt, alloc, shared, duty).fetch_all();
 }

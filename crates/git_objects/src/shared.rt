@@ -2,7 +2,9 @@
 ghost use Rattle.std.specs.Prelude.{◌≡◌, IfOk};
 
 use crate::blob::Blob;
+use crate::blob_cache::is_large;
 use crate::desk::{Asked, Desk};
+use crate::duty::Duty;
 use crate::fault::ObjectFault;
 use crate::sought::Sought;
 use eden_base::NoMemory;
@@ -12,11 +14,14 @@ use std::rt::Clock;
 use std::sync::Wait;
 use std::time::{Duration, Instant};
 
-/// The desk, and who waits for what: the processes' threads until a blob is asked for, and workers until one came.
+/// The desk, and who waits for what: the processes' threads until a blob is asked for that they fetch by their duty, and workers
+/// until one came.
 #[derive(Drop)]
 pub(crate) struct Shared {
     desk: Monitor<Desk>,
-    asked: Condition,
+    large_asked: Condition,
+    small_asked: Condition,
+    asked_ahead: Condition,
     came: Condition,
     pub(crate) repository: String,
     pub(crate) bound: u64,
@@ -29,7 +34,9 @@ impl Shared {
     {
         Ok(Shared {
             desk: Monitor::new(Desk::new(alloc, bound)?),
-            asked: Condition::new(),
+            large_asked: Condition::new(),
+            small_asked: Condition::new(),
+            asked_ahead: Condition::new(),
             came: Condition::new(),
             repository: String::from_str(alloc, repository)?,
             bound,
@@ -41,9 +48,27 @@ impl Shared {
         let now = Instant::now(rt).ok();
         let asked = self.desk.lock(rt).ask(sought, now)?;
         if let Asked::Waits(_) = &asked {
-            self.asked.notify_all();
+            let is_large = is_large(sought.size, self.bound);
+            self.asked(wanted_by(is_large)).notify_one();
         }
         Ok(asked)
+    }
+
+    /// Asks for a blob that nobody waits for.
+    pub(crate) fn ask_ahead<R: Wait>(&self, rt: &R, sought: Sought) {
+        let is_asked = self.desk.lock(rt).ask_ahead(sought);
+        if is_asked {
+            self.asked_ahead.notify_one();
+        }
+    }
+
+    /// Returns what a thread with this duty waits for.
+    fn asked(&self, duty: Duty) -> &Condition {
+        match duty {
+            Duty::Large => &self.large_asked,
+            Duty::Small => &self.small_asked,
+            Duty::Ahead => &self.asked_ahead,
+        }
     }
 
     /// Waits by `ticket` for the blob, of which the first `end` bytes are wanted at least, for `longest` at most. Returns it, or
@@ -73,10 +98,10 @@ impl Shared {
         self.desk.lock(rt).forget(ticket);
     }
 
-    /// Waits until the process for large blobs or the other one has something to ask for, and returns that.
-    pub(crate) fn next<R: Wait>(&self, rt: &R, is_large: bool) -> Sought {
+    /// Waits until there is something to ask for by a duty, and returns that.
+    pub(crate) fn next<R: Wait>(&self, rt: &R, duty: Duty) -> Sought {
         self.desk
-            .wait_until(rt, &self.asked, |desk| Look::of(desk.next(is_large)))
+            .wait_until(rt, self.asked(duty), |desk| Look::of(desk.next(duty)))
     }
 
     /// Notes that the first `count` bytes of a large blob have arrived in `blob`.
@@ -85,14 +110,29 @@ impl Shared {
             .change(rt, &self.came, |desk| desk.arrive(blob, count));
     }
 
-    /// Notes what git gave for `sought`.
+    /// Notes what git gave to a thread with this duty for `sought`. What is wanted still may have to be asked for once more: where
+    /// it was asked ahead without success, or gave way before somebody looked.
     pub(crate) fn deliver<R: Wait>(
         &self,
         rt: &R,
+        duty: Duty,
         sought: Sought,
         fetched: Result<Blob, ObjectFault>,
     ) {
-        self.desk
-            .change(rt, &self.came, |desk| desk.deliver(sought, fetched));
+        let (large, small) = self.desk.change(rt, &self.came, |desk| {
+            desk.deliver(duty, sought, fetched);
+            (desk.next_want(true), desk.next_want(false))
+        });
+        if large.is_some() {
+            self.large_asked.notify_one();
+        }
+        if small.is_some() {
+            self.small_asked.notify_one();
+        }
     }
+}
+
+/// Returns the duty by which wanted blobs are fetched that are large, or the others.
+fn wanted_by(is_large: bool) -> Duty {
+    if is_large { Duty::Large } else { Duty::Small }
 }

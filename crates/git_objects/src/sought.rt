@@ -1,8 +1,8 @@
 //! A blob that is sought.
 
 /// A blob that is sought: the id of the object, and the size that its tree says.
-#[derive(Clone, Copy)]
-pub(crate) struct Sought {
+#[derive(Clone, Copy, Default)]
+pub struct Sought {
     pub object: [u8; 20],
     pub size: u64,
 }
