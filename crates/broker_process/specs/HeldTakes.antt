@@ -1,5 +1,5 @@
 -- Takes that wait for an ask, and which of them is answered. (This project's own.)
-use Rattle.std.specs.Prelude.{◌≡◌, ℕ, Bool, Result, Err, if◌then◌else◌, true, false, not, ◌==◌, ◌++◌, ◌∷◌, [], nat_lt, List, Option, Some, None, position, slice_get, remove}
+use Rattle.std.specs.Prelude.{◌≡◌, ℕ, Bool, Result, Err, true, false, not, ◌==◌, ◌++◌, ◌∷◌, [], nat_lt, List, Option, Some, None, position, slice_get, remove}
 use Rattle.eden_base.specs.declared.number.DaemonId.{DaemonId}
 use Rattle.eden_base.specs.declared.number.Number.{Number}
 use Rattle.broker_core.specs.Broker.{BrokerState, take_fault}
@@ -76,11 +76,16 @@ WaitsOn None old new = new ≡ old
 abbrev pub AnswersExpired : ℕ → DeskState → List HeldTake → Response → DeskState → List HeldTake → Type 0
 AnswersExpired tick old takes response new left = AnswersAt (position (is_expired tick) takes) old takes response new left
 
--- what becomes of the number of a reply that the kernel did not take, by what the desk says to its forget: where that is refused
--- for now, the number is noted, if memory for that suffices
+-- whether the number of a reply that the kernel did not take was noted behind the others
+abbrev pub IsNoted : Bool → Number → List Number → List Number → Type 0
+IsNoted true given old new = new ≡ old ++ given ∷ []
+IsNoted false given old new = new ≡ old
+
+-- what becomes of such a number, by what the desk says to its forget: where that is refused for now, the number is noted, if memory
+-- for that suffices
 abbrev pub Notes : Result (Unit {0}) IssueFault → Number → Bool → List Number → List Number → Type 0
-Notes (Err Full) given noted old new = if noted then new ≡ old ++ given ∷ [] else new ≡ old
-Notes (Err NoMemory) given noted old new = if noted then new ≡ old ++ given ∷ [] else new ≡ old
+Notes (Err Full) given noted old new = IsNoted noted given old new
+Notes (Err NoMemory) given noted old new = IsNoted noted given old new
 Notes other given noted old new = (noted ≡ true) × (new ≡ old)
 
 -- the number of a reply that the kernel did not take was forgotten once at the desk, or noted
