@@ -151,9 +151,9 @@ begun under_way (Some sought) = under_way ++ sought.object ∷ []
 
 -- ---- what is asked ahead
 
--- whether a blob of this size may be asked for ahead: 64 KiB at most, and 32 of them count for an eighth of the bound at most
+-- whether a blob of this size may be asked for ahead: 256 KiB at most, and 32 of them count for an eighth of the bound at most
 abbrev pub is_small : ℕ → ℕ → Bool
-is_small size bound = nat_le size 65536 && nat_le (size + 256) (bound / 256)
+is_small size bound = nat_le size 262144 && nat_le (size + 256) (bound / 256)
 
 -- whether somebody waits for this object
 abbrev pub is_for : List ℕ → Want → Bool

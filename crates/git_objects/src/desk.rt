@@ -20,7 +20,7 @@ use std::alloc::Global;
 use std::time::Instant;
 
 /// How many bytes a blob has at most that is asked for before somebody reads it.
-const MOST_AHEAD: u64 = 65_536;
+const MOST_AHEAD: u64 = 262_144;
 
 /// Which part of the bound such a blob counts for at most: 32 of them, which are as many as a reader is ahead of, take an
 /// eighth of it.
