@@ -1,4 +1,5 @@
 mod MountingLemmas
 mod PlayingLemmas
 mod ServingSteps
+mod Telling
 mod WritingSteps

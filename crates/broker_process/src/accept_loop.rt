@@ -3,7 +3,7 @@ use crate::broker_socket::BrokerSocket;
 use crate::connection_handle::ConnectionHandle;
 use crate::connections::Heard;
 use crate::context::BrokerContext;
-use crate::shared_desk::{AcceptedConnection, Answered};
+use crate::shared_desk::{AcceptedConnection, Answered, TakeAnswer};
 use broker_desk::Response;
 use links::Frame;
 use sockets::{Connection, Deadline};
@@ -151,31 +151,46 @@ impl<R: Threads + Wait + Clock + Sync> BrokerContext<'_, R> {
             let _told = tell_posted(accepted, connection);
             return false;
         };
-        let mut answered = self.shared.answer(self.rt, accepted, handle, &mut frame);
-        if let Some(delivery) = answered.delivery.take() {
+        let Answered {
+            earlier,
+            response,
+            delivery,
+        } = self.shared.answer(self.rt, accepted, handle, &mut frame);
+        if let Some(delivery) = delivery {
             self.deliver(delivery);
         }
         connection.give_back(frame);
-        tell(accepted, connection, answered)
+        tell_earlier(connection, earlier) && tell(accepted, connection, response)
     }
 }
 
-/// Writes by a connection what became of a frame. That a reply is posted waits for the answer to the next frame, if that has come
-/// too: so a peer that sends both at once reads both answers at once. Returns whether the connection goes on.
+/// Writes by a connection the answer to a Take that waited, if there is one, behind what is owed before it. Returns whether the
+/// connection goes on.
+fn tell_earlier<R: Clock>(connection: &mut Connection<'_, R>, earlier: Option<TakeAnswer>) -> bool {
+    let Some(
+        TakeAnswer {
+            owes_posted,
+            response,
+        },
+    ) = earlier
+    else {
+        return true;
+    };
+    if owes_posted && connection.write(&Frame::Posted).is_err() {
+        return false;
+    }
+    write(connection, response)
+}
+
+/// Writes by a connection the answer to a frame, if there is one by now. That a reply is posted waits for the answer to the next
+/// frame, if that has come too: so a peer that sends both at once reads both answers at once. Returns whether the connection
+/// goes on.
 fn tell<R: Clock>(
     accepted: &mut AcceptedConnection,
     connection: &mut Connection<'_, R>,
-    answered: Answered,
+    response: Option<Response>,
 ) -> bool {
-    if let Some(earlier) = answered.earlier {
-        let is_owed = earlier.owes_posted;
-        if is_owed && connection.write(&Frame::Posted).is_err()
-            || !write(connection, earlier.response)
-        {
-            return false;
-        }
-    }
-    let Some(response) = answered.response else {
+    let Some(response) = response else {
         return true;
     };
     if !tell_posted(accepted, connection) {

@@ -38,8 +38,6 @@ pub(crate) struct Answered {
     pub response: Option<Response>,
     /// What this thread has to deliver to the kernel.
     pub delivery: Option<Delivery>,
-    /// Whether the script is woken, or the thread that ends a mount.
-    wakes: bool,
 }
 
 /// The answer to a Take that waited, and where it goes.
@@ -51,13 +49,14 @@ pub(crate) struct HeldAnswer {
 }
 
 impl SharedDeskState {
-    /// Answers a frame of a connection, of which `handle` is a handle. A Take that finds nothing waits.
+    /// Answers a frame of a connection, of which `handle` is a handle. A Take that finds nothing waits. Returns also whether the
+    /// script is woken, or the thread that ends a mount.
     fn answer_frame(
         &mut self,
         accepted: &mut AcceptedConnection,
         handle: &ConnectionHandle,
         frame: &mut Frame,
-    ) -> Answered {
+    ) -> (Answered, bool) {
         let earlier = match self.takes.remove(accepted.number) {
             Some(take) => Some(TakeAnswer {
                 owes_posted: take.owes_posted,
@@ -67,20 +66,20 @@ impl SharedDeskState {
         };
         let (response, wakes) = self.answer(accepted, frame);
         if finds_nothing(&response) && self.hold(accepted, handle, frame) {
-            return Answered {
+            let waits = Answered {
                 earlier,
                 response: None,
                 delivery: None,
-                wakes,
             };
+            return (waits, wakes);
         }
         let (delivery, leaves) = self.deliver_behind(&response);
-        Answered {
+        let answered = Answered {
             earlier,
             response: Some(response),
             delivery,
-            wakes: wakes || leaves,
-        }
+        };
+        (answered, wakes || leaves)
     }
 
     /// Takes the reply for the kernel that was posted where `response` says so. Returns also whether it has to wait.
@@ -114,11 +113,12 @@ impl SharedDeskState {
         let Ok(handle) = handle.share() else {
             return false;
         };
+        let tick = self.takes.tick;
         let is_held = self.takes.hold(HeldTake {
             number: accepted.number,
             peer: accepted.peer,
             generation: *generation,
-            tick: self.takes.tick,
+            tick,
             handle,
             owes_posted: accepted.owes_posted,
         });
@@ -197,18 +197,33 @@ impl SharedDesk {
         handle: &ConnectionHandle,
         frame: &mut Frame,
     ) -> Answered {
-        let mut answered = self.state.lock(rt).answer_frame(accepted, handle, frame);
-        match answered.response {
-            Some(Response::Tells(Frame::Mounted { generation })) => {
-                self.wake_script(answered.wakes);
-                answered.response = Some(self.answer_mount(rt, generation));
-                return answered;
-            }
-            Some(Response::Tells(Frame::Claimed { .. })) => self.answer_held(rt),
-            _ => {}
+        let (answered, wakes) = self.state.lock(rt).answer_frame(accepted, handle, frame);
+        self.wake_script(wakes);
+        let Answered {
+            earlier,
+            response,
+            delivery,
+        } = answered;
+        Answered {
+            earlier,
+            response: self.settle(rt, response),
+            delivery,
         }
-        self.wake_script(answered.wakes);
-        answered
+    }
+
+    /// Returns the answer to a frame once it may be told: that a daemon mounted waits for the kernel. Where the seat changed
+    /// hands, Takes that wait are answered.
+    fn settle<R: Wait>(&self, rt: &R, response: Option<Response>) -> Option<Response> {
+        match response {
+            Some(Response::Tells(Frame::Mounted { generation })) => {
+                Some(self.answer_mount(rt, generation))
+            }
+            Some(Response::Tells(Frame::Claimed { generation })) => {
+                self.answer_held(rt);
+                Some(Response::Tells(Frame::Claimed { generation }))
+            }
+            response => response,
+        }
     }
 
     /// Answers each Take that waits for which there is an answer.
