@@ -116,7 +116,10 @@ impl SharedDeskState {
 
     /// Has the numbers be forgotten that are noted, as far as that can be done now. Returns whether none is left.
     fn forget_given_back(&mut self) -> bool {
-        while let Some(given) = self.given_back.pop() {
+        for _number in 0..self.given_back.len() {
+            let Some(given) = self.given_back.pop() else {
+                return true;
+            };
             if let Err(IssueFault::Full | IssueFault::NoMemory) = self.desk.take_back(Some(given)) {
                 self.given_back.push_reserved(given);
                 return false;
