@@ -119,7 +119,7 @@ pub(crate) fn open_contents<
 ) -> Result<Contents<'a, R>, DaemonFault>
 where
     R::Dir: Send + Sync,
-    ensures contents { IfOk result (IsOpened source manifest.now) }
+    ensures contents { IfOk result (IsOpened source.entry manifest.now) }
 {
     let Ok(manifest) = manifest.share() else {
         return Err(DaemonFault::NoMemory);
