@@ -241,8 +241,8 @@ static POSTED: [u8; 5] = [0, 0, 0, 0, 5];
 
 /// The text of that Post, and of a Take behind it.
 static POST_AND_TAKE: [u8; 42] = [
-    0, 0, 0, 24, 4, 0, 0, 0, 0, 0, 0, 0, 1, 16, 0, 0, 0, 254, 255, 255, 255, 9, 0, 0, 0, 0, 0, 0, 0,
-    0, 0, 0, 8, 1, 0, 0, 0, 0, 0, 0, 0, 1,
+    0, 0, 0, 24, 4, 0, 0, 0, 0, 0, 0, 0, 1, 16, 0, 0, 0, 254, 255, 255, 255, 9, 0, 0, 0, 0, 0, 0,
+    0, 0, 0, 0, 8, 1, 0, 0, 0, 0, 0, 0, 0, 1,
 ];
 
 /// Posted; NotAsked; Ended; Stale, with the seat at generation 2; nothing.
@@ -377,11 +377,27 @@ fn a_reply_is_done_where_it_was_posted(rt: HostRuntime) {
 /// The Take stands right behind the Post, before either is answered.
 #[test]
 fn a_reply_and_the_next_ask_go_in_one(rt: HostRuntime) {
-    assert!(rt; all_give_so(rt.alloc(), &TAKES, Calls::PostAndTake, &POSTED, &POST_AND_TAKE));
+    assert!(rt;
+        all_give_so(
+            rt.alloc(),
+            &TAKES,
+            Calls::PostAndTake,
+            &POSTED,
+            &POST_AND_TAKE
+        )
+    );
 }
 
 /// Nothing is taken behind a reply that was not posted.
 #[test]
 fn nothing_is_taken_behind_a_reply_that_is_refused(rt: HostRuntime) {
-    assert!(rt; all_give_so(rt.alloc(), &POSTS[1..], Calls::PostAndTake, &[], &POST_AND_TAKE));
+    assert!(rt;
+        all_give_so(
+            rt.alloc(),
+            &POSTS[1..],
+            Calls::PostAndTake,
+            &[],
+            &POST_AND_TAKE
+        )
+    );
 }
