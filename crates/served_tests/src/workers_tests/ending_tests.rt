@@ -159,9 +159,9 @@ impl<'a> Hook for Stopping<'a> {
     }
 }
 
-/// Serves a round with a hook that asks for a stop after the first reply. Returns whether the round ends with one
-/// record, and the hook was called after the post.
-fn stops_at_one<R: Threads + Wait + Sync>(rt: &R, alloc: Global) -> bool {
+/// Serves a round with a hook that asks for a stop after the first reply. Its channel heard by then that an ask is taken next.
+/// Returns whether the round ends with two records, so behind that ask, and the hook was called after each post.
+fn stops_behind_the_next<R: Threads + Wait + Sync>(rt: &R, alloc: Global) -> bool {
     let Ok(manifest) = manifest_of(alloc, LISTED) else {
         return false;
     };
@@ -182,11 +182,11 @@ fn stops_at_one<R: Threads + Wait + Sync>(rt: &R, alloc: Global) -> bool {
         Err(NoMemory) => Ended::Otherwise,
     };
     drop(manifest);
-    ended == Ended::Well(1) && hook.early.load(Ordering::SeqCst) == 0
+    ended == Ended::Well(2) && hook.early.load(Ordering::SeqCst) == 0
 }
 
 #[test]
-fn a_stop_from_within_a_round_is_seen_at_the_next_turn(rt: HostRuntime) {
-    let stops = stops_at_one(&rt, rt.alloc());
+fn a_stop_behind_a_reply_is_seen_behind_the_next_ask(rt: HostRuntime) {
+    let stops = stops_behind_the_next(&rt, rt.alloc());
     assert!(rt; stops);
 }
