@@ -130,8 +130,10 @@ def a_take_that_finds_nothing_is_held(room):
 def frames_that_come_together_are_answered_in_their_order(room):
     """A Post and a Take that come together are answered in this order, be it by the next request or by none. So are two Takes, two Posts, and a Post before bytes that are no frame."""
     broker = room.broker("seat 1", *["ask getattr 1"] * 3)
-    first, worker = room.peer(), room.peer()
-    worker.attach(first.attach())
+    first, worker, other = room.peer(), room.peer(), room.peer()
+    daemon = first.attach()
+    worker.attach(daemon)
+    other.attach(daemon)
     same(first.ask("Mount"), ("Mounted", u64(1)))
     error = lambda unique: u64(1) + struct.pack("<IiQ", 16, -5, unique)
     worker.take_ask(1)
@@ -146,11 +148,12 @@ def frames_that_come_together_are_answered_in_their_order(room):
     # The script asks once it has printed, which may be behind the Take's tick.
     if worker.read()[0] == "Empty":
         worker.take_ask(1)
+    other.end.sendall(frame("Post", error(9)) + frame("Post", error(9)) + frame("Mounted", u64(1)))
+    same([other.read(), other.read(), other.read()], [("NotAsked", b""), ("NotAsked", b""), None])
+    # Behind the last answer the script ends.
     worker.end.sendall(frame("Post", error(3)) + frame("Take", u64(1)))
-    same([worker.read(), worker.read()], [("Posted", b""), ("Empty", b"")])
-    worker.end.sendall(frame("Post", error(3)) + frame("Post", error(3)) + frame("Mounted", u64(1)))
-    same([worker.read(), worker.read()], [("NotAsked", b"")] * 2)
-    same(worker.read(), None)
+    same(worker.read(), ("Posted", b""))
+    same(worker.read()[0] in ("Ended", "Empty"), True)
     first.close()
     broker.ends(["seat 1", *["answer %d error EIO" % (number + 1) for number in range(3)], "ended"])
 
