@@ -1,4 +1,5 @@
 """Rows: a daemon whose broker is a peer that speaks frames by hand."""
+import select
 import time
 
 from process_rows.checks import TooSlow, row, same, took_between
@@ -149,6 +150,27 @@ def a_daemon_never_sleeps_between_takes(room):
     least = [min(waits[place::10]) for place in range(10)]
     if max(least) > 0.001:
         raise TooSlow(f"a Take came after {max(least)} s")
+    worker.send("Ended")
+    daemon.ends(["serving 1", "ended"])
+
+
+# How many requests a worker serves in a round, and how long what comes with a Post is waited for, in seconds.
+TURNS = 64
+MOMENT = 0.2
+
+
+@row
+def the_last_reply_of_a_round_goes_alone(room):
+    """A worker sends the next Take with a Post, before that is answered, but for the last Post of a round: between rounds no request
+    is in hand, so that a daemon may hand over there."""
+    daemon, _first, worker = mounted_by_hand(room)
+    for turn in range(1, 2 * TURNS + 1):
+        worker.send("Ask", request(3, turn, 1, bytes(16)))
+        same(worker.read()[0], "Post")
+        comes, _, _ = select.select([worker.end], [], [], MOMENT)
+        same((turn, bool(comes)), (turn, turn % TURNS != 0))
+        worker.send("Posted")
+        same(worker.read(), ("Take", u64(1)))
     worker.send("Ended")
     daemon.ends(["serving 1", "ended"])
 

@@ -1,20 +1,21 @@
 -- Takes that wait for an ask, and which of them is answered. (This project's own.)
-use Rattle.std.specs.Prelude.{◌≡◌, ℕ, Bool, Result, Err, true, false, not, ◌==◌, ◌++◌, ◌∷◌, [], nat_lt, List, Option, Some, None, position, slice_get, remove}
+use Rattle.std.specs.Arc.{arc_value}
+use Rattle.std.specs.Prelude.{◌≡◌, ℕ, Bool, true, false, not, ◌==◌, ◌++◌, ◌∷◌, [], nat_lt, List, Option, Some, None, position, slice_get, remove}
 use Rattle.eden_base.specs.declared.number.DaemonId.{DaemonId}
-use Rattle.eden_base.specs.declared.number.Number.{Number}
 use Rattle.broker_core.specs.Broker.{BrokerState, take_fault}
-use Rattle.broker_core.specs.declared.broker.IssueFault.{IssueFault}
-use Rattle.broker_core.specs.declared.broker.IssueFault.TheVariants.{Full, NoMemory}
 use Rattle.broker_core.specs.declared.fault.TakeFault.{TakeFault}
 use Rattle.broker_core.specs.declared.fault.TakeFault.TheVariants as refused
 use Rattle.broker_desk.specs.Desk.{Answers, DeskState}
-use Rattle.broker_desk.specs.Forgets.{TakesBack}
 use Rattle.broker_desk.specs.declared.peer.Peer.{Peer}
 use Rattle.broker_desk.specs.declared.peer.Peer.TheVariants.{Unattached, Daemon, Worker}
 use Rattle.broker_desk.specs.declared.peer.Response.{Response}
 use Rattle.frames.specs.declared.frame.Frame.{Frame}
 use Rattle.frames.specs.declared.frame.Frame.TheVariants.{Take as ATake}
+use Rattle.broker_process.specs.declared.connection_handle.ConnectionHandle.{ConnectionHandle}
 use Rattle.broker_process.specs.declared.held_takes.HeldTake.{HeldTake}
+use Rattle.broker_process.specs.declared.shared_desk.AcceptedConnection.{AcceptedConnection}
+use Rattle.broker_process.specs.declared.shared_desk.takes.HeldAnswer.{HeldAnswer}
+use Rattle.broker_process.specs.declared.shared_desk.takes.TakeAnswer.{TakeAnswer}
 
 -- whether the Take came by the connection of this number
 abbrev pub is_of : ℕ → HeldTake → Bool
@@ -48,13 +49,23 @@ Removes (Some place) old None new = ⊥
 Removes None old (Some take) new = ⊥
 Removes None old None new = new ≡ old
 
--- A frame of this peer by the connection of this number waits: it is a Take, which stands behind all that wait, with what the
--- connection owes. Or it doesn't, and nothing changes.
-abbrev pub Holds : ℕ → Peer → Bool → Frame → Bool → List HeldTake → List HeldTake → Type 0
-Holds number peer owes frame true old new =
-    (take : HeldTake) × (frame ≡ ATake take.generation) × (take.number ≡ number) × (take.peer ≡ peer) × (take.owes_posted ≡ owes)
-    × (new ≡ old ++ take ∷ [])
-Holds number peer owes frame false old new = new ≡ old
+-- both handles are of the same connection
+abbrev pub SameConnection : ConnectionHandle → ConnectionHandle → Type 0
+SameConnection handle other = arc_value handle.end ≡ arc_value other.end
+
+-- a Take of this connection that came in this tick, whose answer goes to the connection of this handle behind what is owed there
+pub record IsTakeOf (accepted : AcceptedConnection) (handle : ConnectionHandle) (tick : ℕ) (take : HeldTake) : Type 0 where
+  pub came_by : take.number ≡ accepted.number
+  pub came_from : take.peer ≡ accepted.peer
+  pub owes : take.owes_posted ≡ accepted.owes_posted
+  pub came_in : take.tick ≡ tick
+  pub goes_to : SameConnection take.handle handle
+
+-- A frame of this connection waits: it is a Take, which stands behind all that wait. Or it doesn't, and nothing changes.
+abbrev pub Holds : AcceptedConnection → ConnectionHandle → ℕ → Frame → Bool → List HeldTake → List HeldTake → Type 0
+Holds accepted handle tick frame true old new =
+    (take : HeldTake) × (frame ≡ ATake take.generation) × IsTakeOf accepted handle tick take × (new ≡ old ++ take ∷ [])
+Holds accepted handle tick frame false old new = new ≡ old
 
 -- the Take at this place was answered by the desk at this moment, and waits no more
 abbrev pub AnswersAt : Option ℕ → DeskState → List HeldTake → Response → DeskState → List HeldTake → Type 0
@@ -62,6 +73,21 @@ AnswersAt (Some place) old takes response new left =
     (take : HeldTake) × (slice_get takes place ≡ Some take) × Answers old take.peer (ATake take.generation) response new
     × (left ≡ remove takes place)
 AnswersAt None old takes response new left = ⊥
+
+-- the Take of the connection of this number was answered, if one waited
+abbrev pub AnswersOf : ℕ → DeskState → List HeldTake → Option HeldAnswer → DeskState → List HeldTake → Type 0
+AnswersOf number old takes (Some held) new left = AnswersAt (position (is_of number) takes) old takes held.answer.response new left
+AnswersOf number old takes None new left = (position (is_of number) takes ≡ None) × (new ≡ old) × (left ≡ takes)
+
+-- the answer to a Take that waited, if one did
+abbrev pub answer_of : Option HeldAnswer → Option TakeAnswer
+answer_of (Some held) = Some held.answer
+answer_of None = None
+
+-- whether it wakes the script
+abbrev pub answer_wakes : Option HeldAnswer → Bool
+answer_wakes (Some held) = held.wakes
+answer_wakes None = false
 
 -- the first Take was answered for which the broker had an answer
 abbrev pub AnswersHeld : DeskState → List HeldTake → Response → DeskState → List HeldTake → Type 0
@@ -75,20 +101,3 @@ WaitsOn None old new = new ≡ old
 -- the first Take was answered that came before this tick
 abbrev pub AnswersExpired : ℕ → DeskState → List HeldTake → Response → DeskState → List HeldTake → Type 0
 AnswersExpired tick old takes response new left = AnswersAt (position (is_expired tick) takes) old takes response new left
-
--- whether the number of a reply that the kernel did not take was noted behind the others
-abbrev pub IsNoted : Bool → Number → List Number → List Number → Type 0
-IsNoted true given old new = new ≡ old ++ given ∷ []
-IsNoted false given old new = new ≡ old
-
--- what becomes of such a number, by what the desk says to its forget: where that is refused for now, the number is noted, if memory
--- for that suffices
-abbrev pub Notes : Result (Unit {0}) IssueFault → Number → Bool → List Number → List Number → Type 0
-Notes (Err Full) given noted old new = IsNoted noted given old new
-Notes (Err NoMemory) given noted old new = IsNoted noted given old new
-Notes other given noted old new = (noted ≡ true) × (new ≡ old)
-
--- the number of a reply that the kernel did not take was forgotten once at the desk, or noted
-abbrev pub GivesBack : Number → Bool → DeskState → DeskState → List Number → List Number → Type 0
-GivesBack given noted old new list after =
-    (said : Result (Unit {0}) IssueFault) × TakesBack old (Some given) said new × Notes said given noted list after

@@ -1,8 +1,10 @@
+pub mod Answering
 pub mod Connections
 pub mod Device
 pub mod HeldTakes
 pub mod Mounting
 pub mod Playing
+pub mod Posting
 pub mod Serving
 pub mod SharedDesk
 pub mod Writing

@@ -1,7 +1,9 @@
 -- What wakes the script of a broker, and what is answered to a daemon that mounts. (This project's own.)
 use Rattle.std.specs.Prelude.{ℕ, ◌==◌, Bool, true, false, if◌then◌else◌}
+use Rattle.broker_script.specs.declared.awaited.Awaited.{Awaited}
+use Rattle.broker_script.specs.declared.awaited.Awaited.TheVariants as awaited
 use Rattle.frames.specs.declared.frame.Frame.{Frame}
-use Rattle.frames.specs.declared.frame.Frame.TheVariants.{Ask, Posted, Claimed, Mounted}
+use Rattle.frames.specs.declared.frame.Frame.TheVariants.{Ask, Empty, Posted, Claimed, Mounted}
 use Rattle.broker_process.specs.declared.shared_desk.Agreed.{Agreed}
 use Rattle.broker_process.specs.declared.shared_desk.Agreed.TheVariants.{Always, NotYet, To}
 use Rattle.broker_process.specs.declared.shared_desk.Granted.{Granted}
@@ -17,6 +19,17 @@ wakes Seat (Mounted generation) = true
 wakes Seat (Claimed generation) = true
 wakes Idle (Ask text) = true
 wakes waiting frame = false
+
+-- what a script waits for, by what it awaits
+abbrev pub waiting_for : Awaited → Waiting
+waiting_for (awaited.Reply unique) = Reply
+waiting_for (awaited.Seat generation) = Seat
+waiting_for awaited.Idle = Idle
+
+-- whether a Take found nothing
+abbrev pub is_empty : Frame → Bool
+is_empty Empty = true
+is_empty frame = false
 
 -- what is answered to a daemon that mounted at this generation, by what the kernel agreed to and by whether nobody has
 -- the seat: where the kernel did not agree to this mount, it may yet, unless the mount is over

@@ -1,4 +1,7 @@
 //! What other threads have of a connection.
+ghost use Rattle.std.specs.Prelude.{◌≡◌, IfOk};
+ghost use Rattle.broker_process.specs.HeldTakes.{SameConnection};
+
 use crate::shared_desk::TakeAnswer;
 use broker_desk::Response;
 use eden_base::NoMemory;
@@ -31,7 +34,9 @@ impl ConnectionHandle {
     }
 
     /// Returns one more handle of the same connection.
-    pub(crate) fn share(&self) -> Result<ConnectionHandle, NoMemory> {
+    pub(crate) fn share(&self) -> Result<ConnectionHandle, NoMemory>
+        ensures same { IfOk result (λ handle. SameConnection handle self.now) }
+    {
         Ok(ConnectionHandle {
             end: Arc::try_clone(&self.end)?,
         })

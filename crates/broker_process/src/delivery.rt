@@ -1,5 +1,6 @@
 //! Replies on their way to the kernel of a mount.
-ghost use Rattle.std.specs.Prelude.{◌≡◌};
+ghost use Rattle.std.specs.Prelude.{◌≡◌, IfOk};
+ghost use Rattle.broker_process.specs.Posting.{SameWriter};
 ghost use Rattle.broker_process.specs.Writing.{TellsReply};
 
 use crate::context::BrokerContext;
@@ -17,14 +18,19 @@ use std::sync::{Arc, Wait};
 /// Where the replies of a mount are written: the kernel's device, and what each file of the mount has as its own.
 #[derive(Drop)]
 pub(crate) struct ReplyWriter {
+    /// The generation at which the mount began. No two mounts have the same.
+    pub began: u64,
     pub device: Arc<File>,
     pub own: MountAttributes,
 }
 
 impl ReplyWriter {
     /// Returns one more handle of the device.
-    pub(crate) fn share(&self) -> Result<ReplyWriter, NoMemory> {
+    pub(crate) fn share(&self) -> Result<ReplyWriter, NoMemory>
+        ensures same { IfOk result (λ copy. SameWriter copy self.now) }
+    {
         Ok(ReplyWriter {
+            began: self.began,
             device: Arc::try_clone(&self.device)?,
             own: self.own,
         })
@@ -80,29 +86,31 @@ pub(crate) fn tell<R: Wait + Clock, D: Write>(
 
 impl<R: Wait + Clock> BrokerContext<'_, R> {
     /// Writes what is delivered to the kernel. Where that did not take a reply, the number in it is forgotten. Where the device
-    /// refuses everything, the mount ends.
+    /// refuses everything, the mount ends. Neither is so where the mount has ended by then: the next one is another mount.
     pub(crate) fn deliver(&self, delivery: Delivery) {
         let Delivery { writer, delivered } = delivery;
+        let began = writer.began;
         let (reply, kept) = match delivered {
             Delivered::Reply(reply, kept) => (reply, kept),
-            Delivered::Unasked(answer) => return self.give_back(answer.given_out()),
+            Delivered::Unasked(answer) => return self.give_back(began, answer.given_out()),
         };
         let given = reply.answer.given_out();
         let mut device = writer.device;
         let told = KeptReply { reply, kept };
         let written = tell(self.rt, self.alloc, &mut device, told, &writer.own);
         if written != Written::Reply {
-            self.give_back(given);
+            self.give_back(began, given);
         }
         if written == Written::Refused {
-            self.shared.note_refused(self.rt);
+            self.shared.note_refused(self.rt, began);
         }
     }
 
-    /// Has the number be forgotten that an answer gave out, if it gave one, since the kernel did not take it.
-    fn give_back(&self, given: Option<Number>) {
+    /// Has the number be forgotten that an answer gave out, if it gave one, since the kernel did not take it. The answer was for
+    /// the mount that `began` at this generation.
+    fn give_back(&self, began: u64, given: Option<Number>) {
         if let Some(given) = given {
-            self.shared.give_back(self.rt, given);
+            self.shared.give_back(self.rt, began, given);
         }
     }
 }

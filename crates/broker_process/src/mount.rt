@@ -268,6 +268,7 @@ impl<R: Threads + Wait + Clock + Files<File = File> + Processes + Sync> MountLoo
         let service = MountService {
             context: self.context,
             mountpoint: self.point.path,
+            began: generation,
             own: MountAttributes {
                 since: now(rt),
                 owner: self.point.owner,

@@ -49,6 +49,8 @@ pub(crate) struct MountService<'a, R> {
     pub context: &'a BrokerContext<'a, R>,
     /// The path of the directory at which it is mounted.
     pub mountpoint: &'a str,
+    /// The generation at which it began.
+    pub began: u64,
     /// What each file of the mount has as its own.
     pub own: MountAttributes,
 }
@@ -123,6 +125,7 @@ impl<R: Wait + Clock> MountService<'_, R> {
         let handle = device.try_clone().map_err(MountRunFault::Broken)?;
         match Arc::new(self.context.alloc, handle) {
             Ok(device) => Ok(ReplyWriter {
+                began: self.began,
                 device,
                 own: self.own,
             }),

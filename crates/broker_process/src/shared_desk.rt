@@ -1,9 +1,11 @@
 //! What the connections of a broker share with who plays the kernel.
 ghost use Rattle.std.specs.Prelude.{◌≡◌, ◌↔◌, ◌&&◌, false, is_none, IsTrue, OnOk};
 ghost use Rattle.std.specs.Option.{option_map_or};
-ghost use Rattle.broker_desk.specs.Desk.{told_by};
 ghost use Rattle.broker_core.specs.Broker.{BrokerState};
-ghost use Rattle.broker_process.specs.SharedDesk.{granted_by, wakes};
+ghost use Rattle.broker_desk.specs.Desk.{is_post, told_by};
+ghost use Rattle.broker_process.specs.Answering.{is_kept_out, is_turned_away, may_attach, with_peer, AnswersFrame};
+ghost use Rattle.broker_process.specs.Connections.{has_not_attached};
+ghost use Rattle.broker_process.specs.SharedDesk.{granted_by, is_empty, waiting_for, wakes};
 ghost use Rattle.broker_process.specs.Playing.{Began, HasCome};
 ghost use Rattle.monitor.specs.Wait.{IfFound};
 ghost use Rattle.broker_script.specs.Beginning.{Begins};
@@ -18,6 +20,7 @@ use crate::connection_handle::ConnectionHandle;
 use crate::connections::{Connections, Heard};
 use crate::delivery::ReplyWriter;
 use crate::held_takes::HeldTakes;
+use broker_core::Broker;
 use broker_desk::{Desk, Kernel, MAX_ASKS, Peer, Response};
 use broker_script::{Awaited, BegunLine, BrokerLine, Came, begin, look, print_begun, print_held};
 use eden_base::{NoMemory, Number};
@@ -116,8 +119,10 @@ pub(crate) struct AcceptedConnection {
 
 impl AcceptedConnection {
     /// Returns whether nobody attached by this connection.
-    pub(crate) fn is_unattached(&self) -> bool {
-        self.peer == Peer::Unattached
+    pub(crate) fn is_unattached(&self) -> bool
+        ensures unattached { result ≡ has_not_attached self.now.peer }
+    {
+        matches!(self.peer, Peer::Unattached)
     }
 }
 
@@ -132,33 +137,63 @@ pub(crate) struct SharedDesk {
 
 impl SharedDeskState {
     /// Answers a frame of a connection, and returns whether the answer wakes the script.
-    fn answer(&mut self, accepted: &mut AcceptedConnection, frame: &mut Frame) -> (Response, bool) {
-        if accepted.is_unattached() && !self.may_attach(accepted.number, frame) {
-            return (Response::Closes, false);
-        }
-        if !accepted.is_unattached() && self.has_dead_mount() && matches!(frame, Frame::Mount) {
-            return (Response::Tells(Frame::Seated), false);
-        }
+    fn answer(&mut self, accepted: &mut AcceptedConnection, frame: &mut Frame) -> (Response, bool)
+        ensures answers { AnswersFrame (is_turned_away self.old.connections.list.items accepted.old.number accepted.old.peer
+            frame.old) (is_kept_out self.old.is_mounted self.old.desk.broker accepted.old.peer frame.old) self.old.desk
+            accepted.old.peer frame.old result.0 self.new.desk accepted.new.peer }
+        ensures named { self.new.connections.list.items ≡ with_peer accepted.old.number accepted.old.peer accepted.new.peer
+            self.old.connections.list.items }
+        ensures wakes { result.1 ≡ option_map_or (wakes self.old.waiting) (told_by result.0) false }
+        ensures accepted { accepted.new ≡ record accepted.old { peer = accepted.new.peer } }
+        ensures frame { is_post frame.old ≡ false → frame.new ≡ frame.old }
+        ensures takes { self.new.takes ≡ self.old.takes }
+        ensures kernel { self.new.kernel ≡ self.old.kernel }
+        ensures writer { self.new.writer ≡ self.old.writer }
+    {
         let was_unattached = accepted.is_unattached();
-        let response = self.desk.answer(&mut accepted.peer, frame);
+        let response = self.respond(accepted, frame);
         if was_unattached {
             self.connections.name(accepted.number, accepted.peer);
         }
         if let Response::Tells(Frame::Claimed { generation }) = &response {
-            self.log_held(*generation);
+            log_held(&mut self.log, self.desk.broker(), *generation);
         }
         let wakes = is_waited_for(self.waiting, &response);
         (response, wakes)
     }
 
-    /// Notes what the kernel holds as a daemon takes the seat over at `generation`. What can't be written is left out.
-    fn log_held(&mut self, generation: u64) {
-        let Some(log) = &mut self.log else {
-            return;
-        };
-        let _written = print_numbered(log, "seat", generation);
-        let _written = print_held(log, self.desk.broker());
-        let _written = log.flush();
+    /// Returns the desk's answer to a frame of a connection. The desk doesn't hear one that may not attach, which is closed, nor
+    /// the Mount of a daemon while a dead mount stands, which is told that another daemon has the seat.
+    fn respond(&mut self, accepted: &mut AcceptedConnection, frame: &mut Frame) -> Response
+        ensures answers { AnswersFrame (is_turned_away self.old.connections.list.items accepted.old.number accepted.old.peer
+            frame.old) (is_kept_out self.old.is_mounted self.old.desk.broker accepted.old.peer frame.old) self.old.desk
+            accepted.old.peer frame.old result self.new.desk accepted.new.peer }
+        ensures rest { self.new ≡ record self.old { desk = self.new.desk } }
+        ensures accepted { accepted.new ≡ record accepted.old { peer = accepted.new.peer } }
+        ensures frame { is_post frame.old ≡ false → frame.new ≡ frame.old }
+    {
+        if self.turns_away(accepted, frame) {
+            return Response::Closes;
+        }
+        if self.keeps_out(accepted, frame) {
+            return Response::Tells(Frame::Seated);
+        }
+        self.desk.answer(&mut accepted.peer, frame)
+    }
+
+    /// Returns whether a connection is closed for its first `frame`: it had to go, or may not attach so.
+    fn turns_away(&self, accepted: &AcceptedConnection, frame: &Frame) -> bool
+        ensures turns_away { result ≡ is_turned_away self.now.connections.list.items accepted.now.number accepted.now.peer
+            frame.now }
+    {
+        accepted.is_unattached() && !self.may_attach(accepted.number, frame)
+    }
+
+    /// Returns whether `frame` is a Mount of a daemon that has to wait for the end of a dead mount.
+    fn keeps_out(&self, accepted: &AcceptedConnection, frame: &Frame) -> bool
+        ensures keeps_out { result ≡ is_kept_out self.now.is_mounted self.now.desk.broker accepted.now.peer frame.now }
+    {
+        !accepted.is_unattached() && self.has_dead_mount() && matches!(frame, Frame::Mount)
     }
 
     /// Returns whether a kernel still has the mount of a daemon that is gone. Until that ends no daemon may mount, since
@@ -170,7 +205,9 @@ impl SharedDeskState {
     }
 
     /// Returns whether unattached connection `number` did not have to go, and what its Attach asks for is within the limit.
-    fn may_attach(&self, number: u64, frame: &Frame) -> bool {
+    fn may_attach(&self, number: u64, frame: &Frame) -> bool
+        ensures may_attach { result ≡ may_attach self.now.connections.list.items number frame.now }
+    {
         let has_place = match frame {
             Frame::Attach(daemon) => daemon.0 == 0 || self.connections.has_place(*daemon),
             _ => true,
@@ -233,8 +270,21 @@ impl SharedDeskState {
     }
 }
 
+/// Notes in `log`, if there is one, what the kernel holds by the `broker` as a daemon takes the seat over at `generation`. What
+/// can't be written is left out.
+fn log_held(log: &mut Option<BufWriter<File>>, broker: &Broker, generation: u64) {
+    let Some(log) = log else {
+        return;
+    };
+    let _written = print_numbered(log, "seat", generation);
+    let _written = print_held(log, broker);
+    let _written = log.flush();
+}
+
 /// Returns the kind of answer that wakes a script which waits for `awaited`.
-fn waiting_for(awaited: Awaited) -> Waiting {
+fn waiting_for(awaited: Awaited) -> Waiting
+    ensures waiting { result ≡ waiting_for awaited }
+{
     match awaited {
         Awaited::Reply(_) => Waiting::Reply,
         Awaited::Seat(_) => Waiting::Seat,
@@ -272,7 +322,9 @@ fn is_lacking(came: &Came) -> bool
 }
 
 /// Returns whether a Take found nothing.
-fn finds_nothing(response: &Response) -> bool {
+fn finds_nothing(response: &Response) -> bool
+    ensures nothing { result ≡ option_map_or is_empty (told_by response.now) false }
+{
     matches!(response, Response::Tells(Frame::Empty))
 }
 

@@ -1,8 +1,8 @@
 //! What a real kernel's mount asks of the shared desk.
-ghost use Rattle.std.specs.Prelude.{◌≡◌, ◌&&◌, is_none, if◌then◌else◌};
+ghost use Rattle.std.specs.Prelude.{◌≡◌, ◌&&◌, ◌||◌, is_none, if◌then◌else◌};
 ghost use Rattle.broker_desk.specs.Progress.{LeavesForDaemons};
 ghost use Rattle.mount_wire.specs.Message.{IsForDaemons};
-ghost use Rattle.broker_process.specs.HeldTakes.{GivesBack};
+ghost use Rattle.broker_process.specs.Posting.{delivery_of, is_left, is_served, GivesBackFor, Posts};
 ghost use Rattle.broker_process.specs.Serving.{IsHeard};
 ghost use Rattle.broker_process.specs.declared.shared_desk.mounted.NextWrite.TheVariants.{Gone, Later, Nothing, Over};
 ghost use Rattle.broker_process.specs.declared.service.MountEnd.TheVariants.{Dead, Unmounted};
@@ -62,6 +62,20 @@ pub(crate) enum Posting {
     Waits,
 }
 
+impl Posting {
+    /// Returns what the thread that found this delivers, and whether a reply waits for another thread.
+    pub(super) fn split(self) -> (Option<Delivery>, bool)
+        ensures delivery { result.0 ≡ delivery_of self }
+        ensures left { result.1 ≡ is_left self }
+    {
+        match self {
+            Posting::Delivers(delivery) => (Some(delivery), false),
+            Posting::Nothing => (None, false),
+            Posting::Waits => (None, true),
+        }
+    }
+}
+
 impl SharedDeskState {
     /// Notes that a kernel's mount begins, and returns the generation of the daemon that has the seat. Returns none if
     /// none has it.
@@ -74,7 +88,10 @@ impl SharedDeskState {
     }
 
     /// Takes the first posted reply for the kernel, where a mount is served.
-    pub(super) fn posting(&mut self) -> Posting {
+    pub(super) fn posting(&mut self) -> Posting
+        ensures posts { Posts self.old.writer self.old.desk self.old.kernel result self.new.desk self.new.kernel }
+        ensures takes { self.new.takes ≡ self.old.takes }
+    {
         let Some(writer) = &self.writer else {
             return Posting::Nothing;
         };
@@ -101,13 +118,27 @@ impl SharedDeskState {
         }
     }
 
-    /// Has the number `given` be forgotten, or notes that it is to be. Returns whether one of both is so: memory for the note may
-    /// be refused.
-    fn give_back(&mut self, given: Number) -> bool
-        ensures gives_back { GivesBack given result self.old.desk self.new.desk self.old.given_back.items
-            self.new.given_back.items }
+    /// Returns whether the mount is served that `began` at this generation.
+    fn serves(&self, began: u64) -> bool
+        ensures serves { result ≡ is_served began self.now.writer }
+    {
+        match &self.writer {
+            Some(writer) => writer.began == began,
+            None => false,
+        }
+    }
+
+    /// Has the number `given` be forgotten, or notes that it is to be, where the mount is still served that `began` at this
+    /// generation: a kernel holds no number of a mount that is over. Returns whether nothing is left to do: memory for the note
+    /// may be refused.
+    fn give_back(&mut self, began: u64, given: Number) -> bool
+        ensures gives_back { GivesBackFor (is_served began self.old.writer) given result self.old.desk self.new.desk
+            self.old.given_back.items self.new.given_back.items }
         ensures takes { self.new.takes ≡ self.old.takes }
     {
+        if !self.serves(began) {
+            return true;
+        }
         match self.desk.take_back(Some(given)) {
             Err(IssueFault::Full | IssueFault::NoMemory) => self.given_back.push(given).is_ok(),
             Ok(()) | Err(_) => true,
@@ -126,6 +157,15 @@ impl SharedDeskState {
             }
         }
         true
+    }
+
+    /// Notes that the device of the mount that `began` at this generation refused everything, where that is still served.
+    fn note_refused(&mut self, began: u64)
+        ensures refused { self.new.is_refused ≡ (is_served began self.old.writer || self.old.is_refused) }
+    {
+        if self.serves(began) {
+            self.is_refused = true;
+        }
     }
 
     /// Returns what the thread does next where no reply was posted, and `is_forgotten` says whether no number is to be forgotten.
@@ -228,12 +268,13 @@ impl SharedDesk {
     }
 
     /// Has the number be forgotten at once that a reply has `given` out, since the kernel did not take the reply. Where that is
-    /// refused for now, the thread that ends the mount does it as soon as it can be done.
-    pub(crate) fn give_back<R: Wait + Clock>(&self, rt: &R, given: Number) {
+    /// refused for now, the thread that ends the mount does it as soon as it can be done. Nothing is done where the mount that
+    /// `began` at this generation is over.
+    pub(crate) fn give_back<R: Wait + Clock>(&self, rt: &R, began: u64, given: Number) {
         for _ in rt.forever() {
             let is_noted = self
                 .state
-                .change(rt, &self.events, |state| state.give_back(given));
+                .change(rt, &self.events, |state| state.give_back(began, given));
             if is_noted {
                 return self.answer_held(rt);
             }
@@ -242,10 +283,10 @@ impl SharedDesk {
         unreachable!()
     }
 
-    /// Notes that the device refused everything, so that the mount ends.
-    pub(crate) fn note_refused<R: Wait>(&self, rt: &R) {
+    /// Notes that the device refused everything, so that the mount ends that `began` at this generation.
+    pub(crate) fn note_refused<R: Wait>(&self, rt: &R, began: u64) {
         self.state
-            .change(rt, &self.events, |state| state.is_refused = true);
+            .change(rt, &self.events, |state| state.note_refused(began));
     }
 
     /// Notes where replies are written from now on: a kernel's mount is served.

@@ -1,9 +1,11 @@
 //! What the connections ask of the shared desk, and the Takes that wait.
-ghost use Rattle.std.specs.Prelude.{◌≡◌, false, None, position, if◌then◌else◌};
+ghost use Rattle.std.specs.Prelude.{◌≡◌, ◌||◌, false, None, is_none, position, if◌then◌else◌};
 ghost use Rattle.std.specs.Option.{IfSome, option_map_or};
-ghost use Rattle.broker_desk.specs.Desk.{Answers, told_by};
+ghost use Rattle.broker_desk.specs.Desk.{Answers, is_post, told_by};
 ghost use Rattle.frames.specs.declared.frame.Frame.TheVariants.{Take as ATake};
-ghost use Rattle.broker_process.specs.HeldTakes.{has_answer, AnswersExpired, AnswersHeld, Holds, WaitsOn};
+ghost use Rattle.broker_process.specs.Answering.{AnswersInTurn, TellsOrWaits};
+ghost use Rattle.broker_process.specs.HeldTakes.{answer_of, answer_wakes, has_answer, AnswersExpired, AnswersHeld, AnswersOf, Holds, WaitsOn};
+ghost use Rattle.broker_process.specs.Posting.{PostsBehind};
 ghost use Rattle.broker_process.specs.SharedDesk.{wakes};
 
 use super::mounted::Posting;
@@ -56,41 +58,66 @@ impl SharedDeskState {
         accepted: &mut AcceptedConnection,
         handle: &ConnectionHandle,
         frame: &mut Frame,
-    ) -> (Answered, bool) {
-        let earlier = match self.takes.remove(accepted.number) {
-            Some(take) => Some(TakeAnswer {
-                owes_posted: take.owes_posted,
-                response: self.answer_take(&take),
-            }),
-            None => None,
-        };
+    ) -> (Answered, bool)
+        ensures answers { AnswersInTurn self.old accepted.old handle.now frame.old frame.new result.0 result.1 self.new }
+        ensures frame { is_post frame.old ≡ false → frame.new ≡ frame.old }
+    {
+        let (earlier, wakes_before) = answer_of(self.answer_earlier(accepted.number));
         let (response, wakes) = self.answer(accepted, frame);
-        if finds_nothing(&response) && self.hold(accepted, handle, frame) {
-            let waits = Answered {
-                earlier,
-                response: None,
-                delivery: None,
-            };
-            return (waits, wakes);
-        }
-        let (delivery, leaves) = self.deliver_behind(&response);
+        let (response, posting) = self.hold_or_post(accepted, handle, frame, response);
+        let (delivery, leaves) = posting.split();
         let answered = Answered {
             earlier,
-            response: Some(response),
+            response,
             delivery,
         };
-        (answered, wakes || leaves)
+        (answered, is_woken(wakes_before, wakes, leaves))
     }
 
-    /// Takes the reply for the kernel that was posted where `response` says so. Returns also whether it has to wait.
-    fn deliver_behind(&mut self, response: &Response) -> (Option<Delivery>, bool) {
-        if !matches!(response, Response::Tells(Frame::Posted)) {
-            return (None, false);
+    /// Answers the Take of connection `number` that waits, if one does, since the connection asks for more.
+    fn answer_earlier(&mut self, number: u64) -> Option<HeldAnswer>
+        ensures answers { AnswersOf number self.old.desk self.old.takes.takes.items result self.new.desk
+            self.new.takes.takes.items }
+        ensures tick { self.new.takes.tick ≡ self.old.takes.tick }
+        ensures rest { self.new ≡ record self.old { desk = self.new.desk; takes = self.new.takes } }
+    {
+        let take = self.takes.remove(number)?;
+        let response = self.answer_take(&take);
+        Some(self.held_answer(take, response))
+    }
+
+    /// Lets `frame` wait where it is a Take and `response` says that it found nothing. Else returns the response, with the reply for
+    /// the kernel that was posted, if it says that one was.
+    fn hold_or_post(
+        &mut self,
+        accepted: &mut AcceptedConnection,
+        handle: &ConnectionHandle,
+        frame: &Frame,
+        response: Response,
+    ) -> (Option<Response>, Posting)
+        ensures response { TellsOrWaits response result.0 }
+        ensures holds { Holds accepted.old handle.now self.old.takes.tick frame.now (is_none result.0)
+            self.old.takes.takes.items self.new.takes.takes.items }
+        ensures posts { PostsBehind (told_by response) self.old.writer self.old.desk self.old.kernel result.1 self.new.desk
+            self.new.kernel }
+        ensures owes { accepted.new ≡ (if is_none result.0 then record accepted.old { owes_posted = false } else accepted.old) }
+    {
+        if finds_nothing(&response) && self.hold(accepted, handle, frame) {
+            return (None, Posting::Nothing);
         }
-        match self.posting() {
-            Posting::Delivers(delivery) => (Some(delivery), false),
-            Posting::Nothing => (None, false),
-            Posting::Waits => (None, true),
+        let posting = self.post_behind(&response);
+        (Some(response), posting)
+    }
+
+    /// Takes the reply for the kernel that was posted, where `response` says that one was.
+    fn post_behind(&mut self, response: &Response) -> Posting
+        ensures posts { PostsBehind (told_by response.now) self.old.writer self.old.desk self.old.kernel result
+            self.new.desk self.new.kernel }
+        ensures takes { self.new.takes ≡ self.old.takes }
+    {
+        match response {
+            Response::Tells(Frame::Posted) => self.posting(),
+            _ => Posting::Nothing,
         }
     }
 
@@ -102,10 +129,11 @@ impl SharedDeskState {
         handle: &ConnectionHandle,
         frame: &Frame,
     ) -> bool
-        ensures holds { Holds accepted.old.number accepted.old.peer accepted.old.owes_posted frame.now result
-            self.old.takes.takes.items self.new.takes.takes.items }
+        ensures holds { Holds accepted.old handle.now self.old.takes.tick frame.now result self.old.takes.takes.items
+            self.new.takes.takes.items }
+        ensures tick { self.new.takes.tick ≡ self.old.takes.tick }
         ensures owes { accepted.new ≡ (if result then record accepted.old { owes_posted = false } else accepted.old) }
-        ensures desk { self.new.desk ≡ self.old.desk }
+        ensures rest { self.new ≡ record self.old { takes = self.new.takes } }
     {
         let Frame::Take { generation } = frame else {
             return false;
@@ -131,8 +159,7 @@ impl SharedDeskState {
     /// Answers a Take that waited, as one that comes at this moment.
     fn answer_take(&mut self, take: &HeldTake) -> Response
         ensures answers { Answers self.old.desk take.now.peer (ATake take.now.generation) result self.new.desk }
-        ensures takes { self.new.takes ≡ self.old.takes }
-        ensures waiting { self.new.waiting ≡ self.old.waiting }
+        ensures rest { self.new ≡ record self.old { desk = self.new.desk } }
     {
         let mut peer = take.peer;
         let mut frame = Frame::Take {
@@ -184,6 +211,25 @@ impl SharedDeskState {
             },
             wakes,
         }
+    }
+}
+
+/// Returns whether the script is woken, or the thread that ends a mount: by the `earlier` answer, by this frame's `own`, or since it
+/// `leaves` replies.
+fn is_woken(earlier: bool, own: bool, leaves: bool) -> bool
+    ensures woken { result ≡ ((earlier || own) || leaves) }
+{
+    earlier || own || leaves
+}
+
+/// Returns the answer to a Take that waited, and whether it wakes the script; where none waited, none.
+fn answer_of(held: Option<HeldAnswer>) -> (Option<TakeAnswer>, bool)
+    ensures answer { result.0 ≡ answer_of held }
+    ensures wakes { result.1 ≡ answer_wakes held }
+{
+    match held {
+        Some(held) => (Some(held.answer), held.wakes),
+        None => (None, false),
     }
 }
 
