@@ -22,6 +22,8 @@ class WrongBody:
         self.crate = path.parent.parent.name
         self.function = self.part = None
         self.pairs = []
+        # Lines that no key begins: an edit changes texts of one line each.
+        self.unread = []
         self.is_right = False
         file = old = None
         for line in path.read_text().splitlines():
@@ -36,6 +38,8 @@ class WrongBody:
                 old = text
             elif key == "new":
                 self.pairs.append((file, old, text))
+            else:
+                self.unread.append(line)
 
     def is_definition(self):
         """Tells whether it changes what clauses say, and not a body alone."""
@@ -123,6 +127,8 @@ def faults(parts):
             yield f"{body.crate}: {body.name}: has no line 'fn: PATH' with a function of the crate"
         if body.part not in known:
             yield f"{body.crate}: {body.name}: has no line 'part: always' or 'part: N' with N below {parts}"
+        if body.unread:
+            yield f"{body.crate}: {body.name}: no key begins its line '{body.unread[0]}': a text has one line"
     edits += [(WrongBody(path), pathlib.Path(".")) for path in sorted(pathlib.Path("tests/wrong").glob("*.edit"))]
     for body, folder in edits:
         try:
